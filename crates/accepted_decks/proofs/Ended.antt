@@ -14,13 +14,13 @@ use Rattle.agendas.specs.Agendas.{Agenda}
 use Rattle.packet_wires.specs.Idle.{is_idle}
 use Rattle.packet_wires.specs.Play.{Packeted}
 use Rattle.packet_wires.specs.Runs.{IsPlayed}
-use Rattle.world_copies.specs.Closed.{closed_world}
+use Rattle.packet_lengths.specs.world_copies.specs.Closed.{closed_world}
 use Rattle.schedule_loop.specs.Ends.{EndsBy, Plays}
 use Rattle.schedule_loop.specs.declared.ran.Ending.{Ending}
 use Rattle.schedule_loop.specs.declared.ran.Ending.TheVariants.{Idle, Cut, Second}
-use Rattle.packet_runs.specs.Ends.{IsRunOf}
-use Rattle.packet_runs.specs.Runs.{course_on, packet_rules}
-use Rattle.packet_runs.specs.declared.ran.Ran.{Ran}
+use Rattle.packet_lengths.specs.packet_runs.specs.Ends.{IsRunOf}
+use Rattle.packet_lengths.specs.packet_runs.specs.Runs.{course_on, packet_rules}
+use Rattle.packet_lengths.specs.packet_runs.specs.declared.ran.Ran.{Ran}
 use Rattle.accepted_decks.specs.Left.{KeepsPossibleActs}
 
 -- what a world keeps and has shown, by how the run to it ended

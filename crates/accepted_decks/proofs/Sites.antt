@@ -5,14 +5,15 @@ use Rattle.std.proofs.Common.{◌∙◌, subst}
 use Rattle.std.specs.List.{All, slice_index_or}
 use Rattle.std.specs.Option.{option_and_then}
 use Rattle.std.proofs.lemmas.Option.{get_or_from_slice_get, slice_get-get_or, slice_get_within}
-use Rattle.awaited_requests.specs.Seats.{IsLaidOut}
-use Rattle.deck_reader.specs.Limits.{HasShortRequests, IsKindWithinLimits, IsProcessWithinLimits, IsSiteWithinLimits}
+use Rattle.packet_lengths.specs.awaited_requests.specs.Seats.{IsLaidOut}
+use Rattle.packet_lengths.specs.deck_reader.specs.Limits.{HasShortRequests, IsKindWithinLimits, IsProcessWithinLimits}
+use Rattle.packet_lengths.specs.deck_reader.specs.Limits.{IsSiteWithinLimits}
 use Rattle.gd_words.proofs.Among.{among-at}
-use Rattle.accepted_sites.specs.Premises.{IsAcceptedSite}
+use Rattle.packet_lengths.specs.accepted_sites.specs.Premises.{IsAcceptedSite}
 use Rattle.loading_laws.proofs.Loading.{read-is-loadable}
 use Rattle.plain_semantics.specs.Openers.{files_of}
 use Rattle.plain_semantics.specs.SiteLimits.{KeepsSiteLimits}
-use Rattle.process_copies.specs.Starting.{HasDepths, HasSectors, IsStartable}
+use Rattle.packet_lengths.specs.process_copies.specs.Starting.{HasDepths, HasSectors, IsStartable}
 use Rattle.processes.specs.Seen.{IsLoadableKind}
 use Rattle.sync_ids.specs.Tables.{IsDepth}
 use Rattle.tal_interp.specs.Sound.{IsLoadable}

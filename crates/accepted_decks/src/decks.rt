@@ -1,19 +1,19 @@
 //! What a deck whose programs are accepted is.
 ghost use Rattle.std.specs.Prelude.{ℕ, List, Option};
-ghost use Rattle.deck_reader.specs.Decks.{Decks};
-ghost use Rattle.deck_reader.specs.declared.deck.Deck.{Deck};
+ghost use Rattle.packet_lengths.specs.deck_reader.specs.Decks.{Decks};
+ghost use Rattle.packet_lengths.specs.deck_reader.specs.declared.deck.Deck.{Deck};
 ghost use Rattle.verdicts.specs.Judgeable.{AreJudgeable};
 ghost use Rattle.verdicts.specs.Refused.{AreAccepted};
-ghost use Rattle.awaited_requests.specs.Seats.{IsLaidOut};
-ghost use Rattle.accepted_sites.specs.Premises.{IsAcceptedSite};
+ghost use Rattle.packet_lengths.specs.awaited_requests.specs.Seats.{IsLaidOut};
+ghost use Rattle.packet_lengths.specs.accepted_sites.specs.Premises.{IsAcceptedSite};
 ghost use Rattle.player.specs.declared.stop.ProcessorStop.{ProcessorStop};
-ghost use Rattle.process_copies.specs.Starting.{IsStartable};
-ghost use Rattle.packet_runs.specs.Runs.{course_on, packet_rules};
+ghost use Rattle.packet_lengths.specs.process_copies.specs.Starting.{IsStartable};
+ghost use Rattle.packet_lengths.specs.packet_runs.specs.Runs.{course_on, packet_rules};
 ghost use Rattle.plain_semantics.specs.SiteLimits.{KeepsSiteLimits};
 ghost use Rattle.schedule_loop.specs.Ends.{CanBePlayed};
-ghost use Rattle.site_machine.specs.Needs.{IsReady};
+ghost use Rattle.packet_lengths.specs.site_machine.specs.Needs.{IsReady};
 
-use deck_reader::{
+use packet_lengths::deck_reader::{
     a_deck_keeps_the_limits, a_deck_reads_its_programs, requests_of_a_deck_are_short,
 };
 use packet_lengths::{a_schedule_asks_for_few_events, an_accepted_site_can_be_played};

@@ -3,16 +3,18 @@ ghost use Rattle.std.specs.Prelude.{List, Option};
 ghost use Rattle.tal_tree.specs.declared.site.Site.{Site};
 ghost use Rattle.schedule.specs.declared.line.Line.{Line};
 ghost use Rattle.player.specs.declared.stop.ProcessorStop.{ProcessorStop};
-ghost use Rattle.awaited_requests.specs.Seats.{IsLaidOut};
-ghost use Rattle.accepted_sites.specs.Premises.{IsAcceptedSite};
+ghost use Rattle.packet_lengths.specs.awaited_requests.specs.Seats.{IsLaidOut};
+ghost use Rattle.packet_lengths.specs.accepted_sites.specs.Premises.{IsAcceptedSite};
 ghost use Rattle.plain_semantics.specs.SiteLimits.{KeepsSiteLimits};
-ghost use Rattle.packet_runs.specs.Ends.{IsRunOf};
-ghost use Rattle.packet_runs.specs.declared.ran.Ran.{Ran};
+ghost use Rattle.packet_lengths.specs.packet_runs.specs.Ends.{IsRunOf};
+ghost use Rattle.packet_lengths.specs.packet_runs.specs.declared.ran.Ran.{Ran};
 ghost use Rattle.accepted_decks.specs.Left.{KeepsPossibleActs};
 
-use packet_runs::events_of_a_schedule_are_played;
-use packets_played::{an_idle_end_that_is_played_leaves_none, what_is_played_is_possible};
-use world_copies::laws::a_closed_world_has_the_closed_run;
+use packet_lengths::packet_runs::events_of_a_schedule_are_played;
+use packet_lengths::packets_played::{
+    an_idle_end_that_is_played_leaves_none, what_is_played_is_possible,
+};
+use packet_lengths::world_copies::laws::a_closed_world_has_the_closed_run;
 
 /// Whatever its schedule, a run of an accepted site within the limits keeps possible acts, and none is left at an idle
 /// end.

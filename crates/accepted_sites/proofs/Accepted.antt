@@ -5,9 +5,9 @@ use Rattle.tal_tree.specs.declared.site.Kind.TheVariants as kind
 use Rattle.tal_tree.specs.declared.site.ProcessSpec.{ProcessSpec}
 use Rattle.tal_tree.specs.declared.site.Site.{Site}
 use Rattle.whole_states.specs.Processes.{IsRegularKind}
-use Rattle.discipline_laws.specs.Disciplined.{IsDisciplined}
-use Rattle.discipline_laws.proofs.Accepted.{accepted-disciplined}
-use Rattle.discipline_laws.proofs.Discs.{disc-disciplined}
+use Rattle.takeover_laws.specs.discipline_laws.specs.Disciplined.{IsDisciplined}
+use Rattle.takeover_laws.specs.discipline_laws.proofs.Accepted.{accepted-disciplined}
+use Rattle.takeover_laws.specs.discipline_laws.proofs.Discs.{disc-disciplined}
 use Rattle.tal_laws.proofs.Regular.{read_is_regular}
 use Rattle.takeover_laws.specs.Fit.{IsFit}
 use Rattle.accepted_sites.specs.Premises.{IsAcceptedSite}

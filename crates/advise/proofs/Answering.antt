@@ -22,9 +22,9 @@ use Rattle.reason_dues.specs.Amounts.{is_there, most_of, depth_in}
 use Rattle.reason_dues.specs.declared.number_set.Numbers.{Numbers}
 use Rattle.due_search.specs.declared.queue.Visit.{Visit}
 use Rattle.due_search.specs.Ends.{HasFound}
-use Rattle.discipline.specs.Verdict.{IsEarlier}
-use Rattle.discipline.proofs.Impossible.{dues-own}
-use Rattle.discipline.proofs.Tried.{aim_with, found-none, found-some}
+use Rattle.advice.specs.discipline.specs.Verdict.{IsEarlier}
+use Rattle.advice.specs.discipline.proofs.Impossible.{dues-own}
+use Rattle.advice.specs.discipline.proofs.Tried.{aim_with, found-none, found-some}
 use Rattle.advice.specs.declared.answer.Advised.{Advised}
 use Rattle.advice.specs.Advice.{IsLeastDepth}
 use Rattle.advice.specs.Answer.{checkpoints_of, IsLeastList, IsBeyondLists, IsUnmendable}

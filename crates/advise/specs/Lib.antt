@@ -1,3 +1,4 @@
 pub mod Advising
 pub mod Gathered
 pub mod Lists
+pub use Rattle.advice

@@ -11,4 +11,5 @@ mod deepest;
 mod due_sets;
 mod lists;
 
+pub use advice;
 pub use advising::advise;

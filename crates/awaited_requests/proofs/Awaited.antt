@@ -8,9 +8,9 @@ use Rattle.plain_semantics.specs.Openers.{opener_of}
 use Rattle.world_semantics.specs.World.{Pair, World, copy_of}
 use Rattle.world_semantics.specs.declared.role.Role.TheVariants.{Gone}
 use Rattle.world_semantics.specs.declared.which.Which.{Which}
-use Rattle.plain_histories.specs.Slots.{IsSlot, is_empty, is_waiting, is_taken, is_answered}
-use Rattle.plain_histories.proofs.Openers.{opener-is}
-use Rattle.plain_histories.proofs.Possible.{booked-ran}
+use Rattle.takeover_laws.specs.plain_histories.specs.Slots.{IsSlot, is_empty, is_waiting, is_taken, is_answered}
+use Rattle.takeover_laws.specs.plain_histories.proofs.Openers.{opener-is}
+use Rattle.takeover_laws.specs.plain_histories.proofs.Possible.{booked-ran}
 use Rattle.takeover_laws.specs.Fit.{IsFit}
 use Rattle.takeover_laws.specs.Invariant.{Invariant}
 use Rattle.awaited_requests.specs.Awaited.{IsAwaited, StandsThere}

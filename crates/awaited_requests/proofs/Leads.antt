@@ -12,8 +12,8 @@ use Rattle.world_semantics.specs.declared.which.Which.{Which}
 use Rattle.world_semantics.specs.declared.which.Which.TheVariants.{First, Second}
 use Rattle.process_histories.specs.Histories.{HasDone}
 use Rattle.process_histories.specs.Words.{take_from, answer_to, taken_from, answered_to}
-use Rattle.plain_histories.specs.Booking.{AreHeld, none_held, take_held, step_held}
-use Rattle.plain_histories.specs.Ledgers.{Ledger}
+use Rattle.takeover_laws.specs.plain_histories.specs.Booking.{AreHeld, none_held, take_held, step_held}
+use Rattle.takeover_laws.specs.plain_histories.specs.Ledgers.{Ledger}
 use Rattle.takeover_laws.specs.Invariant.{AreRepeatable, Stage, IsLead, is_level, is_applied, is_behind, Watches}
 use Rattle.takeover_laws.specs.Invariant.{IsOther, is_lost, is_due, is_even, has_applied, FirstLeads, with_other, alone}
 use Rattle.takeover_laws.specs.Invariant.{IsLed, by_first, by_second}

@@ -20,11 +20,11 @@ use Rattle.process_histories.specs.Words.{ask_on, get_on, requests_on, replies_o
 use Rattle.process_histories.proofs.Counts.{asked-count, none-awaited, one-awaited}
 use Rattle.process_histories.proofs.Deeds.{done-last, stands-there}
 use Rattle.process_histories.proofs.Steady.{calm-away, marked-calm, done-steady}
-use Rattle.discipline_laws.specs.Disciplined.{AreUncheckpointed}
-use Rattle.plain_histories.specs.Agreeing.{StandsFor}
-use Rattle.plain_histories.specs.Booking.{AreBooked, AreHeld, none_held, take_held, step_held}
-use Rattle.plain_histories.specs.Ledgers.{requests_of, Ledger}
-use Rattle.plain_histories.proofs.Possible.{booked-ran}
+use Rattle.takeover_laws.specs.discipline_laws.specs.Disciplined.{AreUncheckpointed}
+use Rattle.takeover_laws.specs.plain_histories.specs.Agreeing.{StandsFor}
+use Rattle.takeover_laws.specs.plain_histories.specs.Booking.{AreBooked, AreHeld, none_held, take_held, step_held}
+use Rattle.takeover_laws.specs.plain_histories.specs.Ledgers.{requests_of, Ledger}
+use Rattle.takeover_laws.specs.plain_histories.proofs.Possible.{booked-ran}
 use Rattle.takeover_laws.specs.Fit.{IsFit}
 use Rattle.takeover_laws.specs.Invariant.{Invariant, Stage, IsLead, is_level, is_applied, is_behind}
 use Rattle.takeover_laws.proofs.Backed.{next-is}

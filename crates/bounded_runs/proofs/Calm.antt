@@ -30,7 +30,7 @@ use Rattle.packet_wires.specs.Wires.{on_bus, packets_over}
 use Rattle.packet_wires.specs.Play.{IsClear, Packeted, begun as event_begun, fail_acted, out_of, packeted_at_boot}
 use Rattle.packet_wires.specs.Play.{sent_by}
 use Rattle.round_laws.specs.Stretches.{is_drain}
-use Rattle.packet_rounds.specs.Played.{IsClearPlay}
+use Rattle.calm_runs.specs.packet_rounds.specs.Played.{IsClearPlay}
 use Rattle.calm_runs.proofs.Calm.{calm-asks, goes-on-running, never-second}
 use Rattle.schedule_loop.specs.Ends.{Plays, RunsToStopBy, planned_in}
 use Rattle.schedule_loop.specs.Plans.{Sight, next_seen, planned_seen, seen_none, seen_on, upcoming_seen}

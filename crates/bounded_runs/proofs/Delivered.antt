@@ -17,8 +17,8 @@ use Rattle.round_laws.specs.Rounds.{AreRounds, InRound, IsWholeRound, begins, go
 use Rattle.round_laws.specs.Stretches.{GoesOn, at_once, plays}
 use Rattle.round_laws.proofs.Delivering.{all-delivered}
 use Rattle.round_laws.proofs.Stretching.{stretch-rounds}
-use Rattle.packet_rounds.specs.Played.{IsPlay, buses_of}
-use Rattle.packet_rounds.proofs.Buses.{has-buses}
+use Rattle.calm_runs.specs.packet_rounds.specs.Played.{IsPlay, buses_of}
+use Rattle.calm_runs.specs.packet_rounds.proofs.Buses.{has-buses}
 use Rattle.schedule_loop.specs.Rules.{IsPlayBy, sight_of}
 use Rattle.packet_runs.specs.Runs.{packet_rules, sizes_of}
 use Rattle.bounded_runs.specs.Moments.{AreDrainRounds, Moment, counts_in, delivered_by, state_after}

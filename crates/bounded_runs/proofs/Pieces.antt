@@ -12,8 +12,8 @@ use Rattle.channel_laws.specs.Way.{IsEnded, IsOutstanding}
 use Rattle.packet_wires.specs.Nodes.{end_at}
 use Rattle.packet_wires.specs.Play.{IsClear, Packeted, packeted_at_boot}
 use Rattle.round_laws.specs.Stretches.{BeginsRound, GoesOn, at_once, plays}
-use Rattle.packet_rounds.specs.Played.{IsClearPlay, IsPlay}
-use Rattle.packet_rounds.proofs.Rounds.{lines-end}
+use Rattle.calm_runs.specs.packet_rounds.specs.Played.{IsClearPlay, IsPlay}
+use Rattle.calm_runs.specs.packet_rounds.proofs.Rounds.{lines-end}
 use Rattle.schedule_loop.specs.Ends.{Plays, planned_in}
 use Rattle.schedule_loop.specs.Rules.{IsPlayBy, sight_of}
 use Rattle.packet_runs.proofs.Played.{played}

@@ -8,7 +8,7 @@ use Rattle.packet_wires.specs.Play.{Packeted, count_on, play}
 use Rattle.packet_wires.specs.Wires.{Wires}
 use Rattle.packet_words.specs.declared.bus_name.BusName.TheVariants as bus
 use Rattle.round_laws.specs.Stretches.{CountsBuses}
-use Rattle.packet_rounds.specs.Played.{buses_of}
+use Rattle.calm_runs.specs.packet_rounds.specs.Played.{buses_of}
 use Rattle.calm_runs.specs.Sights.{CountsOfShown}
 use Rattle.schedule_loop.specs.Rules.{IsPlayBy}
 use Rattle.packet_runs.specs.Runs.{concerned, is_alive, packet_rules, sender_of}

@@ -1,2 +1,3 @@
 pub mod Moments
 pub mod Places
+pub use Rattle.packet_runs

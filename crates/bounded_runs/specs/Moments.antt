@@ -16,7 +16,7 @@ use Rattle.packet_wires.specs.Play.{IsClear, Packeted, count_on, play}
 use Rattle.packet_wires.specs.Wires.{Wires}
 use Rattle.round_laws.specs.Buses.{delivered_of}
 use Rattle.round_laws.specs.Stretches.{BeginsRound, EndsRound, is_drain}
-use Rattle.packet_rounds.specs.Played.{buses_of}
+use Rattle.calm_runs.specs.packet_rounds.specs.Played.{buses_of}
 use Rattle.schedule_loop.specs.Ends.{Plays, planned_in}
 use Rattle.packet_runs.specs.Runs.{course_on, packet_rules, sizes_of}
 use Rattle.bounded_runs.specs.Places.{is_in_drain_round}

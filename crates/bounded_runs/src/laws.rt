@@ -13,7 +13,7 @@ ghost use Rattle.world_semantics.specs.World.{is_running};
 ghost use Rattle.packet_wires.specs.Nodes.{end_at};
 ghost use Rattle.packet_wires.specs.Play.{Packeted};
 ghost use Rattle.round_laws.specs.Buses.{IsGrown};
-ghost use Rattle.packet_rounds.specs.Played.{buses_of};
+ghost use Rattle.calm_runs.specs.packet_rounds.specs.Played.{buses_of};
 ghost use Rattle.schedule_loop.specs.Rules.{IsPlayBy};
 ghost use Rattle.schedule_loop.specs.declared.ran.Ending.TheVariants.{Second};
 ghost use Rattle.packet_runs.specs.Ends.{IsRunOf};

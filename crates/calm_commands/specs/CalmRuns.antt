@@ -4,8 +4,8 @@ use Rattle.std.specs.Option.{is_some}
 use Rattle.deck_reader.specs.declared.deck.Deck.{Deck}
 use Rattle.player.specs.declared.stop.ProcessorStop.{ProcessorStop}
 use Rattle.calm_schedules.specs.Calm.{IsCalm}
-use Rattle.packet_runs.specs.Ends.{IsRunOf}
-use Rattle.packet_runs.specs.declared.ran.Ran.{Ran}
+use Rattle.bounded_runs.specs.packet_runs.specs.Ends.{IsRunOf}
+use Rattle.bounded_runs.specs.packet_runs.specs.declared.ran.Ran.{Ran}
 use Rattle.bounded_runs.specs.Moments.{AreClear}
 use Rattle.command_dues.specs.declared.outcome.Status.{Status}
 use Rattle.command_dues.specs.declared.outcome.Status.TheVariants as status

@@ -8,7 +8,7 @@ use Rattle.world_semantics.specs.World.{is_running}
 use Rattle.world_semantics.specs.Running.{Done, run_done}
 use Rattle.computed_changes.specs.Entered.{enter_done}
 use Rattle.computed_changes.specs.Stopped.{stop_where, stopped_world}
-use Rattle.message_wires_laws.proofs.Stopping.{StopsNone, run-none, enter-none}
+use Rattle.single_stops.specs.message_wires_laws.proofs.Stopping.{StopsNone, run-none, enter-none}
 use Rattle.message_wires.specs.Play.{has_stopped}
 use Rattle.machine_states.specs.States.{Played, Makes, Skips, WouldStop}
 use Rattle.packet_wires.specs.Wires.{Midst, bus_named}

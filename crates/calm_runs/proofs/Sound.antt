@@ -31,8 +31,8 @@ use Rattle.packet_wires.specs.Play.{over}
 use Rattle.packet_wires.specs.Play.{packeted_at_boot, play, received, taken_off, tick_acted}
 use Rattle.packet_wires.proofs.Rooms.{all-there}
 use Rattle.packet_nets.proofs.Ticking.{begins-net}
-use Rattle.packets_laws.specs.Passing.{IsNetOf, as_on_buses}
-use Rattle.packets_laws.proofs.Passing.{event-passes}
+use Rattle.packet_rounds.specs.packets_laws.specs.Passing.{IsNetOf, as_on_buses}
+use Rattle.packet_rounds.specs.packets_laws.proofs.Passing.{event-passes}
 use Rattle.round_laws.specs.Buses.{HasBuses}
 use Rattle.player.specs.declared.standing.Place.TheVariants as place
 use Rattle.alive_rounds.specs.Watched.{IsThere, WasHeard, KeepsWatch, TicksWatch, PullsLine, IsWatched}

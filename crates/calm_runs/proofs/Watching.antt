@@ -17,7 +17,7 @@ use Rattle.computed_changes.specs.Handed.{handed_done}
 use Rattle.computed_changes.specs.Stopped.{may_note, marked_where, mark_where, world_at_down}
 use Rattle.letters.specs.Routes.{letters_of}
 use Rattle.letters.specs.Again.{sent_again}
-use Rattle.message_wires_laws.proofs.Stopping.{StopsNone, handed-none}
+use Rattle.single_stops.specs.message_wires_laws.proofs.Stopping.{StopsNone, handed-none}
 use Rattle.message_layout.specs.Messages.{NodeMessage, Carrying, Reporting, Declaring}
 use Rattle.message_layout.specs.Reading.{understood}
 use Rattle.packet_wires.specs.Nodes.{Node, end_at}

@@ -1,4 +1,4 @@
-use gd_words::{List, Words};
+use whole_states::gd_words::{List, Words};
 
 /// How the number of a request stands to what its process has taken from that opener.
 #[derive(Drop)]

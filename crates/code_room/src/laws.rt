@@ -8,7 +8,7 @@ ghost use Rattle.tal_tree.specs.declared.program.Program.{Program};
 ghost use Rattle.tal_values.specs.Spots.{spot_of};
 ghost use Rattle.tal_code.specs.Parts.{Valued, Tested, PartStack, nothing, built, with_part};
 ghost use Rattle.tal_code.specs.Room.{LowFrom, RoomFrom, IsLow};
-ghost use Rattle.tal_reader.specs.Reads.{Reads};
+ghost use Rattle.tal_laws.specs.tal_reader.specs.Reads.{Reads};
 ghost use Rattle.tal_code.specs.Waiting.{waiting_of, waiting_for, waiting_of_test, WaitsBelow};
 ghost use Rattle.code_room.specs.Steps.{steps_of, steps_of_test};
 

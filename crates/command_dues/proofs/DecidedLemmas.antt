@@ -14,8 +14,8 @@ use Rattle.tal_tree.specs.declared.fault.DeckFault.{DeckFault}
 use Rattle.tal_tree.specs.declared.fault.DeckFault.TheVariants as fault
 use Rattle.tal_tree.specs.declared.fault.TalFault.{TalFault}
 use Rattle.tal_tree.specs.declared.fault.TalFault.TheVariants as tal
-use Rattle.trace_print.specs.FaultLine.{IsOfDeck}
-use Rattle.trace_print.specs.TalNumbers.{IsOfText}
+use Rattle.report_judge.specs.trace_print.specs.FaultLine.{IsOfDeck}
+use Rattle.report_judge.specs.trace_print.specs.TalNumbers.{IsOfText}
 use Rattle.command_dues.specs.Decided.{IsTold, IsDueOfTask, IsDueOfBytes, IsDueOfDeck, IsDueOfPrograms, IsDueOfSource}
 use Rattle.command_dues.specs.Decided.{due_of_fault}
 use Rattle.command_dues.specs.RunEnds.{status_of_run}

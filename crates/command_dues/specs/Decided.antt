@@ -13,11 +13,11 @@ use Rattle.deck_reader.specs.declared.deck.Deck.{Deck}
 use Rattle.load_deck.specs.LoadText.{load_text}
 use Rattle.player.specs.declared.stop.ProcessorStop.{ProcessorStop}
 use Rattle.plain_semantics.specs.Machine.{IsPossible, IsNoneLeft, shown_by}
-use Rattle.packet_runs.specs.Ends.{IsRunOf}
+use Rattle.schedule_sweeps.specs.packet_runs.specs.Ends.{IsRunOf}
 use Rattle.schedule_loop.specs.declared.ran.Ending.TheVariants.{Idle}
 use Rattle.schedule_sweeps.specs.Sweeps.{IsSweepOf}
 use Rattle.shown_sectors.specs.Sectors.{sectors_after}
-use Rattle.site_advice.specs.SiteAdvised.{AreAdvised, IsFirstUnadvised}
+use Rattle.report_judge.specs.site_advice.specs.SiteAdvised.{AreAdvised, IsFirstUnadvised}
 use Rattle.verdicts.specs.Refused.{AreAccepted, IsFirstRefused}
 use Rattle.command_dues.specs.RunEnds.{acts_of_run, shown_in}
 use Rattle.command_dues.specs.Stopped.{stopped_from}

@@ -6,3 +6,6 @@ pub mod Stopped
 pub mod Tasks
 pub mod Verified
 pub mod Written
+pub use Rattle.schedule_sweeps.specs.packet_runs
+pub use Rattle.schedule_sweeps
+pub use Rattle.schedule_sweeps.specs.site_machine

@@ -1,11 +1,11 @@
 -- What is told of a run.
 use Rattle.std.specs.Prelude.{ℕ, List, reverse}
-use Rattle.node_copies.specs.ShownCounts.{replies_in, writes_in}
+use Rattle.schedule_sweeps.specs.node_copies.specs.ShownCounts.{replies_in, writes_in}
 use Rattle.tal_tree.specs.declared.act.Act.{Act}
 use Rattle.tal_tree.specs.declared.act.Shown.{Shown}
-use Rattle.trace_print.specs.declared.closing.End.{End}
-use Rattle.trace_print.specs.declared.closing.End.TheVariants as end
-use Rattle.trace_print.specs.declared.load.LoadCounts.{LoadCounts}
+use Rattle.report_judge.specs.trace_print.specs.declared.closing.End.{End}
+use Rattle.report_judge.specs.trace_print.specs.declared.closing.End.TheVariants as end
+use Rattle.report_judge.specs.trace_print.specs.declared.load.LoadCounts.{LoadCounts}
 use Rattle.world_semantics.specs.Kept.{acts_of}
 use Rattle.schedule_loop.specs.declared.ran.Ending.{Ending}
 use Rattle.schedule_loop.specs.declared.ran.Ending.TheVariants.{Idle, Cut, Second}

@@ -5,7 +5,7 @@ use Rattle.deck_reader.specs.Refusals.{IsRefusalOf}
 use Rattle.deck_reader.specs.declared.deck.Deck.{Deck}
 use Rattle.report_judge.specs.Verdicts.{IsVerdict}
 use Rattle.report_judge.specs.declared.judge.VerifyRefusal.TheVariants as refusal
-use Rattle.report_reader.specs.DeckEnds.{deck_end}
+use Rattle.report_judge.specs.report_reader.specs.DeckEnds.{deck_end}
 use Rattle.tal_tree.specs.declared.fault.DeckFault.{DeckFault}
 use Rattle.tal_tree.specs.declared.fault.DeckFault.TheVariants.{TooLong}
 use Rattle.tal_tree.specs.declared.site.Site.{Site}

@@ -4,13 +4,13 @@ use Rattle.gd_io.specs.Puts.{Puts}
 use Rattle.gd_io.specs.declared.writing.WriteFault.{WriteFault}
 use Rattle.plain_semantics.specs.SiteLimits.{KeepsSiteLimits}
 use Rattle.tal_tree.specs.declared.act.Act.{Act}
-use Rattle.trace_print.specs.AdviceText.{advised_text}
-use Rattle.trace_print.specs.EndLine.{usage_line}
-use Rattle.trace_print.specs.FaultLine.{fault_line, IsOfDeck}
-use Rattle.trace_print.specs.ReportText.{load_report_text, report_text}
-use Rattle.trace_print.specs.RowLine.{sweep_text}
-use Rattle.trace_print.specs.VerdictLine.{rejected_line, verified_line}
-use Rattle.trace_print.specs.VerdictText.{accepted_text, refusal_text}
+use Rattle.report_judge.specs.trace_print.specs.AdviceText.{advised_text}
+use Rattle.report_judge.specs.trace_print.specs.EndLine.{usage_line}
+use Rattle.report_judge.specs.trace_print.specs.FaultLine.{fault_line, IsOfDeck}
+use Rattle.report_judge.specs.trace_print.specs.ReportText.{load_report_text, report_text}
+use Rattle.report_judge.specs.trace_print.specs.RowLine.{sweep_text}
+use Rattle.report_judge.specs.trace_print.specs.VerdictLine.{rejected_line, verified_line}
+use Rattle.report_judge.specs.trace_print.specs.VerdictText.{accepted_text, refusal_text}
 use Rattle.report_judge.specs.declared.judge.Why.{Why}
 use Rattle.report_judge.specs.declared.judge.Why.TheVariants as why
 use Rattle.command_dues.specs.RunEnds.{acts_of_run, end_of, load_counts, shown_in, status_of_run}

@@ -3,9 +3,9 @@ use crate::task::Telling;
 use gd_words::{List, NoMemory};
 use logs::Shared;
 use report_judge::Why;
+use report_judge::site_advice::PairAdvice;
 use run_table::Table;
 use shown_sectors::SectorWords;
-use site_advice::PairAdvice;
 use tal_tree::{DeckFault, Site};
 use verdicts::RefusedProgram;
 

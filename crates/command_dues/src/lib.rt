@@ -11,4 +11,8 @@ pub mod task;
 
 pub use due::{AdvisedSite, Due, RefusedSite, Report};
 pub use outcome::{Outcome, RunEnd, Status};
+pub use report_judge;
+pub use report_judge::report_reader;
+pub use schedule_sweeps;
+pub use schedule_sweeps::{packet_runs, site_machine};
 pub use task::{Task, Telling};

@@ -3,12 +3,12 @@ ghost use Rattle.command_dues.specs.RunEnds.{acts_of_run, load_counts, shown_in,
 ghost use Rattle.std.specs.Prelude.{◌≡◌};
 
 use gd_words::NoMemory;
-use packet_runs::Ran;
 use path_semantics::RefusalFault;
 use report_judge::Why;
+use report_judge::trace_print::LoadCounts;
 use schedule_loop::Ending;
+use schedule_sweeps::packet_runs::Ran;
 use tal_tree::{Act, DeckFault, Shown};
-use trace_print::LoadCounts;
 
 /// How a call ended, and the run, where one was made.
 #[derive(Drop)]

@@ -21,7 +21,7 @@ use Rattle.discipline.specs.Verdict.{IsVerdict}
 use Rattle.discipline.proofs.Verdicts.{accepted-ok, verdicts-agree}
 use Rattle.load_deck.specs.LoadText.{load_text}
 use Rattle.player.specs.declared.stop.ProcessorStop.{ProcessorStop}
-use Rattle.packet_runs.specs.declared.ran.Ran.{Ran}
+use Rattle.single_runs.specs.packet_runs.specs.declared.ran.Ran.{Ran}
 use Rattle.shown_sectors.specs.Sectors.{sectors_after}
 use Rattle.shown_sectors.specs.declared.sectors.SectorWords.{SectorWords}
 use Rattle.single_runs.proofs.Runs.{one-run}

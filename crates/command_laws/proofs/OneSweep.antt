@@ -6,10 +6,11 @@ use Rattle.run_table.specs.declared.rows.Row.{Row}
 use Rattle.run_table.specs.declared.rows.RunKind.{RunKind}
 use Rattle.run_table.specs.declared.table.ProcessorRow.{ProcessorRow}
 use Rattle.schedule.specs.declared.line.Line.{Line}
-use Rattle.packet_runs.specs.declared.ran.Ran.{Ran}
+use Rattle.single_runs.specs.packet_runs.specs.declared.ran.Ran.{Ran}
 use Rattle.single_runs.proofs.Runs.{one-run}
 use Rattle.tal_tree.specs.declared.site.Site.{Site}
-use Rattle.schedule_sweeps.specs.Sweeps.{AreKindsOf, AreRowsFrom, IsKindOf, IsRowOf, IsSweepOf, kind_of}
+use Rattle.command_dues.specs.schedule_sweeps.specs.Sweeps.{AreKindsOf, AreRowsFrom, IsKindOf, IsRowOf, IsSweepOf}
+use Rattle.command_dues.specs.schedule_sweeps.specs.Sweeps.{kind_of}
 
 one-kind : (site : Site) (lines : List Line) (stop : ProcessorStop) (kind other : RunKind)
     → IsKindOf site lines stop kind → IsKindOf site lines stop other → kind ≡ other

@@ -3,9 +3,9 @@ use Rattle.std.proofs.Common.{◌≡◌, ℕ, ◌==◌, ℤ, Bool, true, false, 
 use Rattle.std.proofs.lemmas.Bool.{eqb-true, eq-eqb}
 use Rattle.tal_tree.specs.declared.site.Site.{Site}
 use Rattle.tal_tree.specs.declared.site.Who.TheVariants as who
-use Rattle.plain_semantics.specs.declared.slot.Opener.{Opener}
-use Rattle.plain_semantics.specs.Openers.{opener_of}
-use Rattle.plain_semantics.specs.Machine.{next_request}
+use Rattle.world_semantics.specs.plain_semantics.specs.declared.slot.Opener.{Opener}
+use Rattle.world_semantics.specs.plain_semantics.specs.Openers.{opener_of}
+use Rattle.world_semantics.specs.plain_semantics.specs.Machine.{next_request}
 use Rattle.world_semantics.specs.World.{Terminal, World}
 use Rattle.world_semantics.specs.Messages.{Sending, Cause, Entering}
 use Rattle.world_semantics.specs.Rules.{Change, by_own, by_checkpoint, by_request, by_early_request, by_enter, by_print}

@@ -10,8 +10,8 @@ use Rattle.tal_tree.specs.declared.site.Site.{Site}
 use Rattle.tal_tree.specs.declared.site.ProcessSpec.{ProcessSpec}
 use Rattle.tal_tree.specs.declared.site.OpenerSpec.{OpenerSpec}
 use Rattle.schedule.specs.declared.event.Event.{Event}
-use Rattle.process_semantics.specs.Image.{restored}
-use Rattle.plain_semantics.specs.Openers.{files_of}
+use Rattle.checkpoint_image.specs.process_semantics.specs.Image.{restored}
+use Rattle.world_semantics.specs.plain_semantics.specs.Openers.{files_of}
 use Rattle.checkpoint_image.specs.declared.message.FileNumber.{FileNumber}
 use Rattle.checkpoint_image.specs.declared.message.Image.{Image}
 use Rattle.checkpoint_image.specs.declared.message.ImageMessage.{ImageMessage}

@@ -7,8 +7,9 @@ use Rattle.tal_tree.specs.declared.site.Site.{Site}
 use Rattle.tal_tree.specs.declared.site.OpenerSpec.{OpenerSpec}
 use Rattle.tal_tree.specs.declared.site.Who.{Who}
 use Rattle.tal_tree.specs.declared.site.Who.TheVariants as who
-use Rattle.plain_semantics.specs.declared.slot.Opener.{Opener}
-use Rattle.plain_semantics.specs.Openers.{openers_of, opener_of, opener_on, opener_at, place_from, same_who, server_by}
+use Rattle.world_semantics.specs.plain_semantics.specs.declared.slot.Opener.{Opener}
+use Rattle.world_semantics.specs.plain_semantics.specs.Openers.{openers_of, opener_of, opener_on, opener_at, place_from}
+use Rattle.world_semantics.specs.plain_semantics.specs.Openers.{same_who, server_by}
 use Rattle.world_semantics.proofs.Lists.{some-same}
 use Rattle.world_semantics.proofs.Roles.{both-true}
 use Rattle.world_semantics.proofs.Moves.{opener-is}

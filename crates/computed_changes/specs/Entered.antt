@@ -5,9 +5,9 @@ use Rattle.std.specs.Option.{option_map}
 use Rattle.tal_tree.specs.declared.act.Act.TheVariants as act
 use Rattle.tal_tree.specs.declared.site.Site.{Site}
 use Rattle.tal_tree.specs.declared.site.Who.TheVariants as who
-use Rattle.plain_semantics.specs.declared.slot.Opener.{Opener}
-use Rattle.plain_semantics.specs.Openers.{opener_of}
-use Rattle.plain_semantics.specs.Machine.{next_request}
+use Rattle.world_semantics.specs.plain_semantics.specs.declared.slot.Opener.{Opener}
+use Rattle.world_semantics.specs.plain_semantics.specs.Openers.{opener_of}
+use Rattle.world_semantics.specs.plain_semantics.specs.Machine.{next_request}
 use Rattle.world_semantics.specs.World.{Terminal, World, terminal_node}
 use Rattle.world_semantics.specs.Messages.{Asking, sent_at}
 use Rattle.world_semantics.specs.Rules.{entered_request}

@@ -6,3 +6,5 @@ pub mod Laws
 pub mod Replies
 pub mod Requests
 pub mod Stopped
+pub use Rattle.checkpoint_image.specs.process_semantics
+pub use Rattle.world_semantics

@@ -4,7 +4,7 @@ ghost use Rattle.tal_tree.specs.declared.site.Site.{Site};
 ghost use Rattle.tal_tree.specs.declared.site.ProcessSpec.{ProcessSpec};
 ghost use Rattle.schedule.specs.declared.event.Event.{Event};
 ghost use Rattle.schedule.specs.declared.event.Event.TheVariants.{Enter, Deliver, Fail};
-ghost use Rattle.plain_semantics.specs.Openers.{files_of};
+ghost use Rattle.world_semantics.specs.plain_semantics.specs.Openers.{files_of};
 ghost use Rattle.checkpoint_image.specs.declared.message.FileNumber.{FileNumber};
 ghost use Rattle.checkpoint_image.specs.declared.message.ImageMessage.{ImageMessage};
 ghost use Rattle.world_semantics.specs.declared.which.Which.{Which};

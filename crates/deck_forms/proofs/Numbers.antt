@@ -53,7 +53,7 @@ use Rattle.tal_pieces.proofs.Words.LiteralWords.{AreFitting, MeaningFits, ScopeF
 use Rattle.tal_pieces.proofs.Words.SpelledDeclarations.{words_heading, words_lines, words_locals}
 use Rattle.tal_pieces.proofs.Words.SpelledSyntax.{AllSpelled, words_expr, words_target}
 use Rattle.tal_pieces.proofs.Words.WordTrees.{NamesSpell, SpellsValue}
-use Rattle.told_reports.specs.InForm.{AreEach}
+use Rattle.shown_forms.specs.told_reports.specs.InForm.{AreEach}
 use Rattle.shown_forms.specs.Numbers.{HasWordNumbers, HasWords, IsAnswerWord, IsWordThere}
 use Rattle.shown_forms.proofs.Lists.{fits-word}
 

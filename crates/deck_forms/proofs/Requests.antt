@@ -40,7 +40,7 @@ use Rattle.deck_reader.specs.declared.step.LineOutcome.TheVariants as step
 use Rattle.deck_reader.specs.declared.told.Told.{Told}
 use Rattle.deck_reader.specs.declared.told.Told.TheVariants as told
 use Rattle.shown_forms.proofs.Lists.{IfWord}
-use Rattle.told_reports.specs.Words.{AreWords}
+use Rattle.shown_forms.specs.told_reports.specs.Words.{AreWords}
 
 -- words of 16 bits
 abbrev pub IsWordy : List ℤ → Type 0

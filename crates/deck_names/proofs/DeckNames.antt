@@ -7,7 +7,7 @@ use Rattle.std.proofs.lemmas.Bool.{true≢false, or_from, or_parts}
 use Rattle.gd_words.specs.Spelling.{is_name}
 use Rattle.name_table.specs.Entries.{Named}
 use Rattle.plain_semantics.specs.Openers.{files_of}
-use Rattle.report_reader.specs.Parts.{cut_at}
+use Rattle.told_reports.specs.report_reader.specs.Parts.{cut_at}
 use Rattle.tal_tree.specs.declared.site.Kind.{Kind}
 use Rattle.tal_tree.specs.declared.site.Kind.TheVariants as kind
 use Rattle.tal_tree.specs.declared.site.ProcessSpec.{ProcessSpec}

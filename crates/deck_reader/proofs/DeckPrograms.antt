@@ -1,7 +1,7 @@
 -- The programs of a deck's pairs are what their texts read as.
 use Rattle.std.proofs.Common.{◌≡◌, ℕ, zero, suc, List, [], ◌∷◌, slice_get, Some, ap, ◌∙◌, subst}
 use Rattle.name_table.specs.Entries.{Named}
-use Rattle.tal_reader.specs.Reads.{Reads}
+use Rattle.tal_laws.specs.tal_reader.specs.Reads.{Reads}
 use Rattle.tal_tree.specs.declared.program.Program.{Program}
 use Rattle.tal_tree.specs.declared.site.Kind.{Kind}
 use Rattle.tal_tree.specs.declared.site.Kind.TheVariants as kind

@@ -4,7 +4,7 @@ use Rattle.std.proofs.Common.{ap₂, ◌∙◌, subst, arith, inl, inr, ℤ}
 use Rattle.std.specs.Prelude.{◌⊎◌}
 use Rattle.name_table.specs.Entries.{Named}
 use Rattle.schedule.specs.declared.line.Line.{Line}
-use Rattle.tal_reader.proofs.Reading.{one-fault}
+use Rattle.tal_laws.specs.tal_reader.proofs.Reading.{one-fault}
 use Rattle.tal_tree.specs.declared.fault.DeckFault.{DeckFault}
 use Rattle.tal_tree.specs.declared.fault.DeckFault.TheVariants as fault
 use Rattle.tal_tree.specs.declared.site.Kind.TheVariants as kind

@@ -5,7 +5,7 @@ use Rattle.std.specs.Prelude.{◌≢◌, Result, Ok, Err, IfErr}
 use Rattle.gd_words.specs.Memory.{no_memory}
 use Rattle.name_table.specs.Entries.{Named}
 use Rattle.tal_laws.proofs.WithinLimits.{read_is_within}
-use Rattle.tal_reader.proofs.Reading.{one-program, refused-as-none}
+use Rattle.tal_laws.specs.tal_reader.proofs.Reading.{one-program, refused-as-none}
 use Rattle.tal_tree.specs.declared.fault.DeckFault.{DeckFault}
 use Rattle.tal_tree.specs.declared.fault.DeckFault.TheVariants as fault
 use Rattle.tal_tree.specs.declared.fault.TalFault.TheVariants as tal

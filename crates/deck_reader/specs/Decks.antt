@@ -1,7 +1,7 @@
 -- The deck that bytes spell.
 use Rattle.std.specs.Prelude.{◌≡◌, ◌≤◌, ℕ, List, [], ◌∷◌, length, Some, None}
 use Rattle.name_table.specs.Entries.{Named, place_of}
-use Rattle.tal_reader.specs.Reads.{Reads}
+use Rattle.tal_laws.specs.tal_reader.specs.Reads.{Reads}
 use Rattle.tal_tree.specs.declared.site.Kind.{Kind}
 use Rattle.tal_tree.specs.declared.site.Kind.TheVariants as kind
 use Rattle.tal_tree.specs.declared.site.ProcessSpec.{ProcessSpec}

@@ -6,7 +6,7 @@ use Rattle.std.specs.Prelude.{◌≡◌, ◌≢◌, ◌⊎◌, ◌<◌, ◌≤�
 use Rattle.std.specs.Prelude.{if◌then◌else◌}
 use Rattle.gd_words.specs.Memory.{no_memory}
 use Rattle.name_table.specs.Entries.{Named}
-use Rattle.tal_reader.specs.Reads.{Reads, IsRefused}
+use Rattle.tal_laws.specs.tal_reader.specs.Reads.{Reads, IsRefused}
 use Rattle.tal_tree.specs.declared.fault.DeckFault.{DeckFault}
 use Rattle.tal_tree.specs.declared.fault.DeckFault.TheVariants as fault
 use Rattle.tal_tree.specs.declared.fault.TalFault.TheVariants as tal

@@ -4,7 +4,7 @@ ghost use Rattle.deck_reader.specs.Decks.{Decks};
 ghost use Rattle.deck_reader.specs.Limits.{HasShortRequests, IsWithinDeckLimits};
 ghost use Rattle.deck_reader.specs.Refusals.{IsRefusalOf};
 ghost use Rattle.deck_reader.specs.declared.deck.Deck.{Deck};
-ghost use Rattle.tal_reader.specs.Reads.{Reads};
+ghost use Rattle.tal_laws.specs.tal_reader.specs.Reads.{Reads};
 ghost use Rattle.tal_tree.specs.declared.fault.DeckFault.{DeckFault};
 ghost use Rattle.tal_tree.specs.declared.program.Program.{Program};
 ghost use Rattle.tal_tree.specs.declared.site.Kind.TheVariants.{Pair};

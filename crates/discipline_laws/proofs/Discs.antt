@@ -9,7 +9,7 @@ use Rattle.process_semantics.specs.declared.point.Point.TheVariants as point
 use Rattle.process_semantics.specs.Image.{listed_items}
 use Rattle.process_semantics.specs.Process as process
 use Rattle.process_semantics.specs.Process.{ProcessState, Runs, Serves}
-use Rattle.process_images.specs.Images.{Agrees}
+use Rattle.checkpoint_laws.specs.process_images.specs.Images.{Agrees}
 use Rattle.plain_semantics.specs.Openers.{openers_of}
 use Rattle.whole_states.specs.Processes.{IsRegularKind}
 use Rattle.world_semantics.specs.Core.{Core, Deed, Went, Checkpointed, Took, Asked, Got, Answered, Acted, Advances}

@@ -22,7 +22,7 @@ use Rattle.process_semantics.specs.Process as process
 use Rattle.process_semantics.specs.Process.{ProcessState, Runs, Serves}
 use Rattle.process_semantics.specs.State.{ProgramState}
 use Rattle.process_semantics.proofs.Points.{in-next}
-use Rattle.process_images.specs.Images.{AgreeBut, Agrees}
+use Rattle.checkpoint_laws.specs.process_images.specs.Images.{AgreeBut, Agrees}
 use Rattle.whole_states.specs.Processes.{IsRegularKind}
 use Rattle.checkpoint_laws.proofs.Putting.{put-whole}
 use Rattle.world_semantics.specs.Core.{Core, Deed, after_passing, carried, put_in}

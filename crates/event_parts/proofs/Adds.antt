@@ -12,9 +12,9 @@ use Rattle.alive_regroup.specs.declared.set.ProcessorSet.{ProcessorSet}
 use Rattle.alive_regroup.specs.Watching as watching
 use Rattle.alive_regroup.specs.Watching.{Watching, changed_at, told_by_tick}
 use Rattle.world_semantics.specs.World.{is_running, terminal_node}
-use Rattle.letters.specs.Routes.{Letter}
-use Rattle.message_layout.specs.Messages.{NodeMessage, Carrying, Reporting, Declaring}
-use Rattle.message_layout.specs.Layout.{words_of}
+use Rattle.packet_wires.specs.letters.specs.Routes.{Letter}
+use Rattle.packet_wires.specs.message_layout.specs.Messages.{NodeMessage, Carrying, Reporting, Declaring}
+use Rattle.packet_wires.specs.message_layout.specs.Layout.{words_of}
 use Rattle.packet_wires.specs.Nodes.{Node, all_nodes, others, with_end, with_watch}
 use Rattle.packet_wires.specs.Wires.{Midst, Outgoing, nothing_sent, goes_over, any_goes_over, goes_again, at_node}
 use Rattle.packet_wires.specs.Wires.{at_end_of, at_end, end_changed, watch_changed, learns, for_each, push_at, sends}

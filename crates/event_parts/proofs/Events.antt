@@ -6,7 +6,7 @@ use Rattle.schedule.specs.declared.event.Event.TheVariants.{Deliver, Repeat, Tic
 use Rattle.packet_words.specs.declared.bus_name.BusName.{BusName}
 use Rattle.packet_words.specs.declared.bus_name.BusName.TheVariants as bus
 use Rattle.packet_words.specs.declared.packet.Packet.{Packet}
-use Rattle.machine_states.specs.States.{Makes, Skips}
+use Rattle.packet_wires.specs.machine_states.specs.States.{Makes, Skips}
 use Rattle.world_semantics.specs.World.{is_running}
 use Rattle.packet_wires.specs.Lines.{line_pulled}
 use Rattle.packet_wires.specs.Nodes.{Node}

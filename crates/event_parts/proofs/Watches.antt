@@ -13,8 +13,8 @@ use Rattle.alive_regroup.specs.Watching as watching
 use Rattle.alive_regroup.specs.Watching.{Watching, told_by_tick}
 use Rattle.world_semantics.specs.World.{terminal_node}
 use Rattle.world_semantics.proofs.Lists.{set-there}
-use Rattle.message_layout.specs.Messages.{Reporting}
-use Rattle.message_layout.specs.Layout.{words_of}
+use Rattle.packet_wires.specs.message_layout.specs.Messages.{Reporting}
+use Rattle.packet_wires.specs.message_layout.specs.Layout.{words_of}
 use Rattle.packet_wires.specs.Nodes.{Node, all_nodes, others, with_end}
 use Rattle.packet_wires.specs.Wires.{Midst, goes_over, any_goes_over, goes_again, at_node, at_end_of, at_end}
 use Rattle.packet_wires.specs.Wires.{end_changed, watch_changed, for_each, push_at, sends, alive_at}

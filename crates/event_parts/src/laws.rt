@@ -5,10 +5,10 @@ ghost use Rattle.schedule.specs.declared.event.Event.TheVariants.{Deliver, Repea
 ghost use Rattle.packet_words.specs.declared.bus_name.BusName.{BusName};
 ghost use Rattle.packet_words.specs.declared.packet.Packet.{Packet};
 ghost use Rattle.alive_regroup.specs.Watching.{Watching, after_tick};
-ghost use Rattle.machine_states.specs.States.{Makes};
+ghost use Rattle.packet_wires.specs.machine_states.specs.States.{Makes};
 ghost use Rattle.world_semantics.specs.World.{is_running};
-ghost use Rattle.letters.specs.Routes.{Letter};
-ghost use Rattle.message_layout.specs.Messages.{NodeMessage};
+ghost use Rattle.packet_wires.specs.letters.specs.Routes.{Letter};
+ghost use Rattle.packet_wires.specs.message_layout.specs.Messages.{NodeMessage};
 ghost use Rattle.packet_wires.specs.Lines.{line_pulled};
 ghost use Rattle.packet_wires.specs.Play.{Packeted, begun, over, packet_at, play};
 ghost use Rattle.packet_wires.specs.Wires.{Midst, Wires, all_posted, arrived, at_end, bus_named, cut_off, declares};

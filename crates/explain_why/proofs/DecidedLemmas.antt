@@ -19,8 +19,8 @@ use Rattle.tal_tree.specs.declared.fault.DeckFault.{DeckFault}
 use Rattle.tal_tree.specs.declared.fault.DeckFault.TheVariants as fault
 use Rattle.tal_tree.specs.declared.fault.TalFault.{TalFault}
 use Rattle.tal_tree.specs.declared.fault.TalFault.TheVariants as tal
-use Rattle.trace_print.specs.FaultLine.{IsOfDeck}
-use Rattle.trace_print.specs.TalNumbers.{IsOfText}
+use Rattle.fault_text.specs.trace_print.specs.FaultLine.{IsOfDeck}
+use Rattle.fault_text.specs.trace_print.specs.TalNumbers.{IsOfText}
 
 judged_is_none : {P : Type 0} (refused : Bool) → judged_status refused ≡ status.ReadFault → P
 judged_is_none true e = absurd (cc)

@@ -11,9 +11,9 @@ use Rattle.fault_text.specs.WhyText.{told_text}
 use Rattle.finding_text.specs.PairText.{pair_texts}
 use Rattle.gd_io.specs.Faults.{HasRisen}
 use Rattle.gd_words.specs.Memory.{no_memory}
-use Rattle.pair_findings.specs.Findings.{AreFindings}
-use Rattle.pair_findings.specs.declared.finding.Finding.{Finding}
-use Rattle.pair_findings.specs.declared.finding.Finding.TheVariants as found
+use Rattle.finding_text.specs.pair_findings.specs.Findings.{AreFindings}
+use Rattle.finding_text.specs.pair_findings.specs.declared.finding.Finding.{Finding}
+use Rattle.finding_text.specs.pair_findings.specs.declared.finding.Finding.TheVariants as found
 use Rattle.tal_tree.specs.declared.fault.DeckFault.{DeckFault}
 use Rattle.tal_tree.specs.declared.fault.DeckFault.TheVariants as fault
 use Rattle.tal_tree.specs.declared.site.ProcessSpec.{ProcessSpec}

@@ -5,7 +5,7 @@ use Rattle.explain_why.specs.declared.due.Due.TheVariants as due
 use Rattle.explain_why.specs.declared.status.Status.{Status}
 use Rattle.explain_why.specs.declared.status.Status.TheVariants as status
 use Rattle.gd_io.specs.declared.writing.WriteFault.{WriteFault}
-use Rattle.trace_print.specs.FaultLine.{IsOfDeck, fault_line}
+use Rattle.fault_text.specs.trace_print.specs.FaultLine.{IsOfDeck, fault_line}
 
 -- the text that is due; nothing where reading failed or memory ran out
 abbrev pub text_of : Due → List ℕ

@@ -1,1 +1,2 @@
 pub mod WhyText
+pub use Rattle.trace_print

@@ -6,3 +6,4 @@ pub mod Names
 pub mod PairText
 pub mod Sentences
 pub mod Steps
+pub use Rattle.pair_findings

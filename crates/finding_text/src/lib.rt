@@ -17,4 +17,5 @@ mod sentence;
 mod steps;
 
 pub use deck_place::pair_line;
+pub use pair_findings;
 pub use pairs::put_pairs;

@@ -21,9 +21,9 @@ use Rattle.plain_histories.specs.Booking.{AreBooked, AreHeld}
 use Rattle.plain_histories.specs.Ledgers.{Ledger, with_deeds}
 use Rattle.plain_histories.proofs.Changed.{deeds-same}
 use Rattle.plain_histories.proofs.Held.{held-stays}
-use Rattle.takeover_laws.proofs.Backed.{idle-sectors}
-use Rattle.takeover_laws.proofs.Repeating.{held-idle, held-length}
-use Rattle.takeover_laws.proofs.Settled.{IsLeft, IsSettled, settled-held}
+use Rattle.awaited_requests.specs.takeover_laws.proofs.Backed.{idle-sectors}
+use Rattle.awaited_requests.specs.takeover_laws.proofs.Repeating.{held-idle, held-length}
+use Rattle.awaited_requests.specs.takeover_laws.proofs.Settled.{IsLeft, IsSettled, settled-held}
 
 -- a copy of a process has what the process's deeds and then its held acts give, and the other copy holds nothing
 pub record CanClose (site : Site) (ledger : Ledger) (number : ℕ) (pair : Pair) (k : Which) : Type 0 where

@@ -16,9 +16,9 @@ use Rattle.letters.specs.Routes.{route_of, home_of}
 use Rattle.awaited_requests.specs.Awaited.{IsAwaited, by_copy, by_terminal}
 use Rattle.awaited_requests.specs.Seats.{IsLaidOut, AreSeated}
 use Rattle.awaited_requests.specs.Served.{AreServed}
-use Rattle.takeover_laws.specs.Fit.{IsFit}
-use Rattle.takeover_laws.proofs.Checkpoints.{marked-down}
-use Rattle.takeover_laws.proofs.Kept.{IsGood}
+use Rattle.awaited_requests.specs.takeover_laws.specs.Fit.{IsFit}
+use Rattle.awaited_requests.specs.takeover_laws.proofs.Checkpoints.{marked-down}
+use Rattle.awaited_requests.specs.takeover_laws.proofs.Kept.{IsGood}
 
 -- all that is known of an idle end
 pub record IsEnd (site : Site) (events : ℕ) (post : Post) : Type 0 where

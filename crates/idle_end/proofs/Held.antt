@@ -18,7 +18,7 @@ use Rattle.process_histories.proofs.Counts.{done-stands, take-free}
 use Rattle.process_histories.proofs.Deeds.{done-one}
 use Rattle.plain_histories.specs.Booking.{AreHeld, none_held, take_held, step_held}
 use Rattle.plain_histories.specs.Ledgers.{Ledger}
-use Rattle.takeover_laws.proofs.Own.{quiet-held}
+use Rattle.awaited_requests.specs.takeover_laws.proofs.Own.{quiet-held}
 use Rattle.letters.specs.Posts.{Post}
 use Rattle.idle_end.proofs.Closed.{IsClosed, is-closed}
 use Rattle.idle_end.proofs.Closing.{CanClose}

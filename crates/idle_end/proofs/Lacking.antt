@@ -33,8 +33,8 @@ use Rattle.plain_histories.proofs.Openers.{opener-is, opener-opened, opener-term
 use Rattle.letters.specs.Posts.{Post}
 use Rattle.awaited_requests.specs.Awaited.{IsAwaited, by_copy, by_terminal}
 use Rattle.awaited_requests.specs.Served.{WaitsFor}
-use Rattle.takeover_laws.proofs.Backed.{next-is}
-use Rattle.takeover_laws.proofs.Waiting.{chosen-is}
+use Rattle.awaited_requests.specs.takeover_laws.proofs.Backed.{next-is}
+use Rattle.awaited_requests.specs.takeover_laws.proofs.Waiting.{chosen-is}
 use Rattle.idle_end.proofs.Closed.{IsClosed}
 use Rattle.idle_end.proofs.Ends.{IsEnd, who_acts, acting}
 use Rattle.idle_end.proofs.Awaited.{unanswered, at-server}

@@ -10,7 +10,7 @@ use Rattle.world_semantics.proofs.Reached.{run-marks, run-roles}
 use Rattle.plain_histories.proofs.Counted.{booked-count}
 use Rattle.letters.specs.Posts.{Post}
 use Rattle.awaited_requests.proofs.Seats.{run-seats}
-use Rattle.takeover_laws.proofs.Kept.{run-keeps}
+use Rattle.awaited_requests.specs.takeover_laws.proofs.Kept.{run-keeps}
 use Rattle.idle_end.specs.Ends.{IsIdleEnd}
 use Rattle.idle_end.proofs.Ends.{IsEnd}
 use Rattle.idle_end.proofs.Resting.{caught-up}

@@ -23,8 +23,9 @@ use Rattle.plain_histories.proofs.Possible.{booked-ran}
 use Rattle.letters.specs.Posts.{Post}
 use Rattle.awaited_requests.specs.Awaited.{by_copy}
 use Rattle.awaited_requests.proofs.Leads.{count-join, acting-leads}
-use Rattle.takeover_laws.specs.Invariant.{IsRepeatable, Stage, IsLead, is_level, is_applied, is_behind, IsSound}
-use Rattle.takeover_laws.proofs.Backed.{next-is}
+use Rattle.awaited_requests.specs.takeover_laws.specs.Invariant.{IsRepeatable, Stage, IsLead, is_level, is_applied}
+use Rattle.awaited_requests.specs.takeover_laws.specs.Invariant.{is_behind, IsSound}
+use Rattle.awaited_requests.specs.takeover_laws.proofs.Backed.{next-is}
 use Rattle.idle_end.proofs.CaughtUp.{HasPast, AwaitsMore, IsStuck, caught, grown-same}
 use Rattle.idle_end.proofs.Closing.{CanClose}
 use Rattle.idle_end.proofs.Ends.{IsEnd, who_acts, acting, only-acts}

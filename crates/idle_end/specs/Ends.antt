@@ -5,7 +5,7 @@ use Rattle.schedule.specs.declared.event.Event.{Event}
 use Rattle.plain_semantics.specs.Machine.{PlainProcess}
 use Rattle.world_semantics.specs.Follows.{IsRun}
 use Rattle.world_semantics.specs.World.{Copy, Pair}
-use Rattle.takeover_laws.specs.Fit.{IsFit}
+use Rattle.awaited_requests.specs.takeover_laws.specs.Fit.{IsFit}
 use Rattle.letters.specs.Idle.{IsIdle, OneStops}
 use Rattle.letters.specs.Posts.{Post}
 use Rattle.awaited_requests.specs.Seats.{IsLaidOut}

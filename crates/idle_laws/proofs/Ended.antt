@@ -5,7 +5,7 @@ use Rattle.schedule.specs.declared.event.Event.{Event}
 use Rattle.letters.specs.Idle.{IsIdle, OneStops}
 use Rattle.letters.specs.Posts.{Post, HasPlayed}
 use Rattle.letters.proofs.Worlds.{played-run}
-use Rattle.awaited_requests.specs.Seats.{IsLaidOut}
+use Rattle.served_requests.specs.awaited_requests.specs.Seats.{IsLaidOut}
 use Rattle.accepted_sites.proofs.Accepted.{accepted-fit}
 use Rattle.accepted_sites.specs.Premises.{IsAcceptedSite}
 use Rattle.idle_end.specs.Ends.{IsIdleEnd}

@@ -9,13 +9,13 @@ use Rattle.world_semantics.proofs.Runs.{follows-keeps}
 use Rattle.letters.specs.Idle.{OneStops}
 use Rattle.letters.specs.Posts.{Post, HasPlayed, played_none, played_more}
 use Rattle.letters.proofs.Worlds.{plays-permits, played-run}
-use Rattle.takeover_laws.specs.Fit.{IsFit}
-use Rattle.takeover_laws.proofs.Kept.{IsGood, run-keeps}
-use Rattle.awaited_requests.specs.Seats.{IsLaidOut, AreSeated}
-use Rattle.awaited_requests.specs.Served.{AreServed}
-use Rattle.awaited_requests.proofs.Seats.{run-seats}
-use Rattle.letter_laws.specs.Known.{IsKnown}
-use Rattle.letter_laws.proofs.Known.{known-begins, known-plays}
+use Rattle.accepted_sites.specs.takeover_laws.specs.Fit.{IsFit}
+use Rattle.accepted_sites.specs.takeover_laws.proofs.Kept.{IsGood, run-keeps}
+use Rattle.served_requests.specs.awaited_requests.specs.Seats.{IsLaidOut, AreSeated}
+use Rattle.served_requests.specs.awaited_requests.specs.Served.{AreServed}
+use Rattle.served_requests.specs.awaited_requests.proofs.Seats.{run-seats}
+use Rattle.served_requests.specs.letter_laws.specs.Known.{IsKnown}
+use Rattle.served_requests.specs.letter_laws.proofs.Known.{known-begins, known-plays}
 use Rattle.served_requests.proofs.Played.{served-begins, plays-served}
 
 -- a post is sound: its world keeps the invariant, copies are seated, and all is known of its letters by which every

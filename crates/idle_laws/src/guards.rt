@@ -4,8 +4,8 @@ ghost use Rattle.plain_semantics.specs.Machine.{IsNoneLeft};
 ghost use Rattle.world_semantics.specs.Kept.{closed};
 ghost use Rattle.letters.specs.Idle.{IsIdle, OneStops};
 ghost use Rattle.letters.specs.Posts.{Post, HasPlayed};
-ghost use Rattle.awaited_requests.specs.Examples.{site_with};
-ghost use Rattle.awaited_requests.specs.Seats.{IsLaidOut};
+ghost use Rattle.served_requests.specs.awaited_requests.specs.Examples.{site_with};
+ghost use Rattle.served_requests.specs.awaited_requests.specs.Seats.{IsLaidOut};
 ghost use Rattle.accepted_sites.specs.Premises.{IsAcceptedSite};
 
 /// The site of a disc is accepted, and laid out where both of its processors are there. Where both stop, the request

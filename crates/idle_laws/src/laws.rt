@@ -11,8 +11,8 @@ ghost use Rattle.world_semantics.specs.declared.role.Role.TheVariants.{Acting};
 ghost use Rattle.world_semantics.specs.declared.which.Which.{Which};
 ghost use Rattle.letters.specs.Idle.{IsIdle, OneStops};
 ghost use Rattle.letters.specs.Posts.{Post, HasPlayed};
-ghost use Rattle.awaited_requests.specs.Seats.{IsLaidOut};
-ghost use Rattle.awaited_requests.specs.Served.{AreServed};
+ghost use Rattle.served_requests.specs.awaited_requests.specs.Seats.{IsLaidOut};
+ghost use Rattle.served_requests.specs.awaited_requests.specs.Served.{AreServed};
 ghost use Rattle.accepted_sites.specs.Premises.{IsAcceptedSite};
 ghost use Rattle.idle_end.specs.Ends.{IsAsCopy};
 

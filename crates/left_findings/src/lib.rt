@@ -11,3 +11,4 @@ mod servers;
 
 pub use finding::{Left, ProcessLeft, Stand, TerminalLeft};
 pub use findings::left_of;
+pub use machine_views;

@@ -1,6 +1,6 @@
 ghost use Rattle.std.specs.Prelude.{◌≡◌, [], true, false, Some, None};
-ghost use Rattle.machine_views.specs.declared.views.Awaited.{Awaited};
-ghost use Rattle.machine_views.specs.declared.views.CopyView.{CopyView};
+ghost use Rattle.left_findings.specs.machine_views.specs.declared.views.Awaited.{Awaited};
+ghost use Rattle.left_findings.specs.machine_views.specs.declared.views.CopyView.{CopyView};
 ghost use Rattle.process_semantics.specs.declared.point.Point.TheVariants as point;
 ghost use Rattle.tal_tree.specs.declared.site.ProcessSpec.{ProcessSpec};
 ghost use Rattle.tal_tree.specs.declared.site.Site.{Site};

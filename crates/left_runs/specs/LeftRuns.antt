@@ -3,9 +3,9 @@ use Rattle.std.specs.Prelude.{◌≡◌, ℕ, List, [], ◌∷◌, ◌++◌, cod
 use Rattle.std.specs.Fmt.{decimal}
 use Rattle.deck_reader.specs.Decks.{Decks}
 use Rattle.deck_reader.specs.declared.deck.Deck.{Deck}
-use Rattle.left_findings.specs.Left.{left_of}
+use Rattle.left_text.specs.left_findings.specs.Left.{left_of}
 use Rattle.left_text.specs.LeftText.{left_text}
-use Rattle.machine_views.specs.Views.{view_of}
+use Rattle.left_text.specs.machine_views.specs.Views.{view_of}
 use Rattle.packet_runs.specs.Ends.{IsRunOf}
 use Rattle.packet_runs.specs.declared.ran.Ran.{Ran}
 use Rattle.player.specs.declared.stop.ProcessorStop.{ProcessorStop}

@@ -8,4 +8,6 @@ mod process_ends;
 mod terminals;
 pub mod whole;
 
+pub use left_findings;
+pub use left_findings::machine_views;
 pub use whole::put_left;

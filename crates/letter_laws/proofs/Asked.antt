@@ -29,8 +29,8 @@ use Rattle.world_semantics.proofs.Growing.{causes-grow}
 use Rattle.world_semantics.proofs.Lists.{set-all, map-all, grown-none, grown-one}
 use Rattle.world_semantics.proofs.Roles.{taker-is}
 use Rattle.process_histories.proofs.Steady.{calm-away, marked-calm, done-steady}
-use Rattle.plain_histories.specs.Agreeing.{AreRegular}
-use Rattle.takeover_laws.proofs.Kept.{IsGood}
+use Rattle.awaited_requests.specs.plain_histories.specs.Agreeing.{AreRegular}
+use Rattle.awaited_requests.specs.takeover_laws.proofs.Kept.{IsGood}
 use Rattle.letters.specs.Again.{awaited_by, entered_last, awaited_from}
 use Rattle.letter_laws.specs.Known.{WatchersAreCalm, AwaitedWereSent}
 use Rattle.letter_laws.proofs.Awaited.{awaited-last, acting-done, own-awaited}

@@ -27,9 +27,9 @@ use Rattle.world_semantics.specs.World.{Copy, Pair, World, copy_of, with_copy}
 use Rattle.world_semantics.proofs.Becoming.{entered-same}
 use Rattle.world_semantics.proofs.Lists.{set-there}
 use Rattle.world_semantics.proofs.Members.{among-map, among-flat_map}
-use Rattle.plain_histories.specs.Agreeing.{AreRegular}
-use Rattle.plain_histories.proofs.Openers.{opener-one}
-use Rattle.takeover_laws.proofs.Kept.{IsGood}
+use Rattle.awaited_requests.specs.plain_histories.specs.Agreeing.{AreRegular}
+use Rattle.awaited_requests.specs.plain_histories.proofs.Openers.{opener-one}
+use Rattle.awaited_requests.specs.takeover_laws.proofs.Kept.{IsGood}
 use Rattle.letters.specs.Again.{entered_last}
 use Rattle.letter_laws.specs.Known.{HasAsker}
 use Rattle.letter_laws.proofs.Again.{IsAgain, by_copy, by_terminal, by_keeping}

@@ -25,9 +25,9 @@ use Rattle.process_histories.specs.Words.{requests_on}
 use Rattle.process_histories.proofs.Counts.{if-same}
 use Rattle.process_histories.proofs.Steady.{IsSteady, calm-away, inner-calm, took-calm, asked-same, got-calm}
 use Rattle.process_histories.proofs.Steady.{answered-calm, device-calm, done-steady}
-use Rattle.plain_histories.specs.Agreeing.{AreRegular}
-use Rattle.takeover_laws.proofs.Backed.{next-is}
-use Rattle.takeover_laws.proofs.Kept.{IsGood}
+use Rattle.awaited_requests.specs.plain_histories.specs.Agreeing.{AreRegular}
+use Rattle.awaited_requests.specs.takeover_laws.proofs.Backed.{next-is}
+use Rattle.awaited_requests.specs.takeover_laws.proofs.Kept.{IsGood}
 use Rattle.awaited_requests.proofs.Leads.{copy-takes}
 use Rattle.letters.specs.Again.{awaited_at, awaited_by}
 use Rattle.letter_laws.proofs.Given.{only}

@@ -28,8 +28,8 @@ use Rattle.world_semantics.proofs.Members.{among-map}
 use Rattle.process_histories.specs.Histories.{kind_of}
 use Rattle.process_histories.proofs.OneKind.{done-kind}
 use Rattle.process_histories.proofs.Steady.{IsSteady, done-steady}
-use Rattle.plain_histories.specs.Agreeing.{AreRegular}
-use Rattle.takeover_laws.proofs.Kept.{IsGood}
+use Rattle.awaited_requests.specs.plain_histories.specs.Agreeing.{AreRegular}
+use Rattle.awaited_requests.specs.takeover_laws.proofs.Kept.{IsGood}
 use Rattle.letter_laws.specs.Known.{CheckpointsNameFiles}
 use Rattle.letter_laws.proofs.Awaited.{IsDone, acting-done}
 

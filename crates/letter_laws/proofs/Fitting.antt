@@ -8,9 +8,9 @@ use Rattle.world_semantics.specs.World.{Pair, World}
 use Rattle.world_semantics.proofs.Lists.{some-same}
 use Rattle.computed_changes.specs.Laws.{IsSent, FitsWhereItComes}
 use Rattle.computed_changes.proofs.Fitting.{sent-fits}
-use Rattle.takeover_laws.specs.Fit.{IsFit}
-use Rattle.takeover_laws.specs.Invariant.{Invariant}
-use Rattle.takeover_laws.proofs.Kept.{run-keeps}
+use Rattle.awaited_requests.specs.takeover_laws.specs.Fit.{IsFit}
+use Rattle.awaited_requests.specs.takeover_laws.specs.Invariant.{Invariant}
+use Rattle.awaited_requests.specs.takeover_laws.proofs.Kept.{run-keeps}
 use Rattle.letters.proofs.Worlds.{played-run}
 use Rattle.letters.specs.Posts.{Post, HasPlayed}
 use Rattle.letters.specs.Routes.{Letter}

@@ -12,10 +12,10 @@ use Rattle.world_semantics.proofs.Fair.{fair-of, run-fair}
 use Rattle.world_semantics.proofs.Members.{among-filter}
 use Rattle.world_semantics.proofs.Roles.{roles-begin}
 use Rattle.world_semantics.proofs.Sendings.{run-sends}
-use Rattle.takeover_laws.specs.Fit.{IsFit}
-use Rattle.takeover_laws.proofs.Beginning.{beginning-keeps}
-use Rattle.takeover_laws.proofs.Changing.{acts_by}
-use Rattle.takeover_laws.proofs.Kept.{IsGood, change-good}
+use Rattle.awaited_requests.specs.takeover_laws.specs.Fit.{IsFit}
+use Rattle.awaited_requests.specs.takeover_laws.proofs.Beginning.{beginning-keeps}
+use Rattle.awaited_requests.specs.takeover_laws.proofs.Changing.{acts_by}
+use Rattle.awaited_requests.specs.takeover_laws.proofs.Kept.{IsGood, change-good}
 use Rattle.computed_changes.specs.Laws.{IsSent}
 use Rattle.computed_changes.proofs.Reached.{run-sent}
 use Rattle.letters.proofs.Owed.{rest-there}

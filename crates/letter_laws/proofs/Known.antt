@@ -17,10 +17,10 @@ use Rattle.world_semantics.proofs.Becoming.{change-was}
 use Rattle.world_semantics.proofs.Beginning.{all-begin}
 use Rattle.world_semantics.proofs.Growing.{AreStopped, change-grows}
 use Rattle.world_semantics.proofs.Lists.{some-same}
-use Rattle.takeover_laws.specs.Fit.{IsFit}
-use Rattle.takeover_laws.proofs.Changing.{acts_by}
-use Rattle.takeover_laws.proofs.Checkpoints.{marked-down}
-use Rattle.takeover_laws.proofs.Kept.{IsGood, change-good}
+use Rattle.awaited_requests.specs.takeover_laws.specs.Fit.{IsFit}
+use Rattle.awaited_requests.specs.takeover_laws.proofs.Changing.{acts_by}
+use Rattle.awaited_requests.specs.takeover_laws.proofs.Checkpoints.{marked-down}
+use Rattle.awaited_requests.specs.takeover_laws.proofs.Kept.{IsGood, change-good}
 use Rattle.awaited_requests.specs.Seats.{AreSeated}
 use Rattle.letters.proofs.Owed.{taken-there, rest-there}
 use Rattle.letters.specs.Again.{sent_again}

@@ -4,7 +4,7 @@ ghost use Rattle.gd_words.specs.Members.{IsAmong};
 ghost use Rattle.tal_tree.specs.declared.site.Site.{Site};
 ghost use Rattle.schedule.specs.declared.event.Event.{Event};
 ghost use Rattle.computed_changes.specs.Laws.{IsSent, FitsWhereItComes};
-ghost use Rattle.takeover_laws.specs.Fit.{IsFit};
+ghost use Rattle.awaited_requests.specs.takeover_laws.specs.Fit.{IsFit};
 ghost use Rattle.letters.specs.Posts.{Post, HasPlayed};
 ghost use Rattle.letters.specs.Routes.{Letter};
 

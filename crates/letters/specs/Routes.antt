@@ -7,7 +7,7 @@ use Rattle.tal_tree.specs.declared.site.Site.{Site}
 use Rattle.tal_tree.specs.declared.site.OpenerSpec.{OpenerSpec}
 use Rattle.tal_tree.specs.declared.site.Who.{Who}
 use Rattle.tal_tree.specs.declared.site.Who.TheVariants as who
-use Rattle.plain_semantics.specs.Openers.{openers_of}
+use Rattle.world_semantics.specs.plain_semantics.specs.Openers.{openers_of}
 use Rattle.world_semantics.specs.World.{Pair, Down, World, terminal_node, has_noted}
 use Rattle.world_semantics.specs.Messages.{Message, Asking, Replying, Checkpointing, Taking, Sending}
 

@@ -41,8 +41,8 @@ use Rattle.world_semantics.proofs.Lists.{some-same, mapped}
 use Rattle.process_histories.specs.Histories.{nothing_done, one_more}
 use Rattle.letters_layout.proofs.Replies.{done-answers}
 use Rattle.computed_changes.specs.Laws.{IsSent}
-use Rattle.takeover_laws.specs.Fit.{IsFit}
-use Rattle.takeover_laws.proofs.Kept.{run-keeps}
+use Rattle.letter_laws.specs.takeover_laws.specs.Fit.{IsFit}
+use Rattle.letter_laws.specs.takeover_laws.proofs.Kept.{run-keeps}
 use Rattle.message_layout.specs.Messages.{Carrying}
 use Rattle.letters_layout.specs.Fitting.{IsSmall}
 use Rattle.message_layout.specs.Layout.{Fits}

@@ -3,10 +3,10 @@ use Rattle.std.proofs.Common.{◌<◌, List, length}
 use Rattle.gd_words.specs.Members.{IsAmong}
 use Rattle.tal_tree.specs.declared.site.Site.{Site}
 use Rattle.schedule.specs.declared.event.Event.{Event}
-use Rattle.awaited_requests.specs.Seats.{IsLaidOut}
+use Rattle.letter_laws.specs.awaited_requests.specs.Seats.{IsLaidOut}
 use Rattle.world_semantics.specs.Messages.{Message, Asking, Replying, Checkpointing, Taking}
 use Rattle.computed_changes.specs.Laws.{IsSent}
-use Rattle.takeover_laws.specs.Fit.{IsFit}
+use Rattle.letter_laws.specs.takeover_laws.specs.Fit.{IsFit}
 use Rattle.letters.specs.Posts.{Post, HasPlayed}
 use Rattle.letters.specs.Routes.{Letter}
 use Rattle.letters.proofs.Worlds.{played-run}

@@ -36,14 +36,16 @@ use Rattle.process_histories.specs.Bounds.{AreShort}
 use Rattle.process_histories.specs.Histories.{HasDone}
 use Rattle.plain_histories.specs.Ledgers.{Ledger}
 use Rattle.plain_histories.proofs.Counted.{IsShortLedger, booked-short}
-use Rattle.takeover_laws.specs.Fit.{IsFit}
-use Rattle.takeover_laws.specs.Invariant.{Invariant, Stage, IsLead, is_level, is_applied, is_behind, IsOther, is_lost}
-use Rattle.takeover_laws.specs.Invariant.{is_due, is_even, has_applied, FirstLeads, with_other, alone, IsLed, by_first}
-use Rattle.takeover_laws.specs.Invariant.{by_second}
-use Rattle.takeover_laws.proofs.Beginning.{beginning-keeps}
-use Rattle.takeover_laws.proofs.Changing.{acts_by, passes-one}
-use Rattle.takeover_laws.proofs.Kept.{IsGood, change-good}
-use Rattle.takeover_laws.proofs.Repeating.{short-join, held-short, held-length}
+use Rattle.letter_laws.specs.takeover_laws.specs.Fit.{IsFit}
+use Rattle.letter_laws.specs.takeover_laws.specs.Invariant.{Invariant, Stage, IsLead, is_level, is_applied, is_behind}
+use Rattle.letter_laws.specs.takeover_laws.specs.Invariant.{IsOther, is_lost}
+use Rattle.letter_laws.specs.takeover_laws.specs.Invariant.{is_due, is_even, has_applied, FirstLeads, with_other, alone}
+use Rattle.letter_laws.specs.takeover_laws.specs.Invariant.{IsLed, by_first}
+use Rattle.letter_laws.specs.takeover_laws.specs.Invariant.{by_second}
+use Rattle.letter_laws.specs.takeover_laws.proofs.Beginning.{beginning-keeps}
+use Rattle.letter_laws.specs.takeover_laws.proofs.Changing.{acts_by, passes-one}
+use Rattle.letter_laws.specs.takeover_laws.proofs.Kept.{IsGood, change-good}
+use Rattle.letter_laws.specs.takeover_laws.proofs.Repeating.{short-join, held-short, held-length}
 
 -- What a run tells of a process
 

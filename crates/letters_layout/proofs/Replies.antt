@@ -26,8 +26,8 @@ use Rattle.process_semantics.specs.State.{ProgramState, Entry, Run, Test, Last, 
 use Rattle.process_semantics.specs.State.{count_of, in_entry, next_of}
 use Rattle.process_images.proofs.Discs.{reply-few}
 use Rattle.whole_states.specs.Processes.{IsWholeProcess}
-use Rattle.awaited_requests.specs.Seats.{IsLaidOut}
-use Rattle.awaited_requests.proofs.Seats.{run-seats}
+use Rattle.letter_laws.specs.awaited_requests.specs.Seats.{IsLaidOut}
+use Rattle.letter_laws.specs.awaited_requests.proofs.Seats.{run-seats}
 use Rattle.world_semantics.specs.Core.{Core, Deed, goes, marks, takes, asks, gets, answers, acts}
 use Rattle.world_semantics.specs.Follows.{IsRun}
 use Rattle.world_semantics.specs.Messages.{Replying}
@@ -40,9 +40,9 @@ use Rattle.whole_states.specs.Processes.{IsRegularKind}
 use Rattle.plain_histories.specs.Booking.{AreBooked, none_booked, deed_booked, entry_booked, reply_booked}
 use Rattle.plain_histories.specs.Ledgers.{Ledger}
 use Rattle.plain_histories.proofs.Counted.{booked-short}
-use Rattle.takeover_laws.specs.Fit.{IsFit}
-use Rattle.takeover_laws.specs.Invariant.{Invariant}
-use Rattle.takeover_laws.proofs.Kept.{run-keeps}
+use Rattle.letter_laws.specs.takeover_laws.specs.Fit.{IsFit}
+use Rattle.letter_laws.specs.takeover_laws.specs.Invariant.{Invariant}
+use Rattle.letter_laws.specs.takeover_laws.proofs.Kept.{run-keeps}
 use Rattle.message_layout.specs.Messages.{Carrying}
 use Rattle.letters_layout.specs.Fitting.{IsSmall}
 use Rattle.message_layout.specs.Layout.{Fits}

@@ -15,8 +15,8 @@ use Rattle.plain_semantics.specs.declared.slot.Opener.{Opener}
 use Rattle.plain_semantics.specs.Openers.{openers_of, openers_by, opener_of, opener_on, server_of_file, file_of}
 use Rattle.tal_tree.specs.declared.act.Act.{Act}
 use Rattle.tal_tree.specs.declared.act.Shown.{Shown}
-use Rattle.awaited_requests.specs.Seats.{IsLaidOut}
-use Rattle.awaited_requests.proofs.Seats.{run-seats}
+use Rattle.letter_laws.specs.awaited_requests.specs.Seats.{IsLaidOut}
+use Rattle.letter_laws.specs.awaited_requests.proofs.Seats.{run-seats}
 use Rattle.std.specs.List.{filter_map, cons_option}
 use Rattle.std.proofs.lemmas.Bool.Decides.{eqb_tells}
 use Rattle.world_semantics.specs.World.{World}
@@ -25,9 +25,9 @@ use Rattle.process_histories.specs.Words.{ask_on}
 use Rattle.plain_histories.specs.Booking.{AreBooked, none_booked, deed_booked, entry_booked, reply_booked}
 use Rattle.plain_histories.proofs.Changed.{changed-same, changed-other}
 use Rattle.computed_changes.proofs.Placed.{who_at, opener-placed}
-use Rattle.takeover_laws.specs.Fit.{IsFit}
-use Rattle.takeover_laws.specs.Invariant.{Invariant, IsAsked}
-use Rattle.takeover_laws.proofs.Kept.{run-keeps}
+use Rattle.letter_laws.specs.takeover_laws.specs.Fit.{IsFit}
+use Rattle.letter_laws.specs.takeover_laws.specs.Invariant.{Invariant, IsAsked}
+use Rattle.letter_laws.specs.takeover_laws.proofs.Kept.{run-keeps}
 use Rattle.letters.proofs.Worlds.{played-run}
 use Rattle.letters.specs.Posts.{Post, HasPlayed}
 use Rattle.plain_histories.specs.Ledgers.{Ledger, with_entered, requests_of}

@@ -1,7 +1,7 @@
 //! The law of letters and the layout.
 ghost use Rattle.tal_tree.specs.declared.site.Site.{Site};
-ghost use Rattle.takeover_laws.specs.Fit.{IsFit};
-ghost use Rattle.awaited_requests.specs.Seats.{IsLaidOut};
+ghost use Rattle.letter_laws.specs.takeover_laws.specs.Fit.{IsFit};
+ghost use Rattle.letter_laws.specs.awaited_requests.specs.Seats.{IsLaidOut};
 ghost use Rattle.letters_layout.specs.Fitting.{HasFittingLetters, IsSmall};
 
 /// In fewer than 4,294,967,296 events of a fit site within its limits, each letter that is ever sent fits the layout

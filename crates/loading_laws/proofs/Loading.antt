@@ -2,10 +2,10 @@
 use Rattle.std.specs.Prelude.{ℕ, List}
 use Rattle.code_room.proofs.Read.{read_waits_below}
 use Rattle.tal_interp.specs.Sound.{IsLoadable}
-use Rattle.tal_laws.proofs.Ordered.{read_is_numbered, read_is_ordered}
-use Rattle.tal_laws.proofs.Regular.{read_is_regular}
-use Rattle.tal_laws.proofs.WithinLimits.{read_is_within}
-use Rattle.tal_reader.specs.Reads.{Reads}
+use Rattle.code_room.specs.tal_laws.proofs.Ordered.{read_is_numbered, read_is_ordered}
+use Rattle.code_room.specs.tal_laws.proofs.Regular.{read_is_regular}
+use Rattle.code_room.specs.tal_laws.proofs.WithinLimits.{read_is_within}
+use Rattle.code_room.specs.tal_reader.specs.Reads.{Reads}
 use Rattle.tal_tree.specs.declared.program.Program.{Program}
 
 pub read-is-loadable : (text : List ℕ) (program : Program) → Reads text program → IsLoadable program

@@ -1,6 +1,6 @@
 -- The states of machines of copies: our own form.
 use Rattle.std.specs.Prelude.{◌≡◌, ℕ}
-use Rattle.tal_tree.specs.declared.site.Site.{Site}
+use Rattle.world_semantics.specs.tal_tree.specs.declared.site.Site.{Site}
 use Rattle.world_semantics.specs.World.{World}
 use Rattle.machine_states.specs.declared.effect.Effect.{Effect}
 use Rattle.machine_states.specs.declared.effect.Effect.TheVariants.{Done, Skipped, WouldStopSecond}

@@ -5,8 +5,8 @@ use Rattle.std.proofs.lemmas.Option.{slice_get_read}
 use Rattle.tal_tree.specs.declared.site.Site.{Site}
 use Rattle.world_semantics.proofs.Lists.{some-same}
 use Rattle.world_semantics.specs.World.{Pair}
-use Rattle.process_copies.specs.Seen.{Placed}
-use Rattle.world_copies.specs.Seen.{ArePlaced, pairs_in}
+use Rattle.site_machine.specs.process_copies.specs.Seen.{Placed}
+use Rattle.site_machine.specs.world_copies.specs.Seen.{ArePlaced, pairs_in}
 use Rattle.machine_views.specs.Seen.{AreNumbered}
 use Rattle.machine_views.specs.Views.{each_at}
 

@@ -1,6 +1,6 @@
 -- What the machine's processes keep to.
 use Rattle.std.specs.Prelude.{◌≡◌, ℕ, List, slice_get, Some}
-use Rattle.process_copies.specs.Seen.{Placed}
+use Rattle.site_machine.specs.process_copies.specs.Seen.{Placed}
 
 -- each process has the number of its place
 abbrev pub AreNumbered : List Placed → Type 0

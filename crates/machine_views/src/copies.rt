@@ -1,5 +1,5 @@
 ghost use Rattle.std.specs.Prelude.{◌≡◌, ◌++◌, option_to_list, slice_get, IfOk, OnOk};
-ghost use Rattle.world_copies.specs.Seen.{pairs_in};
+ghost use Rattle.site_machine.specs.world_copies.specs.Seen.{pairs_in};
 ghost use Rattle.machine_views.specs.Seen.{AreNumbered};
 ghost use Rattle.machine_views.specs.Views.{awaited_by, copy_view, copy_views, each_at, file_number};
 
@@ -8,12 +8,12 @@ use crate::views::{Awaited, CopyView};
 use checkpoint_image::FileNumber;
 use file_calls::Waiting;
 use gd_words::{List, NoMemory, Request};
-use node_copies::NodeCopy;
 use process_control::CopyControl;
-use process_copies::ProcessCopies;
 use process_semantics::Point;
 use processes::Process;
 use sendings::copy_request;
+use site_machine::node_copies::NodeCopy;
+use site_machine::process_copies::ProcessCopies;
 use std::alloc::Global;
 use world_semantics::Which;
 

@@ -1,11 +1,11 @@
 ghost use Rattle.std.specs.Prelude.{◌≡◌, ◌++◌, IfOk, OnOk};
-ghost use Rattle.world_copies.specs.Seen.{pairs_in};
+ghost use Rattle.site_machine.specs.world_copies.specs.Seen.{pairs_in};
 ghost use Rattle.machine_views.specs.Seen.{AreNumbered};
 ghost use Rattle.machine_views.specs.Views.{each_at, sector_views};
 
 use crate::views::SectorView;
 use gd_words::{List, NoMemory};
-use process_copies::ProcessCopies;
+use site_machine::process_copies::ProcessCopies;
 use std::alloc::Global;
 
 /// The sectors of all discs.

@@ -1,8 +1,8 @@
-use command_dues::Outcome;
 use gd_io::{MemorySink, MemorySource};
 use gd_words::List;
 use machine_views::{DownView, SectorView, TerminalView, View, view};
 use runner::command;
+use runner::command_dues::Outcome;
 use std::alloc::{AllocError, Global};
 use std::test::Fail;
 use worked_programs::{ADDER, BANK};

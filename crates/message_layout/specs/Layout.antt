@@ -6,7 +6,7 @@ use Rattle.std.specs.Int.{w16, cast_signed}
 use Rattle.tal_tree.specs.declared.site.Site.{Site}
 use Rattle.gd_words.specs.declared.message.Request.{Request}
 use Rattle.gd_words.specs.declared.message.Reply.{Reply}
-use Rattle.process_semantics.specs.Words.{long, counted}
+use Rattle.checkpoint_image.specs.process_semantics.specs.Words.{long, counted}
 use Rattle.alive_regroup.specs.declared.set.ProcessorSet.{ProcessorSet}
 use Rattle.checkpoint_image.specs.declared.message.TakenMessage.{TakenMessage}
 use Rattle.checkpoint_image.specs.Layout.{message_words, IsWithinLayout}

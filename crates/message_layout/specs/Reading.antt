@@ -7,7 +7,7 @@ use Rattle.std.specs.Prelude.{Some, None}
 use Rattle.tal_tree.specs.declared.site.Site.{Site}
 use Rattle.gd_words.specs.declared.message.Request.{Request}
 use Rattle.gd_words.specs.declared.message.Reply.{Reply}
-use Rattle.process_semantics.specs.Words.{Front, whole}
+use Rattle.checkpoint_image.specs.process_semantics.specs.Words.{Front, whole}
 use Rattle.alive_regroup.specs.declared.set.ProcessorSet.{ProcessorSet}
 use Rattle.checkpoint_image.specs.declared.message.TakenMessage.{TakenMessage}
 use Rattle.checkpoint_image.specs.Reading.{is_word, number_in, both_in, pair_in, longs_in, reply_in, message_in}

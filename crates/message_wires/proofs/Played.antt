@@ -6,7 +6,7 @@ use Rattle.tal_tree.specs.declared.statement.What.{out-What}
 use Rattle.tal_tree.specs.declared.statement.What.TheBlock.{shown-the_row-Statement-0}
 use Rattle.schedule.specs.declared.event.Event.TheVariants as event
 use Rattle.tal_tree.specs.declared.act.Act.TheVariants as act
-use Rattle.world_semantics.specs.Examples.{delivery, reply, run}
+use Rattle.computed_changes.specs.world_semantics.specs.Examples.{delivery, reply, run}
 use Rattle.message_wires.specs.Examples.{adder_at_boot, after_checkpoint, answers, asks, buses_from, buses_of_takeover}
 use Rattle.message_wires.specs.Examples.{buses_to_checkpoint, checkpoint, end_of, told, until_dropped, up_to_checkpoint}
 

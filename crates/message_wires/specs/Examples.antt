@@ -2,8 +2,8 @@
 use Rattle.std.specs.Prelude.{ℕ, pos, List, [], ◌∷◌, ◌++◌, map}
 use Rattle.schedule.specs.declared.event.Event.{Event}
 use Rattle.schedule.specs.declared.event.Event.TheVariants as event
-use Rattle.world_semantics.specs.Examples.{adder_for, delivery, run}
-use Rattle.world_semantics.specs.Messages.{Message, Asking, Replying, Checkpointing, Taking}
+use Rattle.computed_changes.specs.world_semantics.specs.Examples.{adder_for, delivery, run}
+use Rattle.computed_changes.specs.world_semantics.specs.Messages.{Message, Asking, Replying, Checkpointing, Taking}
 use Rattle.machine_states.specs.States.{Played, Makes, Skips, WouldStop}
 use Rattle.message_wires.specs.Wires.{Sent, Wires}
 use Rattle.message_wires.specs.Play.{MachineState, machine_at_boot, play}

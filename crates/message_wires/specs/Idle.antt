@@ -3,10 +3,10 @@ use Rattle.std.specs.Prelude.{ℕ, zero, suc, ◌+◌, ◌&&◌, ◌||◌, Bool,
 use Rattle.std.specs.Prelude.{Some, None, is_none}
 use Rattle.std.specs.List.{list_all}
 use Rattle.tal_tree.specs.declared.site.Site.{Site}
-use Rattle.world_semantics.specs.declared.role.Role.{Role}
-use Rattle.world_semantics.specs.declared.role.Role.TheVariants.{Acting, Watching, Gone}
-use Rattle.world_semantics.specs.World.{Copy, Pair, World, terminal_node, is_running, has_noted}
-use Rattle.world_semantics.specs.Running.{run_done}
+use Rattle.computed_changes.specs.world_semantics.specs.declared.role.Role.{Role}
+use Rattle.computed_changes.specs.world_semantics.specs.declared.role.Role.TheVariants.{Acting, Watching, Gone}
+use Rattle.computed_changes.specs.world_semantics.specs.World.{Copy, Pair, World, terminal_node, is_running, has_noted}
+use Rattle.computed_changes.specs.world_semantics.specs.Running.{run_done}
 use Rattle.computed_changes.specs.Entered.{enter_done}
 use Rattle.message_wires.specs.Wires.{Sent}
 use Rattle.message_wires.specs.Play.{MachineState}

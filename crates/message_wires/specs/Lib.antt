@@ -4,3 +4,7 @@ pub mod Play
 pub mod Runs
 pub mod Tiers
 pub mod Wires
+pub use Rattle.computed_changes
+pub use Rattle.letters
+pub use Rattle.machine_states
+pub use Rattle.computed_changes.specs.world_semantics

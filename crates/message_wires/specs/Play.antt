@@ -5,8 +5,8 @@ use Rattle.std.specs.List.{list_any}
 use Rattle.tal_tree.specs.declared.site.Site.{Site}
 use Rattle.schedule.specs.declared.event.Event.{Event}
 use Rattle.schedule.specs.declared.event.Event.TheVariants.{Run, Enter, Deliver, Lose, Repeat, Tick, Fail}
-use Rattle.world_semantics.specs.World.{boot, is_running, has_noted}
-use Rattle.world_semantics.specs.Running.{Done, run_done}
+use Rattle.computed_changes.specs.world_semantics.specs.World.{boot, is_running, has_noted}
+use Rattle.computed_changes.specs.world_semantics.specs.Running.{Done, run_done}
 use Rattle.computed_changes.specs.Entered.{enter_done}
 use Rattle.computed_changes.specs.Handed.{handed_done}
 use Rattle.computed_changes.specs.Stopped.{stop_done, down_done}

@@ -14,8 +14,8 @@ use Rattle.tal_tree.specs.declared.site.Site.{Site}
 use Rattle.tal_tree.specs.declared.site.Kind.TheVariants as kind
 use Rattle.schedule.specs.declared.event.Event.{Event}
 use Rattle.schedule.specs.declared.event.Event.TheVariants as event
-use Rattle.process_semantics.specs.Process as process
-use Rattle.world_semantics.specs.Examples.{adder, delivery, line}
+use Rattle.computed_changes.specs.process_semantics.specs.Process as process
+use Rattle.computed_changes.specs.world_semantics.specs.Examples.{adder, delivery, line}
 use Rattle.message_wires.specs.Examples.{end_of}
 use Rattle.message_wires.specs.Play.{MachineState, machine_at_boot}
 

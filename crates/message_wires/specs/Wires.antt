@@ -3,7 +3,7 @@
 -- by the message system; the form for whole messages is our own.
 use Rattle.std.specs.Prelude.{ℕ, ◌+◌, ◌==◌, ◌&&◌, Bool, not, if◌then◌else◌, nat_lt, List, [], ◌∷◌, ◌++◌, length}
 use Rattle.std.specs.List.{filter, list_any, remove}
-use Rattle.world_semantics.specs.World.{is_running}
+use Rattle.computed_changes.specs.world_semantics.specs.World.{is_running}
 use Rattle.letters.specs.Routes.{Letter, is_between}
 
 -- a letter that was sent, with the number of its sending: a message that is sent again is a new sending

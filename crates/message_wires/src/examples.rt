@@ -3,7 +3,7 @@ ghost use Rattle.std.specs.Prelude.{◌≡◌, true, false, pos, [], ◌∷◌, 
 ghost use Rattle.schedule.specs.declared.event.Event.TheVariants as event;
 ghost use Rattle.tal_tree.specs.declared.act.Act.TheVariants as act;
 ghost use Rattle.tal_tree.specs.declared.act.Shown.TheVariants.{Reply};
-ghost use Rattle.world_semantics.specs.Examples.{delivery, reply, run};
+ghost use Rattle.computed_changes.specs.world_semantics.specs.Examples.{delivery, reply, run};
 ghost use Rattle.machine_states.specs.States.{Skips, WouldStop};
 ghost use Rattle.message_wires.specs.Idle.{is_idle};
 ghost use Rattle.message_wires.specs.Play.{play};

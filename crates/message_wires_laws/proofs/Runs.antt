@@ -9,7 +9,7 @@ use Rattle.world_semantics.specs.Messages.{Handing}
 use Rattle.computed_changes.specs.Handed.{handed_done}
 use Rattle.computed_changes.specs.Laws.{HasCopiesApart, IsSent}
 use Rattle.computed_changes.proofs.Outcomes.{idle-where, run-only}
-use Rattle.takeover_laws.specs.Fit.{IsFit}
+use Rattle.letter_laws.specs.takeover_laws.specs.Fit.{IsFit}
 use Rattle.letters.specs.Posts as posts
 use Rattle.letters.specs.Routes.{Letter}
 use Rattle.letters.proofs.Worlds.{played-run}

@@ -7,7 +7,7 @@ ghost use Rattle.schedule.specs.declared.event.Event.TheVariants.{Tick};
 ghost use Rattle.world_semantics.specs.Follows.{IsRun};
 ghost use Rattle.world_semantics.specs.World.{is_running, has_noted};
 ghost use Rattle.computed_changes.specs.Laws.{HasCopiesApart, IsSent};
-ghost use Rattle.takeover_laws.specs.Fit.{IsFit};
+ghost use Rattle.letter_laws.specs.takeover_laws.specs.Fit.{IsFit};
 ghost use Rattle.letters.specs.Idle.{IsIdle, OneStops};
 ghost use Rattle.letters.specs.Posts.{HasPlayed};
 ghost use Rattle.letters.specs.Routes.{Letter};

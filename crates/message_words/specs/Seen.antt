@@ -1,5 +1,5 @@
 -- What the messages of the code are. Our own rule, as the layout is.
-use Rattle.world_semantics.specs.Messages as world
+use Rattle.message_layout.specs.world_semantics.specs.Messages as world
 use Rattle.message_layout.specs.Messages as messages
 use Rattle.message_layout.specs.Messages.{Carrying, Reporting, Declaring}
 use Rattle.message_words.specs.declared.message.NodeMessage.{NodeMessage}

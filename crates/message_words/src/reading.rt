@@ -2,7 +2,7 @@ ghost use Rattle.std.specs.Prelude.{◌≡◌, ◌∷◌, pos, IfOk};
 ghost use Rattle.std.specs.Option.{option_map};
 ghost use Rattle.process_semantics.specs.Words.{whole};
 ghost use Rattle.checkpoint_image.specs.Reading.{message_in, number_in};
-ghost use Rattle.world_semantics.specs.Messages.{Asking, Checkpointing, Replying, Taking};
+ghost use Rattle.message_layout.specs.world_semantics.specs.Messages.{Asking, Checkpointing, Replying, Taking};
 ghost use Rattle.message_layout.specs.Messages.{Carrying, Declaring, Reporting};
 ghost use Rattle.message_layout.specs.Reading.{answer_in, message_of_kind, node_message_in, report_in, request_in};
 ghost use Rattle.message_layout.specs.Reading.{taken_in};

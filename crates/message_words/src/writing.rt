@@ -1,7 +1,7 @@
 ghost use Rattle.std.specs.Prelude.{◌≡◌, ◌≤◌, ◌∷◌, ◌++◌, [], pos, IfOk, OnOk};
 ghost use Rattle.process_semantics.specs.Words.{counted, long};
 ghost use Rattle.checkpoint_image.specs.Layout.{HasShortLists};
-ghost use Rattle.world_semantics.specs.Messages.{Asking, Checkpointing, Replying, Taking};
+ghost use Rattle.message_layout.specs.world_semantics.specs.Messages.{Asking, Checkpointing, Replying, Taking};
 ghost use Rattle.message_layout.specs.Layout.{words_of};
 ghost use Rattle.message_layout.specs.Messages.{Carrying, Declaring, Reporting};
 

@@ -9,5 +9,6 @@
 pub mod node;
 pub mod wires;
 
+pub use message_words;
 pub use node::Node;
 pub use wires::PacketWires;

@@ -11,7 +11,7 @@ use Rattle.checkpoint_image.specs.declared.receive.OpenerBlock.{OpenerBlock}
 use Rattle.checkpoint_image.specs.declared.receive.ReceiveBlock.{ReceiveBlock}
 use Rattle.checkpoint_image.specs.declared.receive.RequestStanding.TheVariants.{Next}
 use Rattle.checkpoint_image.specs.Receive.{Chosen, chosen, holds, standing_by}
-use Rattle.computed_changes.specs.Fitting.{depths_of}
+use Rattle.process_control.specs.computed_changes.specs.Fitting.{depths_of}
 use Rattle.sync_ids.specs.Tables.{IsSound, Remembered, are_of_depths, can_hold, is_unanswered}
 use Rattle.sync_ids.proofs.Tables.{and-left, and-right, lengths}
 use Rattle.world_semantics.specs.Core.{Core}

@@ -9,7 +9,7 @@ use Rattle.process_semantics.specs.Process as process
 use Rattle.plain_semantics.specs.declared.slot.Opener.{Opener}
 use Rattle.plain_semantics.specs.Openers.{openers_of}
 use Rattle.checkpoint_image.specs.declared.receive.OpenerBlock.{OpenerBlock}
-use Rattle.computed_changes.specs.Fitting.{depths_of}
+use Rattle.process_control.specs.computed_changes.specs.Fitting.{depths_of}
 use Rattle.sync_ids.specs.Tables.{taken_in}
 use Rattle.process_control.specs.Cores.{answering_at, answering_of, core_answered, core_answering, core_answering_at}
 use Rattle.process_control.specs.Copies.{CopyState, with_core}

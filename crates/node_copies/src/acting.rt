@@ -3,7 +3,7 @@ ghost use Rattle.tal_tree.specs.declared.site.Site.{Site};
 ghost use Rattle.disc_device.specs.declared.stored.Stored.{Stored};
 ghost use Rattle.process_semantics.specs.Process.{asked_file, point};
 ghost use Rattle.checkpoint_image.specs.Behaving.{last_write_of};
-ghost use Rattle.computed_changes.specs.Fitting.{depths_of};
+ghost use Rattle.process_control.specs.computed_changes.specs.Fitting.{depths_of};
 ghost use Rattle.gd_words.specs.Ranges.{HasNext, HasNextLong};
 ghost use Rattle.number_ranges.specs.HasRoom.{CopyHasRoom};
 ghost use Rattle.world_semantics.specs.Core.{next_on};

@@ -24,7 +24,9 @@ pub mod step;
 mod telling;
 
 pub use address::Address;
+pub use kept_acts;
 pub use marks::Downs;
 pub use one::NodeCopy;
+pub use process_control;
 pub use records::Records;
 pub use step::StepOutcome;

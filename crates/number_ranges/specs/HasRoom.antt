@@ -7,10 +7,10 @@ use Rattle.gd_words.specs.Ranges.{HasNext, HasNextLong}
 use Rattle.schedule.specs.declared.event.Event.{Event}
 use Rattle.checkpoint_image.specs.declared.receive.OpenerBlock.{OpenerBlock}
 use Rattle.checkpoint_image.specs.Behaving.{last_write_of}
-use Rattle.world_semantics.specs.declared.role.Role.TheVariants.{Watching}
-use Rattle.world_semantics.specs.declared.which.Which.{Which}
-use Rattle.world_semantics.specs.World.{Copy, Pair, Terminal, World, copy_of}
-use Rattle.machine_states.specs.States.{Makes}
+use Rattle.message_wires.specs.world_semantics.specs.declared.role.Role.TheVariants.{Watching}
+use Rattle.message_wires.specs.world_semantics.specs.declared.which.Which.{Which}
+use Rattle.message_wires.specs.world_semantics.specs.World.{Copy, Pair, Terminal, World, copy_of}
+use Rattle.message_wires.specs.machine_states.specs.States.{Makes}
 use Rattle.message_wires.specs.Play.{MachineState, play}
 
 -- of a copy: the number of the next request on each file, the number last taken from each opener, that of a disc's last

@@ -1,1 +1,2 @@
 pub mod HasRoom
+pub use Rattle.message_wires

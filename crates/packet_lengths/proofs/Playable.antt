@@ -6,13 +6,13 @@ use Rattle.schedule.specs.declared.line.Line.{Line}
 use Rattle.player.specs.declared.stop.ProcessorStop.{ProcessorStop}
 use Rattle.agendas.specs.Agendas.{Agenda}
 use Rattle.plain_semantics.specs.SiteLimits.{KeepsSiteLimits}
-use Rattle.accepted_sites.specs.Premises.{IsAcceptedSite}
-use Rattle.accepted_sites.proofs.Accepted.{accepted-fit}
-use Rattle.awaited_requests.specs.Seats.{IsLaidOut}
+use Rattle.packet_numbers.specs.accepted_sites.specs.Premises.{IsAcceptedSite}
+use Rattle.packet_numbers.specs.accepted_sites.proofs.Accepted.{accepted-fit}
+use Rattle.packet_numbers.specs.awaited_requests.specs.Seats.{IsLaidOut}
 use Rattle.packet_wires.specs.Play.{Packeted}
 use Rattle.schedule_loop.specs.Ends.{CanBePlayed, Plays}
-use Rattle.site_machine.specs.Needs.{IsReady}
-use Rattle.packets_played.proofs.Small.{small-of}
+use Rattle.packet_runs.specs.site_machine.specs.Needs.{IsReady}
+use Rattle.packet_numbers.specs.packets_played.proofs.Small.{small-of}
 use Rattle.packet_numbers.proofs.Ready.{is-ready}
 use Rattle.packet_runs.proofs.Played.{played}
 use Rattle.packet_runs.specs.Runs.{course_on, packet_rules}

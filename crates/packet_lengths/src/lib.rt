@@ -8,7 +8,11 @@
 
 pub mod laws;
 
+pub use deck_reader;
 pub use laws::{
     a_bus_has_room_for_its_packets, a_schedule_asks_for_few_events,
     a_schedule_asks_for_so_many_events, an_accepted_site_can_be_played,
 };
+pub use packet_numbers::packets_played;
+pub use packet_runs;
+pub use packet_runs::world_copies;

@@ -3,13 +3,13 @@ use Rattle.std.proofs.Common.{◌<◌, List, length, arith, subst, sym}
 use Rattle.tal_tree.specs.declared.site.Site.{Site}
 use Rattle.schedule.specs.declared.event.Event.{Event}
 use Rattle.computed_changes.specs.Laws.{HasCopiesApart}
-use Rattle.takeover_laws.specs.Fit.{IsFit}
-use Rattle.awaited_requests.specs.Seats.{IsLaidOut}
-use Rattle.letters_layout.specs.Fitting.{IsSmall}
+use Rattle.packets_played.specs.takeover_laws.specs.Fit.{IsFit}
+use Rattle.packets_played.specs.awaited_requests.specs.Seats.{IsLaidOut}
+use Rattle.packets_played.specs.letters_layout.specs.Fitting.{IsSmall}
 use Rattle.packet_wires.specs.Play.{Packeted}
 use Rattle.packet_wires.specs.Runs.{IsPlayed}
-use Rattle.packets_laws.proofs.Going.{played-site}
-use Rattle.packets_laws.proofs.Runs.{played-post}
+use Rattle.packets_played.specs.packets_laws.proofs.Going.{played-site}
+use Rattle.packets_played.specs.packets_laws.proofs.Runs.{played-post}
 use Rattle.site_machine.specs.Needs.{IsReady, SendsWithin}
 use Rattle.packet_numbers.proofs.Events.{left-after}
 use Rattle.packet_numbers.proofs.Rooms.{room-of}

@@ -19,7 +19,7 @@ use Rattle.computed_changes.specs.Laws.{FitsWhereItComes, HasCopiesApart}
 use Rattle.computed_changes.proofs.Entered.{enter-only}
 use Rattle.computed_changes.proofs.Outcomes.{run-only}
 use Rattle.computed_changes.proofs.Stopped.{stop-only, mark-only}
-use Rattle.takeover_laws.specs.Fit.{IsFit}
+use Rattle.packets_played.specs.takeover_laws.specs.Fit.{IsFit}
 use Rattle.letters.specs.Again.{sent_again}
 use Rattle.letters.specs.Posts.{Post, HasPlayed, NotesLetters, PlaysEvent, after_change, no_mark, one_mark, played_more}
 use Rattle.letters.specs.Posts.{played_none, plays_again, plays_drop, plays_enter, plays_fail, plays_hand, plays_loss}
@@ -29,9 +29,9 @@ use Rattle.letters.specs.Posts.{with_letters}
 use Rattle.letters.specs.Routes.{Letter, letters_of}
 use Rattle.letters.proofs.Owed.{taken-there}
 use Rattle.letters.proofs.Worlds.{played-run}
-use Rattle.letter_laws.proofs.Fitting.{letter-fits}
-use Rattle.letter_laws.proofs.Given.{letter-from}
-use Rattle.letter_laws.proofs.Honest.{played-honest}
+use Rattle.packets_played.specs.letter_laws.proofs.Fitting.{letter-fits}
+use Rattle.packets_played.specs.letter_laws.proofs.Given.{letter-from}
+use Rattle.packets_played.specs.letter_laws.proofs.Honest.{played-honest}
 use Rattle.message_wires.specs.Play.{machine_at_boot}
 use Rattle.message_wires.specs.Runs as whole
 use Rattle.number_ranges.specs.HasRoom.{CopyHasRoom, TerminalHasRoom, WorldHasRoom}

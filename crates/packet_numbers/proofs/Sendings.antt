@@ -51,26 +51,26 @@ use Rattle.computed_changes.specs.Stopped.{stopped_world}
 use Rattle.computed_changes.proofs.Entered.{enter-may}
 use Rattle.computed_changes.proofs.Reached.{run-sent}
 use Rattle.computed_changes.proofs.Stopped.{stop-may, mark-may}
-use Rattle.takeover_laws.specs.Fit.{IsFit}
-use Rattle.takeover_laws.proofs.Kept.{IsGood, run-keeps}
-use Rattle.awaited_requests.specs.Seats.{IsLaidOut}
-use Rattle.awaited_requests.proofs.Seats.{run-seats}
+use Rattle.packets_played.specs.takeover_laws.specs.Fit.{IsFit}
+use Rattle.packets_played.specs.takeover_laws.proofs.Kept.{IsGood, run-keeps}
+use Rattle.packets_played.specs.awaited_requests.specs.Seats.{IsLaidOut}
+use Rattle.packets_played.specs.awaited_requests.proofs.Seats.{run-seats}
 use Rattle.letters.specs.Again.{sent_again}
 use Rattle.letters.specs.Posts.{Post, HasPlayed, PlaysEvent, played_more, plays_run, plays_enter, plays_mark}
 use Rattle.letters.specs.Posts.{plays_fail, after_change, post_after_down}
 use Rattle.letters.proofs.Worlds.{played-run}
-use Rattle.letter_laws.specs.Known.{IsHonest}
-use Rattle.letter_laws.proofs.Again.{IsAgain, by_copy, by_terminal, by_keeping, again-is}
-use Rattle.letter_laws.proofs.Awaited.{acting-done}
-use Rattle.letter_laws.proofs.Given.{message-of}
-use Rattle.letter_laws.proofs.Honest.{played-honest}
-use Rattle.letter_laws.proofs.Replies.{kept-sent}
+use Rattle.packets_played.specs.letter_laws.specs.Known.{IsHonest}
+use Rattle.packets_played.specs.letter_laws.proofs.Again.{IsAgain, by_copy, by_terminal, by_keeping, again-is}
+use Rattle.packets_played.specs.letter_laws.proofs.Awaited.{acting-done}
+use Rattle.packets_played.specs.letter_laws.proofs.Given.{message-of}
+use Rattle.packets_played.specs.letter_laws.proofs.Honest.{played-honest}
+use Rattle.packets_played.specs.letter_laws.proofs.Replies.{kept-sent}
 use Rattle.message_layout.specs.Messages.{Carrying}
 use Rattle.message_layout.specs.Layout.{Fits, IsCarriedWithin}
-use Rattle.letters_layout.specs.Fitting.{IsSmall}
-use Rattle.letters_layout.proofs.Checkpoints.{checkpoint-fits, taken-fits}
-use Rattle.letters_layout.proofs.Replies.{reply-fits}
-use Rattle.letters_layout.proofs.Requests.{request-fits}
+use Rattle.packets_played.specs.letters_layout.specs.Fitting.{IsSmall}
+use Rattle.packets_played.specs.letters_layout.proofs.Checkpoints.{checkpoint-fits, taken-fits}
+use Rattle.packets_played.specs.letters_layout.proofs.Replies.{reply-fits}
+use Rattle.packets_played.specs.letters_layout.proofs.Requests.{request-fits}
 use Rattle.site_machine.specs.Needs.{AreWithin, MarksWithin, SendsWithin}
 
 -- Lists

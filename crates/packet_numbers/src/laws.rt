@@ -3,13 +3,13 @@ ghost use Rattle.std.specs.Prelude.{◌≡◌, ◌≤◌, ◌<◌, ℕ, List, le
 ghost use Rattle.tal_tree.specs.declared.site.Site.{Site};
 ghost use Rattle.schedule.specs.declared.event.Event.{Event};
 ghost use Rattle.plain_semantics.specs.SiteLimits.{KeepsSiteLimits};
-ghost use Rattle.accepted_sites.specs.Premises.{IsAcceptedSite};
+ghost use Rattle.packets_played.specs.accepted_sites.specs.Premises.{IsAcceptedSite};
 ghost use Rattle.number_ranges.specs.HasRoom.{WorldHasRoom};
 ghost use Rattle.computed_changes.specs.Laws.{HasCopiesApart};
-ghost use Rattle.takeover_laws.specs.Fit.{IsFit};
-ghost use Rattle.awaited_requests.specs.Seats.{IsLaidOut};
+ghost use Rattle.packets_played.specs.takeover_laws.specs.Fit.{IsFit};
+ghost use Rattle.packets_played.specs.awaited_requests.specs.Seats.{IsLaidOut};
 ghost use Rattle.letters.specs.Posts.{Post, HasPlayed};
-ghost use Rattle.letters_layout.specs.Fitting.{IsSmall};
+ghost use Rattle.packets_played.specs.letters_layout.specs.Fitting.{IsSmall};
 ghost use Rattle.link_control.specs.Ends.{End};
 ghost use Rattle.packet_wires.specs.Nodes.{Node};
 ghost use Rattle.packet_wires.specs.Play.{Packeted};

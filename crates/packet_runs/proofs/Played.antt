@@ -5,8 +5,8 @@ use Rattle.schedule.specs.declared.event.Event.{Event}
 use Rattle.schedule.specs.declared.line.Line.{Line}
 use Rattle.player.specs.declared.stop.ProcessorStop.{ProcessorStop}
 use Rattle.agendas.specs.Agendas.{Agenda}
-use Rattle.packet_wires.specs.Play.{Packeted}
-use Rattle.packet_wires.specs.Runs.{IsPlayed, played_more, played_none, skipped}
+use Rattle.site_machine.specs.packet_wires.specs.Play.{Packeted}
+use Rattle.site_machine.specs.packet_wires.specs.Runs.{IsPlayed, played_more, played_none, skipped}
 use Rattle.schedule_loop.specs.Ends.{Plays}
 use Rattle.schedule_loop.specs.Plans.{seen_none, seen_on}
 use Rattle.packet_runs.specs.Runs.{course_on, packet_rules}

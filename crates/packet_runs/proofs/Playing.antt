@@ -4,8 +4,8 @@ use Rattle.tal_tree.specs.declared.site.Site.{Site}
 use Rattle.schedule.specs.declared.line.Line.{Line}
 use Rattle.player.specs.declared.standing.Sizes.{Sizes}
 use Rattle.player.specs.declared.stop.ProcessorStop.{ProcessorStop}
-use Rattle.packet_wires.specs.Play.{Packeted, packeted_at_boot}
-use Rattle.packet_wires.specs.Wires.{Wires}
+use Rattle.site_machine.specs.packet_wires.specs.Play.{Packeted, packeted_at_boot}
+use Rattle.site_machine.specs.packet_wires.specs.Wires.{Wires}
 use Rattle.schedule_loop.specs.Ends.{CanBePlayed, Course, IsRunOn}
 use Rattle.schedule_loop.specs.declared.ran.Ending.{Ending}
 use Rattle.site_machine.specs.Needs.{IsReady}

@@ -7,13 +7,13 @@ use Rattle.player.specs.Lines.{aimed}
 use Rattle.player.specs.declared.player.Player.{Player}
 use Rattle.player.specs.declared.standing.Sizes.{Sizes}
 use Rattle.player.specs.declared.stop.ProcessorStop.{ProcessorStop}
-use Rattle.node_copies.specs.ShownCounts.{replies_in, writes_in}
+use Rattle.site_machine.specs.node_copies.specs.ShownCounts.{replies_in, writes_in}
 use Rattle.packet_words.specs.declared.packet.Packet.{Packet}
 use Rattle.packet_words.specs.declared.packet.PacketKind.{PacketKind}
 use Rattle.packet_words.specs.declared.packet.PacketKind.TheVariants.{Alive}
-use Rattle.packet_wires.specs.Idle.{is_idle}
-use Rattle.packet_wires.specs.Play.{Packeted, count_on, packet_at, packeted_at_boot, play}
-use Rattle.packet_wires.specs.Wires.{Wires, bus_named}
+use Rattle.site_machine.specs.packet_wires.specs.Idle.{is_idle}
+use Rattle.site_machine.specs.packet_wires.specs.Play.{Packeted, count_on, packet_at, packeted_at_boot, play}
+use Rattle.site_machine.specs.packet_wires.specs.Wires.{Wires, bus_named}
 use Rattle.schedule_loop.specs.Ends.{Course}
 use Rattle.schedule_loop.specs.Rules.{Rules}
 use Rattle.site_machine.specs.Seen.{closed_state}

@@ -5,8 +5,8 @@ ghost use Rattle.schedule.specs.declared.event.Event.{Event};
 ghost use Rattle.schedule.specs.declared.line.Line.{Line};
 ghost use Rattle.player.specs.declared.stop.ProcessorStop.{ProcessorStop};
 ghost use Rattle.agendas.specs.Agendas.{Agenda};
-ghost use Rattle.packet_wires.specs.Play.{Packeted};
-ghost use Rattle.packet_wires.specs.Runs.{IsPlayed};
+ghost use Rattle.site_machine.specs.packet_wires.specs.Play.{Packeted};
+ghost use Rattle.site_machine.specs.packet_wires.specs.Runs.{IsPlayed};
 ghost use Rattle.schedule_loop.specs.Ends.{Plays};
 ghost use Rattle.packet_runs.specs.Runs.{course_on, packet_rules};
 

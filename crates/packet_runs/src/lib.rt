@@ -14,3 +14,5 @@ mod running;
 pub use laws::events_of_a_schedule_are_played;
 pub use ran::Ran;
 pub use running::run;
+pub use site_machine;
+pub use site_machine::world_copies;

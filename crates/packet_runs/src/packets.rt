@@ -1,8 +1,8 @@
 ghost use Rattle.std.specs.Prelude.{◌≡◌, false, Bool, IfOk, None, Some};
 ghost use Rattle.std.specs.Option.{option_copied};
-ghost use Rattle.packet_wires.specs.Play.{packeted_at_boot};
-ghost use Rattle.packet_wires.specs.Wires as wires;
-ghost use Rattle.process_copies.specs.Starting.{IsStartable};
+ghost use Rattle.site_machine.specs.packet_wires.specs.Play.{packeted_at_boot};
+ghost use Rattle.site_machine.specs.packet_wires.specs.Wires as wires;
+ghost use Rattle.site_machine.specs.process_copies.specs.Starting.{IsStartable};
 ghost use Rattle.site_machine.specs.Needs.{IsReady};
 ghost use Rattle.packet_runs.specs.Runs.{concerned, is_alive, packet_rules, sender_of};
 

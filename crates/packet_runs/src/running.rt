@@ -1,5 +1,5 @@
 ghost use Rattle.std.specs.Prelude.{◌≡◌, IfOk};
-ghost use Rattle.process_copies.specs.Starting.{IsStartable};
+ghost use Rattle.site_machine.specs.process_copies.specs.Starting.{IsStartable};
 ghost use Rattle.schedule_loop.specs.Ends.{CanBePlayed};
 ghost use Rattle.site_machine.specs.Needs.{IsReady};
 ghost use Rattle.packet_runs.specs.Ends.{IsRunOf};

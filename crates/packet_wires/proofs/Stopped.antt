@@ -4,7 +4,7 @@ use Rattle.std.specs.Int.{int_wrap}
 use denote.Hole.Carrier.{shown, out}
 use Rattle.tal_tree.specs.declared.statement.What.{out-What}
 use Rattle.tal_tree.specs.declared.statement.What.TheBlock.{shown-the_row-Statement-0}
-use Rattle.world_semantics.specs.Examples.{reply}
+use Rattle.message_layout.specs.world_semantics.specs.Examples.{reply}
 use Rattle.packet_wires.specs.Idle.{is_idle}
 use Rattle.packet_wires.specs.Sights.{buses_from, end_of}
 use Rattle.packet_wires.specs.Examples.{after_takeover, before_third_piece, buses_alone, taken_over, ticks_alone}

@@ -4,7 +4,7 @@ use Rattle.std.specs.Prelude.{Some, None}
 use Rattle.schedule.specs.declared.event.Event.{Event}
 use Rattle.schedule.specs.declared.event.Event.TheVariants as event
 use Rattle.packet_words.specs.declared.packet.Packet.{Packet}
-use Rattle.world_semantics.specs.Examples.{adder_for, run}
+use Rattle.message_layout.specs.world_semantics.specs.Examples.{adder_for, run}
 use Rattle.packet_wires.specs.Play.{Packeted, packeted_at_boot, play}
 use Rattle.packet_wires.specs.Sights.{Sight, Buses, alive, piece, last, acknowledged, only_x, none, state_after, end_of}
 

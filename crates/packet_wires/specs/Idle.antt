@@ -3,7 +3,7 @@
 use Rattle.std.specs.Prelude.{ℕ, ◌&&◌, ◌||◌, Bool, true, not, List, Option, Some, None}
 use Rattle.std.specs.List.{list_all}
 use Rattle.link_control.specs.Ends.{End, is_empty}
-use Rattle.world_semantics.specs.World.{is_running}
+use Rattle.message_layout.specs.world_semantics.specs.World.{is_running}
 use Rattle.message_wires.specs.Idle.{none_enters, none_runs, none_waits, all_noted}
 use Rattle.packet_wires.specs.Nodes.{Node, all_nodes, end_at}
 use Rattle.packet_wires.specs.Play.{Packeted}

@@ -6,3 +6,7 @@ pub mod Play
 pub mod Runs
 pub mod Sights
 pub mod Wires
+pub use Rattle.message_wires.specs.letters
+pub use Rattle.message_wires.specs.machine_states
+pub use Rattle.message_layout
+pub use Rattle.message_wires

@@ -13,14 +13,14 @@ use Rattle.packet_words.specs.declared.bus_name.BusName.{BusName}
 use Rattle.link_control.specs.Ends.{End, handed_by_packet}
 use Rattle.alive_regroup.specs.Watching as watching
 use Rattle.alive_regroup.specs.Watching.{changed_at}
-use Rattle.world_semantics.specs.World.{boot, is_running}
-use Rattle.world_semantics.specs.Running.{Done, run_done}
-use Rattle.computed_changes.specs.Entered.{enter_done}
-use Rattle.computed_changes.specs.Handed.{handed_done}
-use Rattle.computed_changes.specs.Stopped.{stop_done, stopped_world, down_done}
-use Rattle.letters.specs.Routes.{letters_of}
-use Rattle.letters.specs.Again.{sent_again}
-use Rattle.machine_states.specs.States.{State, Played, Makes, Skips, WouldStop}
+use Rattle.message_layout.specs.world_semantics.specs.World.{boot, is_running}
+use Rattle.message_layout.specs.world_semantics.specs.Running.{Done, run_done}
+use Rattle.message_wires.specs.computed_changes.specs.Entered.{enter_done}
+use Rattle.message_wires.specs.computed_changes.specs.Handed.{handed_done}
+use Rattle.message_wires.specs.computed_changes.specs.Stopped.{stop_done, stopped_world, down_done}
+use Rattle.message_wires.specs.letters.specs.Routes.{letters_of}
+use Rattle.message_wires.specs.letters.specs.Again.{sent_again}
+use Rattle.message_wires.specs.machine_states.specs.States.{State, Played, Makes, Skips, WouldStop}
 use Rattle.message_wires.specs.Play.{has_stopped}
 use Rattle.message_layout.specs.Messages.{NodeMessage, Carrying, Reporting, Declaring}
 use Rattle.message_layout.specs.Reading.{understood}

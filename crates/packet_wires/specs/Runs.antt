@@ -2,7 +2,7 @@
 use Rattle.std.specs.Prelude.{◌≡◌, List, [], ◌∷◌, ◌++◌}
 use Rattle.tal_tree.specs.declared.site.Site.{Site}
 use Rattle.schedule.specs.declared.event.Event.{Event}
-use Rattle.machine_states.specs.States.{Makes, Skips}
+use Rattle.message_wires.specs.machine_states.specs.States.{Makes, Skips}
 use Rattle.packet_wires.specs.Play.{Packeted, packeted_at_boot, play}
 
 -- a state is reached from the beginning by these events in turn, each of which makes the next state or is skipped

@@ -1,7 +1,7 @@
 -- Packets as they are seen on the buses in worked runs.
 use Rattle.std.specs.Prelude.{ℕ, if◌then◌else◌, List, [], ◌∷◌, map}
 use Rattle.schedule.specs.declared.event.Event.{Event}
-use Rattle.machine_states.specs.States.{Played, Makes, Skips, WouldStop}
+use Rattle.message_wires.specs.machine_states.specs.States.{Played, Makes, Skips, WouldStop}
 use Rattle.packet_words.specs.declared.packet.Packet.{Packet}
 use Rattle.packet_words.specs.declared.packet.PacketKind.{PacketKind}
 use Rattle.packet_words.specs.declared.packet.PacketKind.TheVariants as kind

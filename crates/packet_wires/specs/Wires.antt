@@ -16,8 +16,8 @@ use Rattle.link_control.specs.Ends.{sent_by_tick, after_down}
 use Rattle.alive_regroup.specs.declared.set.ProcessorSet.{ProcessorSet}
 use Rattle.alive_regroup.specs.Watching as watching
 use Rattle.alive_regroup.specs.Watching.{Watching, changed_at, told_by_tick}
-use Rattle.world_semantics.specs.World.{is_running, terminal_node}
-use Rattle.letters.specs.Routes.{Letter}
+use Rattle.message_layout.specs.world_semantics.specs.World.{is_running, terminal_node}
+use Rattle.message_wires.specs.letters.specs.Routes.{Letter}
 use Rattle.message_layout.specs.Messages.{NodeMessage, Carrying, Reporting, Declaring}
 use Rattle.message_layout.specs.Layout.{words_of}
 use Rattle.packet_wires.specs.Nodes.{Node, nodes_at_boot, all_nodes, others, with_end, with_watch}

@@ -1,7 +1,7 @@
 //! Worked runs over packets, packet by packet.
 ghost use Rattle.std.specs.Prelude.{◌≡◌, pos, true, false, [], ◌∷◌};
 ghost use Rattle.schedule.specs.declared.event.Event.TheVariants as event;
-ghost use Rattle.world_semantics.specs.Examples.{reply};
+ghost use Rattle.message_layout.specs.world_semantics.specs.Examples.{reply};
 ghost use Rattle.packet_wires.specs.Idle.{is_idle};
 ghost use Rattle.packet_wires.specs.Sights.{acknowledged, alive, buses_from, end_of, last, seen};
 ghost use Rattle.packet_wires.specs.Examples.{adder_at_boot, after_four, after_takeover, before_third_piece};

@@ -5,8 +5,8 @@ use Rattle.tal_tree.specs.declared.site.Site.{Site}
 use Rattle.schedule.specs.declared.event.Event.{Event}
 use Rattle.world_semantics.specs.World.{Down}
 use Rattle.world_semantics.proofs.Reached.{run-marks}
-use Rattle.takeover_laws.specs.Fit.{IsFit}
-use Rattle.awaited_requests.specs.Seats.{IsLaidOut}
+use Rattle.message_wires_laws.specs.takeover_laws.specs.Fit.{IsFit}
+use Rattle.message_wires_laws.specs.awaited_requests.specs.Seats.{IsLaidOut}
 use Rattle.letters_layout.specs.Fitting.{IsSmall}
 use Rattle.packet_wires.specs.Play.{Packeted}
 use Rattle.packet_wires.specs.Runs.{IsPlayed}

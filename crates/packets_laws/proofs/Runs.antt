@@ -11,16 +11,16 @@ use Rattle.world_semantics.specs.Messages.{Handing}
 use Rattle.computed_changes.specs.Handed.{handed_done}
 use Rattle.computed_changes.specs.Laws.{HasCopiesApart, IsSent}
 use Rattle.computed_changes.proofs.Outcomes.{idle-where, run-only}
-use Rattle.takeover_laws.specs.Fit.{IsFit}
-use Rattle.awaited_requests.specs.Seats.{IsLaidOut}
+use Rattle.message_wires_laws.specs.takeover_laws.specs.Fit.{IsFit}
+use Rattle.message_wires_laws.specs.awaited_requests.specs.Seats.{IsLaidOut}
 use Rattle.letters_layout.specs.Fitting.{IsSmall}
 use Rattle.letters_layout.proofs.Letters.{all-fit}
 use Rattle.letters.specs.Posts.{Post}
 use Rattle.letters.specs.Posts as posts
 use Rattle.letters.specs.Routes.{Letter}
 use Rattle.letters.proofs.Worlds.{played-run}
-use Rattle.letter_laws.proofs.Fitting.{letter-fits}
-use Rattle.letter_laws.proofs.Honest.{played-honest}
+use Rattle.message_wires_laws.specs.letter_laws.proofs.Fitting.{letter-fits}
+use Rattle.message_wires_laws.specs.letter_laws.proofs.Honest.{played-honest}
 use Rattle.packet_wires.specs.Play.{Packeted, play, completed, packet_at}
 use Rattle.packet_wires.specs.Nodes.{end_at}
 use Rattle.world_semantics.specs.World.{is_running}

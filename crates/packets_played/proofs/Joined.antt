@@ -5,10 +5,10 @@ use Rattle.schedule.specs.declared.event.Event.{Event}
 use Rattle.plain_semantics.specs.SiteLimits.{KeepsSiteLimits}
 use Rattle.letters.specs.Routes.{Letter}
 use Rattle.world_semantics.specs.Follows.{IsRun}
-use Rattle.awaited_requests.specs.Seats.{IsLaidOut}
-use Rattle.accepted_sites.proofs.Accepted.{accepted-fit}
-use Rattle.accepted_sites.specs.Premises.{IsAcceptedSite}
-use Rattle.idle_end.specs.Ends.{IsIdleEnd}
+use Rattle.idle_laws.specs.awaited_requests.specs.Seats.{IsLaidOut}
+use Rattle.idle_laws.specs.accepted_sites.proofs.Accepted.{accepted-fit}
+use Rattle.idle_laws.specs.accepted_sites.specs.Premises.{IsAcceptedSite}
+use Rattle.idle_laws.specs.idle_end.specs.Ends.{IsIdleEnd}
 use Rattle.idle_laws.proofs.Ended.{played-ends}
 use Rattle.packet_wires.specs.Idle.{is_idle}
 use Rattle.packet_wires.specs.Play.{Packeted}

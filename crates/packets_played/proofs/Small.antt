@@ -18,10 +18,10 @@ use Rattle.plain_semantics.specs.Openers.{opens, file_opener, files_from, files_
 use Rattle.plain_semantics.specs.Openers.{terminals_from, openers_by, openers_of}
 use Rattle.plain_semantics.specs.SiteLimits.{KeepsSiteLimits}
 use Rattle.plain_semantics.proofs.Few.{openers-few}
-use Rattle.tal_laws.proofs.Ordered.{read_is_ordered}
-use Rattle.tal_laws.proofs.WithinLimits.{read_is_within}
-use Rattle.accepted_sites.specs.Premises.{IsAcceptedSite}
-use Rattle.letters_layout.specs.Fitting.{IsSmall}
+use Rattle.idle_laws.specs.tal_laws.proofs.Ordered.{read_is_ordered}
+use Rattle.idle_laws.specs.tal_laws.proofs.WithinLimits.{read_is_within}
+use Rattle.idle_laws.specs.accepted_sites.specs.Premises.{IsAcceptedSite}
+use Rattle.packets_laws.specs.letters_layout.specs.Fitting.{IsSmall}
 
 -- Depths
 

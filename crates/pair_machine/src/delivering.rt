@@ -5,7 +5,7 @@ ghost use Rattle.number_ranges.specs.HasRoom.{HasRoom};
 ghost use Rattle.message_wires.specs.Play.{after_any, comes_in, deliver_played, lose_played, packet_at};
 ghost use Rattle.message_wires.specs.Play.{state_after_receiving, repeat_played};
 ghost use Rattle.sendings.specs.Seen.{message_of};
-ghost use Rattle.node_copies.specs.Seen.{step_sendings};
+ghost use Rattle.world_copies.specs.node_copies.specs.Seen.{step_sendings};
 ghost use Rattle.world_copies.specs.Room.{NamesItsOpener};
 ghost use Rattle.world_copies.specs.Told.{sent_in};
 ghost use Rattle.pair_machine.specs.Room.{AreCounted, AreCountedAfter, OpenersAreThere};
@@ -14,9 +14,9 @@ ghost use Rattle.pair_machine.specs.Told.{unsent};
 use crate::whole::MachineParts;
 use gd_words::NoMemory;
 use machine_states::Effect;
-use node_copies::StepOutcome;
 use posted_letters::Sent;
 use sendings::Message;
+use world_copies::node_copies::StepOutcome;
 
 impl MachineParts {
     /// The packet at a position of a bus is taken off, and its letter comes in or is dropped.

@@ -2,11 +2,11 @@ ghost use Rattle.std.specs.Prelude.{◌≡◌, false, true, length, reverse, if�
 ghost use Rattle.std.specs.Option.{option_map};
 ghost use Rattle.machine_states.specs.States.{Settles};
 ghost use Rattle.world_semantics.specs.Kept.{acts_of};
-ghost use Rattle.node_copies.specs.ShownCounts.{replies_in, writes_in};
+ghost use Rattle.world_copies.specs.node_copies.specs.ShownCounts.{replies_in, writes_in};
 ghost use Rattle.message_wires.specs.Idle.{is_idle};
 ghost use Rattle.message_wires.specs.Play.{packet_at, play, machine_at_boot};
 ghost use Rattle.number_ranges.specs.HasRoom.{HasRoom, HasRoomForLetters};
-ghost use Rattle.process_copies.specs.Starting.{IsStartable};
+ghost use Rattle.world_copies.specs.process_copies.specs.Starting.{IsStartable};
 ghost use Rattle.world_copies.specs.Seen.{ArePlaced, pairs_in};
 ghost use Rattle.pair_machine.specs.Room.{OpenersAreThere};
 ghost use Rattle.pair_machine.specs.Seen.{closed_state, kind_at};
@@ -15,13 +15,13 @@ use crate::whole::MachineParts;
 use gd_words::NoMemory;
 use logs::Shared;
 use machine_states::Effect;
-use node_copies::Downs;
-use process_copies::ProcessCopies;
 use schedule::Event;
 use std::alloc::Global;
 use std::marker::Model;
 use tal_tree::{Act, Shown, Site};
 use world_copies::Terminal;
+use world_copies::node_copies::Downs;
+use world_copies::process_copies::ProcessCopies;
 
 /// The kind of a packet that carries a piece of a message.
 const PIECE: u8 = 1;

@@ -1,13 +1,13 @@
 ghost use Rattle.std.specs.Prelude.{◌≡◌, [], ◌∷◌, IfOk, OnOk};
 ghost use Rattle.pair_machine.specs.Room.{AreCounted, AreCountedTelling};
 ghost use Rattle.pair_machine.specs.Told.{Answers, sent_all};
-ghost use Rattle.node_copies.specs.Seen.{step_sendings};
+ghost use Rattle.world_copies.specs.node_copies.specs.Seen.{step_sendings};
 
 use crate::whole::MachineParts;
 use gd_words::{List, NoMemory};
 use machine_states::Effect;
-use node_copies::StepOutcome;
 use sendings::{Letter, Sending};
+use world_copies::node_copies::StepOutcome;
 
 impl MachineParts {
     /// A message is sent at a node: a letter is posted to where the node finds the receiver.

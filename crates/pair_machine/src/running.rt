@@ -4,7 +4,7 @@ ghost use Rattle.machine_states.specs.States.{Settles};
 ghost use Rattle.message_wires.specs.Play.{made_by};
 ghost use Rattle.number_ranges.specs.HasRoom.{HasRoom};
 ghost use Rattle.world_semantics.specs.Running.{run_done};
-ghost use Rattle.node_copies.specs.Seen.{step_sendings};
+ghost use Rattle.world_copies.specs.node_copies.specs.Seen.{step_sendings};
 ghost use Rattle.world_copies.specs.Told.{sent_in};
 ghost use Rattle.pair_machine.specs.Room.{AreCountedAfter};
 ghost use Rattle.pair_machine.specs.Told.{unsent};
@@ -12,7 +12,7 @@ ghost use Rattle.pair_machine.specs.Told.{unsent};
 use crate::whole::MachineParts;
 use gd_words::NoMemory;
 use machine_states::Effect;
-use node_copies::StepOutcome;
+use world_copies::node_copies::StepOutcome;
 
 impl MachineParts {
     /// A process runs.

@@ -1,7 +1,7 @@
 ghost use Rattle.std.specs.Prelude.{◌≡◌, length, IfOk, OnOk};
 ghost use Rattle.message_wires.specs.Idle.{is_idle};
 ghost use Rattle.message_wires.specs.Play.{machine_at_boot};
-ghost use Rattle.process_copies.specs.Starting.{IsStartable};
+ghost use Rattle.world_copies.specs.process_copies.specs.Starting.{IsStartable};
 ghost use Rattle.pair_machine.specs.Seen.{closed_state};
 
 use gd_words::NoMemory;

@@ -18,7 +18,7 @@ use Rattle.plain_semantics.specs.declared.slot.Slot.{Slot}
 use Rattle.plain_semantics.specs.declared.slot.Slot.TheVariants.{Empty, Waiting, Taken, Answered}
 use Rattle.whole_states.specs.Processes.{IsRegularKind}
 use Rattle.disc_device.specs.declared.stored.Stored.{Stored}
-use Rattle.checkpoint_image.specs.Receive.{is_place}
+use Rattle.world_semantics.specs.checkpoint_image.specs.Receive.{is_place}
 use Rattle.world_semantics.specs.Core.{Core, Deed, Went, Checkpointed, Took, Asked, Got, Answered as Replied, Acted}
 use Rattle.world_semantics.specs.Core.{Advances, goes, marks, takes, asks, gets, answers, acts}
 use Rattle.world_semantics.proofs.Lists.{some-same}

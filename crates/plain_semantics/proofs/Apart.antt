@@ -2,10 +2,10 @@
 use Rattle.std.proofs.Common.{◌≡◌, inl, inr, ℕ, zero, suc, List, [], ◌∷◌, Option, Some, None, slice_get, slice_set}
 use Rattle.std.proofs.Common.{refl, ap, sym, ◌∙◌}
 use Rattle.std.specs.Option.{option_and_then, unwrap_or}
-use Rattle.tal_tree.specs.declared.act.Act.{Act}
-use Rattle.tal_tree.specs.declared.act.Act.TheVariants.{Step, Take, Enter, Print}
-use Rattle.tal_tree.specs.declared.site.Site.{Site}
-use Rattle.tal_tree.specs.declared.site.Who.TheVariants as who
+use Rattle.process_semantics.specs.tal_tree.specs.declared.act.Act.{Act}
+use Rattle.process_semantics.specs.tal_tree.specs.declared.act.Act.TheVariants.{Step, Take, Enter, Print}
+use Rattle.process_semantics.specs.tal_tree.specs.declared.site.Site.{Site}
+use Rattle.process_semantics.specs.tal_tree.specs.declared.site.Who.TheVariants as who
 use Rattle.process_semantics.specs.declared.point.Point.{Point}
 use Rattle.process_semantics.specs.declared.point.Point.TheVariants as point
 use Rattle.process_semantics.specs.Process as process
@@ -17,7 +17,7 @@ use Rattle.plain_semantics.specs.Machine.{Plain, PlainProcess, Made, with_proces
 use Rattle.plain_semantics.specs.Machine.{own_opener, got_made, answered_by, step_at, step_made, take_slot, take_at}
 use Rattle.plain_semantics.specs.Machine.{take_made, entered_at, next_request, enter_request, enter_made, print_made}
 use Rattle.plain_semantics.specs.Machine.{made}
-use Rattle.gd_words.specs.Members.{IsAmong}
+use Rattle.process_semantics.specs.gd_words.specs.Members.{IsAmong}
 use Rattle.plain_semantics.specs.Concerns.{server_in, asked_at, asked_by, concerned, terminals_in, AreApart}
 
 set-other : {A : Type 0} (xs : List A) (i j : ℕ) (x : A) → (j ≡ i → ⊥) → slice_get (slice_set xs i x) j ≡ slice_get xs j

@@ -4,12 +4,12 @@ use Rattle.std.proofs.Common.{Some, None, slice_get, arith}
 use Rattle.std.proofs.lemmas.List.{length-append}
 use Rattle.std.proofs.lemmas.List.Elements.{All-head, All-tail}
 use Rattle.std.specs.List.{All}
-use Rattle.tal_tree.specs.declared.site.Who.TheVariants as who
-use Rattle.tal_tree.specs.declared.program.FileUse.{FileUse}
-use Rattle.tal_tree.specs.declared.site.Site.{Site}
-use Rattle.tal_tree.specs.declared.site.OpenerSpec.{OpenerSpec}
-use Rattle.tal_tree.specs.declared.site.ProcessSpec.{ProcessSpec}
-use Rattle.tal_tree.specs.declared.site.TerminalSpec.{TerminalSpec}
+use Rattle.process_semantics.specs.tal_tree.specs.declared.site.Who.TheVariants as who
+use Rattle.process_semantics.specs.tal_tree.specs.declared.program.FileUse.{FileUse}
+use Rattle.process_semantics.specs.tal_tree.specs.declared.site.Site.{Site}
+use Rattle.process_semantics.specs.tal_tree.specs.declared.site.OpenerSpec.{OpenerSpec}
+use Rattle.process_semantics.specs.tal_tree.specs.declared.site.ProcessSpec.{ProcessSpec}
+use Rattle.process_semantics.specs.tal_tree.specs.declared.site.TerminalSpec.{TerminalSpec}
 use Rattle.plain_semantics.specs.Openers.{opens, file_opener, files_of, files_from, processes_from, terminal_opener}
 use Rattle.plain_semantics.specs.Openers.{terminals_from, openers_by, openers_of}
 use Rattle.plain_semantics.specs.SiteLimits.{KeepsSiteLimits}

@@ -2,9 +2,9 @@
 use Rattle.std.proofs.Common.{◌≡◌, true, is_some, List, [], ◌∷◌, ◌++◌, Option, Some, None, refl, ap, sym, ◌∙◌}
 use Rattle.std.proofs.Common.{append_assoc, append-nil}
 use Rattle.std.specs.Option.{option_map, option_and_then, unwrap_or}
-use Rattle.tal_tree.specs.declared.act.Act.{Act}
-use Rattle.tal_tree.specs.declared.act.Shown.{Shown}
-use Rattle.tal_tree.specs.declared.site.Site.{Site}
+use Rattle.process_semantics.specs.tal_tree.specs.declared.act.Act.{Act}
+use Rattle.process_semantics.specs.tal_tree.specs.declared.act.Shown.{Shown}
+use Rattle.process_semantics.specs.tal_tree.specs.declared.site.Site.{Site}
 use Rattle.plain_semantics.specs.Machine.{Plain, Made, made, made_before, made_all, made_after, IsPossible, shown_by}
 use Rattle.plain_semantics.specs.Machine.{plain_start}
 

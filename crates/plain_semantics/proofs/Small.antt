@@ -4,9 +4,9 @@ use Rattle.std.specs.Prelude.{nat_le}
 use Rattle.std.specs.List.{All, list_all}
 use Rattle.std.proofs.lemmas.Bool.{leb-true, le-leb}
 use Rattle.std.proofs.lemmas.List.Elements.{All-cons, All-head, All-nil, All-tail}
-use Rattle.tal_tree.specs.declared.site.ProcessSpec.{ProcessSpec}
-use Rattle.tal_tree.specs.declared.site.Site.{Site}
-use Rattle.tal_tree.specs.declared.site.TerminalSpec.{TerminalSpec}
+use Rattle.process_semantics.specs.tal_tree.specs.declared.site.ProcessSpec.{ProcessSpec}
+use Rattle.process_semantics.specs.tal_tree.specs.declared.site.Site.{Site}
+use Rattle.process_semantics.specs.tal_tree.specs.declared.site.TerminalSpec.{TerminalSpec}
 use Rattle.plain_semantics.specs.Counted.{have_few_files, have_few_requests, is_small}
 use Rattle.plain_semantics.specs.Openers.{files_of}
 use Rattle.plain_semantics.specs.SiteLimits.{KeepsSiteLimits}

@@ -3,11 +3,11 @@ use Rattle.std.proofs.Common.{◌≡◌, ℕ, zero, suc, ◌+◌, List, [], ◌�
 use Rattle.std.proofs.Common.{◌<◌, refl, ap, sym, ◌∙◌, arith}
 use Rattle.std.proofs.Math.ListN.{get_or}
 use Rattle.std.proofs.Math.Seq.{drop-cons}
-use Rattle.tal_tree.specs.declared.site.ProcessSpec.{ProcessSpec}
+use Rattle.process_semantics.specs.tal_tree.specs.declared.site.ProcessSpec.{ProcessSpec}
 use Rattle.plain_semantics.specs.Openers.{files_of, files_from, processes_from}
 use Rattle.std.specs.Option.{option_map}
-use Rattle.tal_tree.specs.declared.site.Who.{Who}
-use Rattle.tal_tree.specs.declared.site.OpenerSpec.{OpenerSpec}
+use Rattle.process_semantics.specs.tal_tree.specs.declared.site.Who.{Who}
+use Rattle.process_semantics.specs.tal_tree.specs.declared.site.OpenerSpec.{OpenerSpec}
 use Rattle.plain_semantics.specs.declared.placed.Sought.{Sought}
 use Rattle.plain_semantics.specs.declared.placed.Sought.TheVariants.{At, Past}
 use Rattle.plain_semantics.specs.Sought.{sought}

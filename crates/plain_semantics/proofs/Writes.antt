@@ -1,7 +1,7 @@
 -- A call of a disc raises the number of its last write to the next number at most.
 use Rattle.std.proofs.Common.{◌≤◌, ℕ, ◌+◌, ◌==◌, ◌&&◌, ℤ, pos, Bool, true, false, if◌then◌else◌, List, [], ◌∷◌, length}
 use Rattle.std.proofs.Common.{Option, Some, None, nat_le, int_eq, arith}
-use Rattle.gd_words.specs.declared.device.DeviceCall.TheVariants.{Nothing, Read, Write}
+use Rattle.process_semantics.specs.gd_words.specs.declared.device.DeviceCall.TheVariants.{Nothing, Read, Write}
 use Rattle.process_semantics.specs.Disc.{call_of, call_at, sector_of, filled, last_write_after}
 
 call-at-next : (last : ℕ) (kind : ℤ) (words : List ℤ) (sector : Option ℕ)

@@ -1,10 +1,10 @@
 -- Which processes an act concerns: those whose state or slots it reads or changes.
 use Rattle.std.specs.Prelude.{ℕ, List, [], ◌∷◌, slice_get, Option, Some, None}
-use Rattle.gd_words.specs.Members.{IsAmong}
-use Rattle.tal_tree.specs.declared.act.Act.{Act}
-use Rattle.tal_tree.specs.declared.act.Act.TheVariants.{Step, Take, Enter, Print}
-use Rattle.tal_tree.specs.declared.site.Site.{Site}
-use Rattle.tal_tree.specs.declared.site.Who.TheVariants as who
+use Rattle.process_semantics.specs.gd_words.specs.Members.{IsAmong}
+use Rattle.process_semantics.specs.tal_tree.specs.declared.act.Act.{Act}
+use Rattle.process_semantics.specs.tal_tree.specs.declared.act.Act.TheVariants.{Step, Take, Enter, Print}
+use Rattle.process_semantics.specs.tal_tree.specs.declared.site.Site.{Site}
+use Rattle.process_semantics.specs.tal_tree.specs.declared.site.Who.TheVariants as who
 use Rattle.process_semantics.specs.declared.point.Point.{Point}
 use Rattle.process_semantics.specs.declared.point.Point.TheVariants as point
 use Rattle.process_semantics.specs.Process as process

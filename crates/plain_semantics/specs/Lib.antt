@@ -4,3 +4,4 @@ pub mod Machine
 pub mod Openers
 pub mod SiteLimits
 pub mod Sought
+pub use Rattle.process_semantics

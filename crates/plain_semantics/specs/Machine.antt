@@ -3,17 +3,17 @@
 use Rattle.std.specs.Prelude.{ℕ, ◌+◌, ℤ, ◌≡◌, List, [], ◌∷◌, ◌++◌, map, replicate, slice_get, slice_set, Option, Some}
 use Rattle.std.specs.Prelude.{None}
 use Rattle.std.specs.Option.{option_map, option_and_then, unwrap_or, IsSome}
-use Rattle.gd_words.specs.declared.device.DeviceCall.{DeviceCall}
-use Rattle.gd_words.specs.declared.device.DeviceCall.TheVariants as call
-use Rattle.tal_tree.specs.declared.act.Act.{Act}
-use Rattle.tal_tree.specs.declared.act.Act.TheVariants.{Step, Take, Enter, Print}
-use Rattle.tal_tree.specs.declared.act.Shown.{Shown}
-use Rattle.tal_tree.specs.declared.act.Shown.TheVariants.{Write, Reply}
-use Rattle.tal_tree.specs.declared.site.Site.{Site}
-use Rattle.tal_tree.specs.declared.site.ProcessSpec.{ProcessSpec}
-use Rattle.tal_tree.specs.declared.site.Kind.{Kind}
-use Rattle.tal_tree.specs.declared.site.Kind.TheVariants as kind
-use Rattle.tal_tree.specs.declared.site.Who.TheVariants as who
+use Rattle.process_semantics.specs.gd_words.specs.declared.device.DeviceCall.{DeviceCall}
+use Rattle.process_semantics.specs.gd_words.specs.declared.device.DeviceCall.TheVariants as call
+use Rattle.process_semantics.specs.tal_tree.specs.declared.act.Act.{Act}
+use Rattle.process_semantics.specs.tal_tree.specs.declared.act.Act.TheVariants.{Step, Take, Enter, Print}
+use Rattle.process_semantics.specs.tal_tree.specs.declared.act.Shown.{Shown}
+use Rattle.process_semantics.specs.tal_tree.specs.declared.act.Shown.TheVariants.{Write, Reply}
+use Rattle.process_semantics.specs.tal_tree.specs.declared.site.Site.{Site}
+use Rattle.process_semantics.specs.tal_tree.specs.declared.site.ProcessSpec.{ProcessSpec}
+use Rattle.process_semantics.specs.tal_tree.specs.declared.site.Kind.{Kind}
+use Rattle.process_semantics.specs.tal_tree.specs.declared.site.Kind.TheVariants as kind
+use Rattle.process_semantics.specs.tal_tree.specs.declared.site.Who.TheVariants as who
 use Rattle.process_semantics.specs.declared.point.Point.{Point}
 use Rattle.process_semantics.specs.declared.point.Point.TheVariants as point
 use Rattle.process_semantics.specs.Process as process

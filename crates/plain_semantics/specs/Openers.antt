@@ -4,17 +4,17 @@ use Rattle.std.specs.Prelude.{ℕ, ◌+◌, ◌==◌, ◌&&◌, Bool, false, if�
 use Rattle.std.specs.Prelude.{Some, None}
 use Rattle.std.specs.Option.{option_map}
 use Rattle.std.specs.Str.{bytes_eq}
-use Rattle.tal_tree.specs.declared.program.FileUse.{FileUse}
-use Rattle.tal_tree.specs.declared.program.Target.{Target}
-use Rattle.tal_tree.specs.declared.program.Target.TheVariants as target
-use Rattle.tal_tree.specs.declared.site.Site.{Site}
-use Rattle.tal_tree.specs.declared.site.ProcessSpec.{ProcessSpec}
-use Rattle.tal_tree.specs.declared.site.TerminalSpec.{TerminalSpec}
-use Rattle.tal_tree.specs.declared.site.OpenerSpec.{OpenerSpec}
-use Rattle.tal_tree.specs.declared.site.Kind.{Kind}
-use Rattle.tal_tree.specs.declared.site.Kind.TheVariants as kind
-use Rattle.tal_tree.specs.declared.site.Who.{Who}
-use Rattle.tal_tree.specs.declared.site.Who.TheVariants as who
+use Rattle.process_semantics.specs.tal_tree.specs.declared.program.FileUse.{FileUse}
+use Rattle.process_semantics.specs.tal_tree.specs.declared.program.Target.{Target}
+use Rattle.process_semantics.specs.tal_tree.specs.declared.program.Target.TheVariants as target
+use Rattle.process_semantics.specs.tal_tree.specs.declared.site.Site.{Site}
+use Rattle.process_semantics.specs.tal_tree.specs.declared.site.ProcessSpec.{ProcessSpec}
+use Rattle.process_semantics.specs.tal_tree.specs.declared.site.TerminalSpec.{TerminalSpec}
+use Rattle.process_semantics.specs.tal_tree.specs.declared.site.OpenerSpec.{OpenerSpec}
+use Rattle.process_semantics.specs.tal_tree.specs.declared.site.Kind.{Kind}
+use Rattle.process_semantics.specs.tal_tree.specs.declared.site.Kind.TheVariants as kind
+use Rattle.process_semantics.specs.tal_tree.specs.declared.site.Who.{Who}
+use Rattle.process_semantics.specs.tal_tree.specs.declared.site.Who.TheVariants as who
 use Rattle.plain_semantics.specs.declared.slot.Opener.{Opener}
 
 -- whether two names are one

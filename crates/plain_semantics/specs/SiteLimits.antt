@@ -1,7 +1,7 @@
 -- The limits of a site on which its places rest: they keep within the numbers by which acts and openers name them.
 use Rattle.std.specs.Prelude.{◌≤◌, length}
 use Rattle.std.specs.List.{All}
-use Rattle.tal_tree.specs.declared.site.Site.{Site}
+use Rattle.process_semantics.specs.tal_tree.specs.declared.site.Site.{Site}
 use Rattle.plain_semantics.specs.Openers.{files_of}
 
 -- at most 16 processes and 16 terminals, programs with at most 8 files each, and terminals with at most 1,000 requests

@@ -1,6 +1,6 @@
 -- Looking for a place among openers part by part; only the clauses of private functions cite it.
 use Rattle.std.specs.Prelude.{ℕ, zero, suc, List, [], ◌∷◌}
-use Rattle.tal_tree.specs.declared.site.OpenerSpec.{OpenerSpec}
+use Rattle.process_semantics.specs.tal_tree.specs.declared.site.OpenerSpec.{OpenerSpec}
 use Rattle.plain_semantics.specs.declared.placed.Sought.{Sought}
 use Rattle.plain_semantics.specs.declared.placed.Sought.TheVariants.{At, Past}
 

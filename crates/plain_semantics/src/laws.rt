@@ -1,8 +1,8 @@
 ghost use Rattle.std.specs.Prelude.{◌≡◌, ◌++◌, List, Some, None};
 ghost use Rattle.std.specs.Option.{option_and_then};
-ghost use Rattle.tal_tree.specs.declared.act.Act.{Act};
-ghost use Rattle.tal_tree.specs.declared.act.Shown.{Shown};
-ghost use Rattle.tal_tree.specs.declared.site.Site.{Site};
+ghost use Rattle.process_semantics.specs.tal_tree.specs.declared.act.Act.{Act};
+ghost use Rattle.process_semantics.specs.tal_tree.specs.declared.act.Shown.{Shown};
+ghost use Rattle.process_semantics.specs.tal_tree.specs.declared.site.Site.{Site};
 ghost use Rattle.plain_semantics.specs.Machine.{Plain, Made, made, made_all, made_after, IsPossible, shown_by};
 ghost use Rattle.plain_semantics.specs.Concerns.{AreApart};
 

@@ -1,3 +1,4 @@
 pub mod Consistent
 pub mod Copies
 pub mod Cores
+pub use Rattle.computed_changes

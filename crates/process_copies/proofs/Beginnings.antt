@@ -12,8 +12,8 @@ use Rattle.world_semantics.specs.declared.role.Role.{Role}
 use Rattle.world_semantics.specs.declared.role.Role.TheVariants.{Acting, Watching}
 use Rattle.world_semantics.specs.Core.{core_at_boot}
 use Rattle.world_semantics.specs.World.{Copy, copy_at_boot, device_at_boot, pair_at_boot}
-use Rattle.process_control.specs.Cores.{core_at_start}
-use Rattle.process_control.proofs.Starting.{starts}
+use Rattle.node_copies.specs.process_control.specs.Cores.{core_at_start}
+use Rattle.node_copies.specs.process_control.proofs.Starting.{starts}
 use Rattle.node_copies.specs.Seen.{CopyAndDepths}
 use Rattle.process_copies.specs.Seen.{Placed}
 

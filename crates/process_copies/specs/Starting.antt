@@ -8,7 +8,7 @@ use Rattle.tal_tree.specs.declared.site.Site.{Site}
 use Rattle.plain_semantics.specs.declared.slot.Opener.{Opener}
 use Rattle.plain_semantics.specs.Openers.{files_of}
 use Rattle.plain_semantics.specs.SiteLimits.{KeepsSiteLimits}
-use Rattle.processes.specs.Seen.{IsLoadableKind}
+use Rattle.node_copies.specs.processes.specs.Seen.{IsLoadableKind}
 use Rattle.sync_ids.specs.Tables.{IsDepth}
 
 -- a disc has 1 to 64 sectors

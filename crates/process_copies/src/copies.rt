@@ -2,7 +2,7 @@ ghost use Rattle.std.specs.Prelude.{◌≡◌, length};
 ghost use Rattle.process_semantics.specs.Process.{point};
 ghost use Rattle.plain_semantics.specs.Openers.{openers_of};
 ghost use Rattle.world_semantics.specs.World.{copy_of};
-ghost use Rattle.letters.specs.Routes.{other_end};
+ghost use Rattle.sendings.specs.letters.specs.Routes.{other_end};
 ghost use Rattle.computed_changes.specs.Handed.{copy_in};
 
 use checkpoint_image::{ImageMessage, TakenMessage};

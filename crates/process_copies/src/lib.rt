@@ -16,4 +16,6 @@ mod starting;
 mod telling;
 
 pub use copies::ProcessCopies;
+pub use node_copies;
+pub use node_copies::kept_acts;
 pub use starting::address_of;

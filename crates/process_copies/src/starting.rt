@@ -2,7 +2,7 @@ ghost use Rattle.std.specs.Prelude.{◌≡◌, ◌≤◌, All, Some, length, sli
 ghost use Rattle.std.specs.Option.{IfSome};
 ghost use Rattle.plain_semantics.specs.Openers.{files_of, openers_of};
 ghost use Rattle.plain_semantics.specs.SiteLimits.{KeepsSiteLimits};
-ghost use Rattle.processes.specs.Seen.{IsLoadableKind};
+ghost use Rattle.node_copies.specs.processes.specs.Seen.{IsLoadableKind};
 ghost use Rattle.sync_ids.specs.Tables.{IsDepth};
 ghost use Rattle.world_semantics.specs.World.{device_at_boot, pair_at_boot};
 ghost use Rattle.node_copies.specs.Seen.{file_row, sectors_on};

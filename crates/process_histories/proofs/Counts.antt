@@ -11,10 +11,10 @@ use Rattle.process_semantics.specs.declared.point.Point.{Point}
 use Rattle.process_semantics.specs.declared.point.Point.TheVariants as point
 use Rattle.process_semantics.specs.Process as process
 use Rattle.process_semantics.specs.Process.{ProcessState}
-use Rattle.plain_semantics.specs.Openers.{files_of, openers_of}
-use Rattle.whole_states.specs.Processes.{IsRegularKind}
-use Rattle.checkpoint_image.specs.declared.receive.OpenerBlock.{OpenerBlock}
-use Rattle.checkpoint_image.specs.Receive.{is_place, last_ones}
+use Rattle.world_semantics.specs.plain_semantics.specs.Openers.{files_of, openers_of}
+use Rattle.world_semantics.specs.whole_states.specs.Processes.{IsRegularKind}
+use Rattle.world_semantics.specs.checkpoint_image.specs.declared.receive.OpenerBlock.{OpenerBlock}
+use Rattle.world_semantics.specs.checkpoint_image.specs.Receive.{is_place, last_ones}
 use Rattle.world_semantics.specs.Core.{Core, Deed, Took, Asked, Got, Answered, goes, marks, takes, asks, gets, answers}
 use Rattle.world_semantics.specs.Core.{acts, next_on}
 use Rattle.world_semantics.proofs.Hands.{Stands, start-free, start-hand, take-hand, took-stands, inner-stands}

@@ -6,9 +6,9 @@ use Rattle.std.proofs.lemmas.List.{drop-append-le, drop-drop, length-append, len
 use Rattle.tal_tree.specs.declared.site.OpenerSpec.{OpenerSpec}
 use Rattle.tal_tree.specs.declared.site.ProcessSpec.{ProcessSpec}
 use Rattle.tal_tree.specs.declared.site.Site.{Site}
-use Rattle.plain_semantics.specs.Openers.{openers_of}
-use Rattle.checkpoint_image.specs.declared.receive.OpenerBlock.{OpenerBlock}
-use Rattle.checkpoint_image.specs.Receive.{last_ones}
+use Rattle.world_semantics.specs.plain_semantics.specs.Openers.{openers_of}
+use Rattle.world_semantics.specs.checkpoint_image.specs.declared.receive.OpenerBlock.{OpenerBlock}
+use Rattle.world_semantics.specs.checkpoint_image.specs.Receive.{last_ones}
 use Rattle.world_semantics.specs.Core.{Core, Deed, Answered, goes, marks, takes, asks, gets, answers, acts}
 use Rattle.world_semantics.proofs.Lists.{some-same, mapped}
 use Rattle.process_histories.specs.Histories.{HasDone, nothing_done, one_more}

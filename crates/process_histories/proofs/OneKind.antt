@@ -10,8 +10,8 @@ use Rattle.process_semantics.specs.Process.{ProcessState, Runs, Serves}
 use Rattle.world_semantics.specs.Core.{Core, Deed, goes, marks, takes, asks, gets, answers, acts, next_on}
 use Rattle.tal_tree.specs.declared.program.FileUse.{FileUse}
 use Rattle.tal_tree.specs.declared.site.OpenerSpec.{OpenerSpec}
-use Rattle.checkpoint_image.specs.declared.receive.OpenerBlock.{OpenerBlock}
-use Rattle.plain_semantics.specs.Openers.{files_of, openers_of}
+use Rattle.world_semantics.specs.checkpoint_image.specs.declared.receive.OpenerBlock.{OpenerBlock}
+use Rattle.world_semantics.specs.plain_semantics.specs.Openers.{files_of, openers_of}
 use Rattle.process_histories.specs.Histories.{HasDone, nothing_done, one_more, kind_of}
 
 start-kind : (what : Kind) → kind_of (process.start_of what) ≡ what

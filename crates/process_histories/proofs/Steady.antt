@@ -10,11 +10,12 @@ use Rattle.process_semantics.specs.declared.point.Point.TheVariants as point
 use Rattle.process_semantics.specs.Changes.{with_waiting}
 use Rattle.process_semantics.specs.Process as process
 use Rattle.process_semantics.specs.Process.{ProcessState, Runs, Serves}
-use Rattle.whole_states.specs.Processes.{IsRegularKind}
-use Rattle.whole_states.specs.Whole.{IsWhole}
-use Rattle.whole_states.proofs.Awake.{IsAwake, awake-at, awake-whole, awake-away, waits-at}
-use Rattle.whole_states.proofs.Calls.{start-awake, took-awake, asked-whole, got-awake, answered-awake, marked-awake}
-use Rattle.whole_states.proofs.Inner.{inner-awake}
+use Rattle.world_semantics.specs.whole_states.specs.Processes.{IsRegularKind}
+use Rattle.world_semantics.specs.whole_states.specs.Whole.{IsWhole}
+use Rattle.world_semantics.specs.whole_states.proofs.Awake.{IsAwake, awake-at, awake-whole, awake-away, waits-at}
+use Rattle.world_semantics.specs.whole_states.proofs.Calls.{start-awake, took-awake, asked-whole, got-awake}
+use Rattle.world_semantics.specs.whole_states.proofs.Calls.{answered-awake, marked-awake}
+use Rattle.world_semantics.specs.whole_states.proofs.Inner.{inner-awake}
 use Rattle.world_semantics.specs.Core.{Core, Deed, goes, marks, takes, asks, gets, answers, acts}
 use Rattle.process_histories.specs.Histories.{HasDone, nothing_done, one_more}
 

@@ -9,10 +9,12 @@ use Rattle.tal_tree.specs.declared.site.ProcessSpec.{ProcessSpec}
 use Rattle.tal_tree.specs.declared.site.Site.{Site}
 use Rattle.process_semantics.specs.State.{zeros}
 use Rattle.disc_device.specs.declared.stored.Stored.{Stored}
-use Rattle.checkpoint_image.specs.Behaving.{last_write_of}
-use Rattle.whole_states.specs.Processes.{IsRegularKind, IsWholeProcess}
-use Rattle.whole_states.proofs.Processes.{stays-whole, start-process, inner-process, took-process, asked-process}
-use Rattle.whole_states.proofs.Processes.{got-process, answered-process, marked-process, device-process}
+use Rattle.world_semantics.specs.checkpoint_image.specs.Behaving.{last_write_of}
+use Rattle.world_semantics.specs.whole_states.specs.Processes.{IsRegularKind, IsWholeProcess}
+use Rattle.world_semantics.specs.whole_states.proofs.Processes.{stays-whole, start-process, inner-process, took-process}
+use Rattle.world_semantics.specs.whole_states.proofs.Processes.{asked-process}
+use Rattle.world_semantics.specs.whole_states.proofs.Processes.{got-process, answered-process, marked-process}
+use Rattle.world_semantics.specs.whole_states.proofs.Processes.{device-process}
 use Rattle.world_semantics.specs.Core.{Core, Deed, goes, marks, takes, asks, gets, answers, acts}
 use Rattle.world_semantics.specs.Own.{found_on}
 use Rattle.process_histories.specs.Bounds.{AreBounded}

@@ -19,7 +19,7 @@ use Rattle.process_semantics.specs.Process as process
 use Rattle.process_semantics.specs.Process.{ProcessState, Runs, Serves}
 use Rattle.disc_device.specs.declared.stored.Stored.{Stored}
 use Rattle.disc_device.specs.Sectors.{blank, is_of_write, is_written}
-use Rattle.checkpoint_image.specs.Behaving.{last_write_of}
+use Rattle.world_semantics.specs.checkpoint_image.specs.Behaving.{last_write_of}
 use Rattle.world_semantics.specs.Core.{Core, Deed, Went, Checkpointed, Took, Asked, Got, Answered, Acted, goes, marks}
 use Rattle.world_semantics.specs.Core.{takes, asks, gets, answers, acts}
 use Rattle.world_semantics.specs.World.{device_at_boot}

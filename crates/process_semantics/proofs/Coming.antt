@@ -1,10 +1,10 @@
 -- Each of what remains in a body is come to from the whole body, where one entry after the other leads.
 use Rattle.std.proofs.Common.{◌≡◌, inl, inr, List, [], ◌∷◌, ◌++◌, refl, subst, sym, append-nil}
-use Rattle.gd_words.specs.Members.{IsAmong}
-use Rattle.gd_words.proofs.Among.{among-either, among-one}
-use Rattle.tal_tree.specs.ByStatements.{HoldsInside, by-statements}
-use Rattle.tal_tree.specs.declared.statement.Statement.{Statement}
-use Rattle.tal_tree.specs.declared.statement.What.{What, What-F, out-What}
+use Rattle.tal_values.specs.gd_words.specs.Members.{IsAmong}
+use Rattle.tal_values.specs.gd_words.proofs.Among.{among-either, among-one}
+use Rattle.tal_values.specs.tal_tree.specs.ByStatements.{HoldsInside, by-statements}
+use Rattle.tal_values.specs.tal_tree.specs.declared.statement.Statement.{Statement}
+use Rattle.tal_values.specs.tal_tree.specs.declared.statement.What.{What, What-F, out-What}
 use Rattle.process_semantics.specs.Remains.{Remains, ways_into, ways_round, ComesTo, whole, onward}
 use Rattle.process_semantics.specs.Rests.{rests}
 use Rattle.process_semantics.specs.State.{Entry, Run, Test, Last, runs_of}

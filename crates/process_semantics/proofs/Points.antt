@@ -1,11 +1,11 @@
 -- Where a program stands at each point but Inner and Ended: at which call, and what is in hand and awaited there.
 use Rattle.std.proofs.Common.{◌≡◌, ◌≢◌, ℕ, Bool, true, false, if◌then◌else◌, List, [], ◌∷◌, Option, Some, None, is_some}
 use Rattle.std.proofs.Common.{refl, ap, subst, sym, ◌∙◌}
-use Rattle.tal_tree.specs.declared.program.Program.{Program}
-use Rattle.tal_tree.specs.declared.expression.Expr.{Expr}
-use Rattle.tal_tree.specs.declared.expression.Variable.{Variable}
-use Rattle.tal_tree.specs.declared.statement.Statement.{Statement}
-use Rattle.tal_tree.specs.declared.statement.What.{What, What-F, out-What}
+use Rattle.tal_values.specs.tal_tree.specs.declared.program.Program.{Program}
+use Rattle.tal_values.specs.tal_tree.specs.declared.expression.Expr.{Expr}
+use Rattle.tal_values.specs.tal_tree.specs.declared.expression.Variable.{Variable}
+use Rattle.tal_values.specs.tal_tree.specs.declared.statement.Statement.{Statement}
+use Rattle.tal_values.specs.tal_tree.specs.declared.statement.What.{What, What-F, out-What}
 use Rattle.process_semantics.specs.declared.point.Point.{Point}
 use Rattle.process_semantics.specs.declared.point.Point.TheVariants as point
 use Rattle.process_semantics.specs.Points.{where_good, where_both_good, point_in, point_at, point_of}

@@ -1,12 +1,15 @@
 -- What remains from each entry of statements on, by the first of them and by the layers of a statement.
 use Rattle.std.proofs.Common.{◌≡◌, List, [], ◌∷◌, ◌++◌, refl, ap, sym, ◌∙◌}
-use Rattle.tal_tree.specs.Rows.{rows, if-is, while-is, for-is}
-use Rattle.tal_tree.specs.declared.statement.Statement.{Statement}
-use Rattle.tal_tree.specs.declared.statement.What.{What, What-F, out-What, roll-What, roll-out-What}
-use Rattle.tal_tree.specs.declared.statement.What.TheViews.{rolls-Assign, rolls-AssignCall, rolls-If, rolls-While}
-use Rattle.tal_tree.specs.declared.statement.What.TheViews.{rolls-For, rolls-Call, rolls-Return, rolls-ReadUpdate}
-use Rattle.tal_tree.specs.declared.statement.What.TheViews.{rolls-Reply, rolls-WriteRead, rolls-Checkpoint}
-use Rattle.tal_tree.specs.declared.statement.What.TheViews.{rolls-CheckMonitor, rolls-Open, rolls-Stop}
+use Rattle.tal_values.specs.tal_tree.specs.Rows.{rows, if-is, while-is, for-is}
+use Rattle.tal_values.specs.tal_tree.specs.declared.statement.Statement.{Statement}
+use Rattle.tal_values.specs.tal_tree.specs.declared.statement.What.{What, What-F, out-What, roll-What, roll-out-What}
+use Rattle.tal_values.specs.tal_tree.specs.declared.statement.What.TheViews.{rolls-Assign, rolls-AssignCall, rolls-If}
+use Rattle.tal_values.specs.tal_tree.specs.declared.statement.What.TheViews.{rolls-While}
+use Rattle.tal_values.specs.tal_tree.specs.declared.statement.What.TheViews.{rolls-For, rolls-Call, rolls-Return}
+use Rattle.tal_values.specs.tal_tree.specs.declared.statement.What.TheViews.{rolls-ReadUpdate}
+use Rattle.tal_values.specs.tal_tree.specs.declared.statement.What.TheViews.{rolls-Reply, rolls-WriteRead}
+use Rattle.tal_values.specs.tal_tree.specs.declared.statement.What.TheViews.{rolls-Checkpoint}
+use Rattle.tal_values.specs.tal_tree.specs.declared.statement.What.TheViews.{rolls-CheckMonitor, rolls-Open, rolls-Stop}
 use Rattle.process_semantics.specs.Rests.{runs_row, rests_in, rests}
 use Rattle.process_semantics.specs.State.{Entry, Run, Test, Last, runs_of}
 

@@ -1,7 +1,7 @@
 -- A stack of entries, whose last is the next.
 use Rattle.std.proofs.Common.{◌≡◌, List, [], ◌∷◌, ◌++◌, map, ap, ◌∙◌, append_assoc}
 use Rattle.std.proofs.lemmas.List.{reverse-append, map-append}
-use Rattle.tal_tree.specs.declared.statement.Statement.{Statement}
+use Rattle.tal_values.specs.tal_tree.specs.declared.statement.Statement.{Statement}
 use Rattle.process_semantics.specs.declared.entry.Entry.{Entry as Borrowed}
 use Rattle.process_semantics.specs.State.{Entry, Run, runs_of}
 use Rattle.process_semantics.specs.SeenEntries.{entry_of, stack}

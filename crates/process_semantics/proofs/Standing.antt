@@ -1,12 +1,12 @@
 -- The statement of each entry that remains in a body is one of the body's.
 use Rattle.std.proofs.Common.{inl, inr, List, [], ◌∷◌, ◌++◌, refl, subst, sym}
-use Rattle.gd_words.specs.Members.{IsAmong}
-use Rattle.gd_words.proofs.Among.{among-left, among-right, among-either, among-one}
-use Rattle.tal_tree.specs.ByStatements.{HoldsInside, by-statements}
-use Rattle.tal_tree.specs.Statements.{all_in, all_of}
-use Rattle.tal_tree.specs.declared.statement.Statement.{Statement}
-use Rattle.tal_tree.specs.declared.statement.What.{What, What-F, out-What}
-use Rattle.tal_tree.proofs.Within.{within_of, within-is}
+use Rattle.tal_values.specs.gd_words.specs.Members.{IsAmong}
+use Rattle.tal_values.specs.gd_words.proofs.Among.{among-left, among-right, among-either, among-one}
+use Rattle.tal_values.specs.tal_tree.specs.ByStatements.{HoldsInside, by-statements}
+use Rattle.tal_values.specs.tal_tree.specs.Statements.{all_in, all_of}
+use Rattle.tal_values.specs.tal_tree.specs.declared.statement.Statement.{Statement}
+use Rattle.tal_values.specs.tal_tree.specs.declared.statement.What.{What, What-F, out-What}
+use Rattle.tal_values.specs.tal_tree.proofs.Within.{within_of, within-is}
 use Rattle.process_semantics.specs.Remains.{Remains}
 use Rattle.process_semantics.specs.Rests.{rests}
 use Rattle.process_semantics.specs.State.{Entry, Run, Test, Last}

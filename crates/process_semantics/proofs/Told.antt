@@ -4,12 +4,12 @@ use Rattle.std.proofs.Common.{◌≡◌, inl, inr, ℕ, ◌+◌, ◌≤◌, ◌=
 use Rattle.std.proofs.Common.{map, Some, eq-eqb, refl, ap, ap₂, subst, sym, ◌∙◌, arith}
 use Rattle.std.proofs.lemmas.Bool.{eqb-true}
 use Rattle.std.proofs.lemmas.List.{map-append}
-use Rattle.gd_words.specs.Members.{IsAmong, AreDistinct}
-use Rattle.tal_tree.specs.ByStatements.{HoldsInside, by-statements}
-use Rattle.tal_tree.specs.Statements.{last_of, numbers_of}
-use Rattle.tal_tree.specs.declared.statement.Statement.{Statement}
-use Rattle.tal_tree.specs.declared.statement.What.{What, What-F, out-What}
-use Rattle.tal_tree.proofs.Numbers.{numbers_inside, numbers-more}
+use Rattle.tal_values.specs.gd_words.specs.Members.{IsAmong, AreDistinct}
+use Rattle.tal_values.specs.tal_tree.specs.ByStatements.{HoldsInside, by-statements}
+use Rattle.tal_values.specs.tal_tree.specs.Statements.{last_of, numbers_of}
+use Rattle.tal_values.specs.tal_tree.specs.declared.statement.Statement.{Statement}
+use Rattle.tal_values.specs.tal_tree.specs.declared.statement.What.{What, What-F, out-What}
+use Rattle.tal_values.specs.tal_tree.proofs.Numbers.{numbers_inside, numbers-more}
 use Rattle.process_semantics.specs.Remains.{Remains}
 use Rattle.process_semantics.specs.Rests.{next_number, rests, rests_of, rest_among, rest_from}
 use Rattle.process_semantics.specs.State.{Entry, Run, Test, Last}

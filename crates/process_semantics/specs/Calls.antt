@@ -1,9 +1,9 @@
 -- The steps of a program at the other points: READUPDATE, WRITEREAD, REPLY and CHECKPOINT.
 use Rattle.std.specs.Prelude.{ℕ, ℤ, pos, true, false, min, List, [], length, take, Option, Some, None}
-use Rattle.tal_tree.specs.declared.expression.Variable.{Variable}
-use Rattle.tal_tree.specs.declared.program.Program.{Program}
-use Rattle.tal_tree.specs.declared.statement.Statement.{Statement}
-use Rattle.tal_tree.specs.declared.statement.What.{What, What-F}
+use Rattle.tal_values.specs.tal_tree.specs.declared.expression.Variable.{Variable}
+use Rattle.tal_values.specs.tal_tree.specs.declared.program.Program.{Program}
+use Rattle.tal_values.specs.tal_tree.specs.declared.statement.Statement.{Statement}
+use Rattle.tal_values.specs.tal_tree.specs.declared.statement.What.{What, What-F}
 use Rattle.process_semantics.specs.Changes.{done, with_hand, with_waiting, with_word, with_words, variable_cell}
 use Rattle.process_semantics.specs.State.{ProgramState, words_of, count_of, in_next}
 

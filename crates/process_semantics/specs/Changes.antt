@@ -1,9 +1,9 @@
 -- Changes of a program's state, of which its steps are made.
 use Rattle.std.specs.Prelude.{ℕ, ℤ, Bool, true, false, List, [], ◌∷◌, ◌++◌, length, drop, slice_set, Option}
-use Rattle.tal_tree.specs.declared.expression.Variable.{Variable}
-use Rattle.tal_tree.specs.declared.expression.Variable.TheVariants.{Local, Simple}
-use Rattle.tal_tree.specs.declared.program.Procedure.{Procedure}
-use Rattle.tal_tree.specs.declared.program.Program.{Program}
+use Rattle.tal_values.specs.tal_tree.specs.declared.expression.Variable.{Variable}
+use Rattle.tal_values.specs.tal_tree.specs.declared.expression.Variable.TheVariants.{Local, Simple}
+use Rattle.tal_values.specs.tal_tree.specs.declared.program.Procedure.{Procedure}
+use Rattle.tal_values.specs.tal_tree.specs.declared.program.Program.{Program}
 use Rattle.tal_values.specs.Value.{word_at}
 use Rattle.tal_values.specs.declared.memory.Cell.{Cell}
 use Rattle.process_semantics.specs.State.{Entry, Frame, ProgramState, frame_of, memory_of, words_of}

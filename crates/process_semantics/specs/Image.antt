@@ -4,13 +4,13 @@ use Rattle.std.specs.List.{flat_map}
 use Rattle.std.specs.Option.{option_map, option_and_then}
 use Rattle.std.specs.Prelude.{ℕ, ℤ, pos, Bool, true, false, ◌&&◌, if◌then◌else◌, List, [], ◌∷◌, ◌++◌, length, slice_get}
 use Rattle.std.specs.Prelude.{slice_set, Option, Some, None, zero, suc, ◌==◌, not, reverse}
-use Rattle.gd_words.specs.Members.{is_among}
-use Rattle.tal_tree.specs.Shapes.{width, has_words}
-use Rattle.tal_tree.specs.declared.program.Item.{Item}
-use Rattle.tal_tree.specs.declared.program.Procedure.{Procedure}
-use Rattle.tal_tree.specs.declared.program.Program.{Program}
-use Rattle.tal_tree.specs.declared.statement.Statement.{Statement}
-use Rattle.tal_tree.specs.declared.statement.What.{What, What-F}
+use Rattle.tal_values.specs.gd_words.specs.Members.{is_among}
+use Rattle.tal_values.specs.tal_tree.specs.Shapes.{width, has_words}
+use Rattle.tal_values.specs.tal_tree.specs.declared.program.Item.{Item}
+use Rattle.tal_values.specs.tal_tree.specs.declared.program.Procedure.{Procedure}
+use Rattle.tal_values.specs.tal_tree.specs.declared.program.Program.{Program}
+use Rattle.tal_values.specs.tal_tree.specs.declared.statement.Statement.{Statement}
+use Rattle.tal_values.specs.tal_tree.specs.declared.statement.What.{What, What-F}
 use Rattle.process_semantics.specs.declared.disc.DiscState.{DiscState}
 use Rattle.process_semantics.specs.declared.point.Point.{Point}
 use Rattle.process_semantics.specs.declared.point.Point.TheVariants.{Take, Answer, AtCheckpoint, Device}

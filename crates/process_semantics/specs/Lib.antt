@@ -10,3 +10,6 @@ pub mod SeenEntries
 pub mod State
 pub mod Steps
 pub mod Words
+pub use Rattle.tal_values.specs.gd_words
+pub use Rattle.tal_values.specs.tal_tree
+pub use Rattle.tal_values

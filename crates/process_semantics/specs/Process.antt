@@ -1,11 +1,11 @@
 -- A process of either kind, a program or a disc: its point and its steps. A step is a function of the state and of the
 -- words that come.
 use Rattle.std.specs.Prelude.{ℕ, ℤ, Bool, List, [], is_some}
-use Rattle.gd_words.specs.declared.device.DeviceCall.{DeviceCall}
-use Rattle.gd_words.specs.declared.device.DeviceCall.TheVariants.{Nothing}
-use Rattle.tal_tree.specs.declared.program.Program.{Program}
-use Rattle.tal_tree.specs.declared.site.Kind.{Kind}
-use Rattle.tal_tree.specs.declared.site.Kind.TheVariants as kind
+use Rattle.tal_values.specs.gd_words.specs.declared.device.DeviceCall.{DeviceCall}
+use Rattle.tal_values.specs.gd_words.specs.declared.device.DeviceCall.TheVariants.{Nothing}
+use Rattle.tal_values.specs.tal_tree.specs.declared.program.Program.{Program}
+use Rattle.tal_values.specs.tal_tree.specs.declared.site.Kind.{Kind}
+use Rattle.tal_values.specs.tal_tree.specs.declared.site.Kind.TheVariants as kind
 use Rattle.process_semantics.specs.declared.disc.DiscState.{DiscState}
 use Rattle.process_semantics.specs.declared.point.Point.{Point}
 use Rattle.process_semantics.specs.State.{ProgramState, start}

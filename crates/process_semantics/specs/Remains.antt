@@ -1,8 +1,8 @@
 -- What may remain in a procedure that runs, and where an entry leads within it.
 use Rattle.std.specs.Prelude.{◌≡◌, ◌⊎◌, List, [], ◌∷◌, ◌++◌}
-use Rattle.gd_words.specs.Members.{IsAmong}
-use Rattle.tal_tree.specs.declared.statement.Statement.{Statement}
-use Rattle.tal_tree.specs.declared.statement.What.{What, What-F, out-What}
+use Rattle.tal_values.specs.gd_words.specs.Members.{IsAmong}
+use Rattle.tal_values.specs.tal_tree.specs.declared.statement.Statement.{Statement}
+use Rattle.tal_values.specs.tal_tree.specs.declared.statement.What.{What, What-F, out-What}
 use Rattle.process_semantics.specs.State.{Entry, Run, Test, Last, runs_of}
 use Rattle.process_semantics.specs.Rests.{rests_of}
 

@@ -1,11 +1,14 @@
 -- What remains to be done in a procedure from each of its entries on, and the numbers that tell it.
 use Rattle.std.specs.Prelude.{ℕ, if◌then◌else◌, List, [], ◌∷◌, ◌++◌, Option, Some, None, ◌+◌, ◌==◌}
-use Rattle.tal_tree.specs.Rows.{rows}
-use Rattle.tal_tree.specs.Statements.{last_of}
-use Rattle.tal_tree.specs.declared.statement.Statement.{Statement}
-use Rattle.tal_tree.specs.declared.statement.What.{What, out-What, Assign, AssignCall, If', While', For', Call, Return}
-use Rattle.tal_tree.specs.declared.statement.What.{ReadUpdate, Reply, WriteRead, Checkpoint, CheckMonitor, Open, Stop}
-use Rattle.tal_tree.specs.declared.statement.What.{Row_of-Statement, end_of-Statement, more_of-Statement}
+use Rattle.tal_values.specs.tal_tree.specs.Rows.{rows}
+use Rattle.tal_values.specs.tal_tree.specs.Statements.{last_of}
+use Rattle.tal_values.specs.tal_tree.specs.declared.statement.Statement.{Statement}
+use Rattle.tal_values.specs.tal_tree.specs.declared.statement.What.{What, out-What, Assign, AssignCall, If', While'}
+use Rattle.tal_values.specs.tal_tree.specs.declared.statement.What.{For', Call, Return}
+use Rattle.tal_values.specs.tal_tree.specs.declared.statement.What.{ReadUpdate, Reply, WriteRead, Checkpoint}
+use Rattle.tal_values.specs.tal_tree.specs.declared.statement.What.{CheckMonitor, Open, Stop}
+use Rattle.tal_values.specs.tal_tree.specs.declared.statement.What.{Row_of-Statement, end_of-Statement}
+use Rattle.tal_values.specs.tal_tree.specs.declared.statement.What.{more_of-Statement}
 use Rattle.process_semantics.specs.State.{Entry, Run, Test, Last}
 
 -- the number of an entry: a FOR's test has the one after its first assignment

@@ -2,13 +2,13 @@
 use Rattle.std.specs.Option.{option_and_then, unwrap_or}
 use Rattle.std.specs.Prelude.{ℕ, ◌-◌, ℤ, pos, negsuc, Bool, false, ◌&&◌, if◌then◌else◌, nat_le, List, [], ◌∷◌, ◌++◌}
 use Rattle.std.specs.Prelude.{length, map, replicate, slice_get, Option, Some, None}
-use Rattle.tal_tree.specs.Shapes.{width}
-use Rattle.tal_tree.specs.Statements.{called_in}
-use Rattle.tal_tree.specs.declared.expression.Expr.{Expr}
-use Rattle.tal_tree.specs.declared.program.Procedure.{Procedure}
-use Rattle.tal_tree.specs.declared.program.Program.{Program}
-use Rattle.tal_tree.specs.declared.statement.Statement.{Statement}
-use Rattle.tal_tree.specs.declared.statement.What.{What, What-F, out-What}
+use Rattle.tal_values.specs.tal_tree.specs.Shapes.{width}
+use Rattle.tal_values.specs.tal_tree.specs.Statements.{called_in}
+use Rattle.tal_values.specs.tal_tree.specs.declared.expression.Expr.{Expr}
+use Rattle.tal_values.specs.tal_tree.specs.declared.program.Procedure.{Procedure}
+use Rattle.tal_values.specs.tal_tree.specs.declared.program.Program.{Program}
+use Rattle.tal_values.specs.tal_tree.specs.declared.statement.Statement.{Statement}
+use Rattle.tal_values.specs.tal_tree.specs.declared.statement.What.{What, What-F, out-What}
 use Rattle.tal_values.specs.Value.{Memory, value_of}
 
 -- what remains to be done in a procedure: a statement, the test of a FOR, or the last assignment of a FOR

@@ -3,14 +3,14 @@
 use Rattle.std.specs.Option.{option_map, option_and_then, unwrap_or}
 use Rattle.std.specs.Prelude.{ℕ, ℤ, pos, ◌+ℤ◌, Bool, if◌then◌else◌, List, [], ◌∷◌, ◌++◌, drop, slice_get, Option, Some}
 use Rattle.std.specs.Prelude.{None}
-use Rattle.gd_words.specs.Arithmetic.{wrap}
-use Rattle.tal_tree.specs.declared.expression.Expr.{Expr}
-use Rattle.tal_tree.specs.declared.expression.Rel.TheVariants.{AtMost}
-use Rattle.tal_tree.specs.declared.expression.Variable.{Variable}
-use Rattle.tal_tree.specs.declared.program.Procedure.{Procedure}
-use Rattle.tal_tree.specs.declared.program.Program.{Program}
-use Rattle.tal_tree.specs.declared.statement.Statement.{Statement}
-use Rattle.tal_tree.specs.declared.statement.What.{What, What-F, out-What}
+use Rattle.tal_values.specs.gd_words.specs.Arithmetic.{wrap}
+use Rattle.tal_values.specs.tal_tree.specs.declared.expression.Expr.{Expr}
+use Rattle.tal_values.specs.tal_tree.specs.declared.expression.Rel.TheVariants.{AtMost}
+use Rattle.tal_values.specs.tal_tree.specs.declared.expression.Variable.{Variable}
+use Rattle.tal_values.specs.tal_tree.specs.declared.program.Procedure.{Procedure}
+use Rattle.tal_values.specs.tal_tree.specs.declared.program.Program.{Program}
+use Rattle.tal_values.specs.tal_tree.specs.declared.statement.Statement.{Statement}
+use Rattle.tal_values.specs.tal_tree.specs.declared.statement.What.{What, What-F, out-What}
 use Rattle.tal_values.specs.Value.{Memory, value_of, cell_of, truth_of, both, holds}
 use Rattle.tal_values.specs.declared.memory.Cell.{Cell}
 use Rattle.process_semantics.specs.Changes.{done, before, entering, left, ends, with_word, variable_cell, variable_of}

@@ -3,7 +3,7 @@
 use Rattle.std.specs.Option.{option_and_then}
 use Rattle.std.specs.Prelude.{ℕ, ◌-◌, ℤ, pos, negsuc, if◌then◌else◌, nat_le, List, [], ◌∷◌, length, take, drop, Option}
 use Rattle.std.specs.Prelude.{Some, None, ◌+◌, ◌*◌, ◌/◌, ◌%◌}
-use Rattle.gd_words.specs.Arithmetic.{wrap}
+use Rattle.tal_values.specs.gd_words.specs.Arithmetic.{wrap}
 
 -- a number of 32 bits: two words, the high half first, each as a pattern of 16 bits
 abbrev pub long : ℕ → List ℤ

@@ -1,10 +1,10 @@
 ghost use Rattle.std.specs.Prelude.{◌≡◌, ◌≤◌, ◌++◌, length, map, drop, IfOk};
-ghost use Rattle.tal_tree.specs.Shapes.{width};
+ghost use Rattle.tal_values.specs.tal_tree.specs.Shapes.{width};
 ghost use Rattle.process_semantics.specs.State.{zeros};
 
-use gd_words::{List, NoMemory};
 use std::alloc::Global;
-use tal_tree::{Item, Shape};
+use tal_values::gd_words::{List, NoMemory};
+use tal_values::tal_tree::{Item, Shape};
 
 /// Puts items over those at the start of a list.
 pub fn overwrite<T: Copy>(cells: &mut List<T>, items: &[T])

@@ -1,7 +1,7 @@
 ghost use Rattle.std.specs.Prelude.{◌≡◌, ◌≤◌, ℕ, List, ◌∷◌, map, Some};
-ghost use Rattle.gd_words.specs.Members.{IsAmong, AreDistinct};
-ghost use Rattle.tal_tree.specs.Statements.{numbers_of};
-ghost use Rattle.tal_tree.specs.declared.statement.Statement.{Statement};
+ghost use Rattle.tal_values.specs.gd_words.specs.Members.{IsAmong, AreDistinct};
+ghost use Rattle.tal_values.specs.tal_tree.specs.Statements.{numbers_of};
+ghost use Rattle.tal_values.specs.tal_tree.specs.declared.statement.Statement.{Statement};
 ghost use Rattle.process_semantics.specs.Remains.{Remains, leads_to, ComesTo};
 ghost use Rattle.process_semantics.specs.Rests.{next_number, rests_of, rest_from};
 ghost use Rattle.process_semantics.specs.State.{Entry, runs_of};

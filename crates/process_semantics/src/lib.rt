@@ -23,4 +23,5 @@ pub use disc::DiscState;
 pub use entry::Entry;
 pub use laws::what_remains_is_told;
 pub use point::Point;
+pub use tal_values::{gd_words, tal_tree};
 pub use variable::variable_cell;

@@ -7,7 +7,7 @@ use Rattle.std.specs.Option.{option_map, option_and_then}
 use Rattle.std.proofs.lemmas.Bool.{ltb-true}
 use Rattle.tal_tree.specs.declared.act.Act.{Act}
 use Rattle.tal_tree.specs.declared.site.Site.{Site}
-use Rattle.trace_print.specs.declared.closing.End.TheVariants as end
+use Rattle.report_reader.specs.trace_print.specs.declared.closing.End.TheVariants as end
 use Rattle.report_reader.specs.Parts.{parts_of, rest_after}
 use Rattle.report_reader.specs.Numbers.{number_told}
 use Rattle.report_reader.specs.Reading.{closed, ended_by, read_lines, read_on, read_report, stops_in, told_first}

@@ -10,7 +10,7 @@ use Rattle.shown_sectors.specs.Sectors.{sectors_after}
 use Rattle.tal_tree.specs.declared.act.Act.{Act}
 use Rattle.tal_tree.specs.declared.act.Shown.{Shown}
 use Rattle.tal_tree.specs.declared.site.Site.{Site}
-use Rattle.trace_print.specs.ReportText.{report_text}
+use Rattle.report_reader.specs.trace_print.specs.ReportText.{report_text}
 use Rattle.report_reader.specs.Reading.{acts_in, read_report, stops_in}
 use Rattle.report_reader.specs.declared.reading.Reading.{Reading}
 use Rattle.report_reader.specs.declared.told.Told.{Told}

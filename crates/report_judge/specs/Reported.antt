@@ -5,9 +5,9 @@ use Rattle.plain_semantics.specs.Machine.{IsNoneLeft, IsPossible, shown_by}
 use Rattle.shown_sectors.specs.Sectors.{sectors_after}
 use Rattle.tal_tree.specs.declared.act.Act.{Act}
 use Rattle.tal_tree.specs.declared.site.Site.{Site}
-use Rattle.trace_print.specs.ReportText.{report_text}
-use Rattle.trace_print.specs.declared.closing.End.{End}
-use Rattle.trace_print.specs.declared.closing.End.TheVariants.{Idle, Cut, Second}
+use Rattle.report_reader.specs.trace_print.specs.ReportText.{report_text}
+use Rattle.report_reader.specs.trace_print.specs.declared.closing.End.{End}
+use Rattle.report_reader.specs.trace_print.specs.declared.closing.End.TheVariants.{Idle, Cut, Second}
 
 -- processors from a number on and below another, rising
 abbrev pub AreRising : ℕ → ℕ → List ℕ → Type 0

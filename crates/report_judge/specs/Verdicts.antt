@@ -5,8 +5,8 @@ use Rattle.plain_semantics.specs.Machine.{IsNoneLeft, IsPossible, shown_by}
 use Rattle.shown_sectors.specs.Sectors.{sectors_after}
 use Rattle.tal_tree.specs.declared.act.Act.{Act}
 use Rattle.tal_tree.specs.declared.site.Site.{Site}
-use Rattle.trace_print.specs.ReportText.{report_text}
-use Rattle.trace_print.specs.declared.closing.End.TheVariants.{Idle}
+use Rattle.report_reader.specs.trace_print.specs.ReportText.{report_text}
+use Rattle.report_reader.specs.trace_print.specs.declared.closing.End.TheVariants.{Idle}
 use Rattle.report_reader.specs.Reading.{acts_in, read_report, stops_in}
 use Rattle.report_reader.specs.declared.reading.Reading.{Reading}
 use Rattle.report_reader.specs.declared.told.Told.{Told}

@@ -10,10 +10,10 @@ use crate::difference::first_difference;
 use crate::replay::{Replay, replayed};
 use crate::text::{acts_of, text_of};
 use gd_words::NoMemory;
+use report_reader::trace_print::End;
 use report_reader::{Reading, ReportFault, Told, read_report};
 use std::alloc::Global;
 use tal_tree::{Act, Site};
-use trace_print::End;
 
 /// Why a report is rejected.
 #[derive(Clone, Copy, PartialEq, Eq)]

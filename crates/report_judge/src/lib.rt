@@ -12,3 +12,5 @@ pub mod replay;
 pub mod text;
 
 pub use judge::{VerifyRefusal, Why, verify};
+pub use report_reader;
+pub use report_reader::{site_advice, trace_print};

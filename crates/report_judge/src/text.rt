@@ -4,15 +4,15 @@ ghost use Rattle.std.specs.Option.{IsSome};
 ghost use Rattle.plain_semantics.specs.SiteLimits.{KeepsSiteLimits};
 ghost use Rattle.report_reader.specs.Reading.{acts_in, stops_in};
 ghost use Rattle.shown_sectors.specs.Sectors.{sectors_after};
-ghost use Rattle.trace_print.specs.ReportText.{report_text};
+ghost use Rattle.report_reader.specs.trace_print.specs.ReportText.{report_text};
 
 use gd_io::{Gave, Sink, WriteFault};
 use gd_words::{List, NoMemory};
 use report_reader::Told;
+use report_reader::trace_print::{End, write_report};
 use shown_sectors::sectors_after;
 use std::alloc::Global;
 use tal_tree::{Act, Shown, Site};
-use trace_print::{End, write_report};
 
 /// A sink in memory that grows with what is written, until memory runs out.
 #[derive(Drop)]

@@ -4,3 +4,5 @@ pub mod Numbers
 pub mod Parts
 pub mod Reading
 pub mod Telling
+pub use Rattle.trace_print.specs.site_advice
+pub use Rattle.trace_print

@@ -16,3 +16,5 @@ pub mod told;
 pub use deck_ends::deck_end;
 pub use reading::{Reading, ReportFault, read_report};
 pub use told::Told;
+pub use trace_print;
+pub use trace_print::site_advice;

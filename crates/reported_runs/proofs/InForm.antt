@@ -12,7 +12,7 @@ use Rattle.report_judge.specs.Reported.{AreRising, IsEndOfRun, IsReported}
 use Rattle.report_judge.specs.Verdicts.{IsVerdict}
 use Rattle.report_judge.specs.declared.judge.VerifyRefusal.{VerifyRefusal}
 use Rattle.report_laws.specs.OneVerdict.{IsSameVerdict}
-use Rattle.shown_forms.proofs.Possible.{acts-named, sectors-shown, shown-formed}
+use Rattle.deck_forms.specs.shown_forms.proofs.Possible.{acts-named, sectors-shown, shown-formed}
 use Rattle.shown_sectors.specs.Sectors.{sectors_after}
 use Rattle.tal_tree.specs.declared.act.Act.{Act}
 use Rattle.tal_tree.specs.declared.site.Site.{Site}

@@ -24,10 +24,10 @@ use Rattle.packet_wires.specs.Runs.{IsPlayed, played_none, played_more, skipped}
 use Rattle.packet_wires.specs.Wires.{Midst, Wires, bus_named, ticked}
 use Rattle.packets_laws.proofs.Going as going
 use Rattle.packets_laws.proofs.Going.{Goes, play-goes}
-use Rattle.packet_runs.proofs.Played.{played}
-use Rattle.packet_runs.specs.Ends.{IsRunOf}
-use Rattle.packet_runs.specs.Runs.{course_on, packet_rules}
-use Rattle.packet_runs.specs.declared.ran.Ran.{Ran}
+use Rattle.command_dues.specs.packet_runs.proofs.Played.{played}
+use Rattle.command_dues.specs.packet_runs.specs.Ends.{IsRunOf}
+use Rattle.command_dues.specs.packet_runs.specs.Runs.{course_on, packet_rules}
+use Rattle.command_dues.specs.packet_runs.specs.declared.ran.Ran.{Ran}
 use Rattle.schedule_loop.specs.Ends.{EndsBy, Plays}
 use Rattle.schedule_loop.specs.declared.ran.Ending.{Ending}
 use Rattle.schedule_loop.specs.declared.ran.Ending.TheVariants.{Idle, Cut, Second}

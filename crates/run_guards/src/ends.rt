@@ -5,7 +5,7 @@ ghost use Rattle.schedule.specs.declared.line.Line.{Line};
 ghost use Rattle.player.specs.declared.stop.ProcessorStop.{ProcessorStop};
 ghost use Rattle.message_wires.specs.Idle.{is_idle};
 ghost use Rattle.message_wires.specs.Play.{MachineState};
-ghost use Rattle.pair_machine.specs.Seen.{closed_state};
+ghost use Rattle.schedule_runs.specs.pair_machine.specs.Seen.{closed_state};
 ghost use Rattle.world_semantics.specs.Shares.{let_go};
 ghost use Rattle.world_semantics.specs.World.{Pair};
 ghost use Rattle.schedule_runs.specs.Ends.{EndsAs, IsRunOf};

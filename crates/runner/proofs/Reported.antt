@@ -3,7 +3,7 @@ use Rattle.std.proofs.Common.{◌≡◌, ℕ, Bool, List, Option, ap, ◌∙◌}
 use Rattle.accepted_decks.specs.Left.{KeepsPossibleActs}
 use Rattle.deck_reader.specs.declared.deck.Deck.{Deck}
 use Rattle.player.specs.declared.stop.ProcessorStop.{ProcessorStop}
-use Rattle.packet_runs.specs.Ends.{IsRunOf}
+use Rattle.command_dues.specs.packet_runs.specs.Ends.{IsRunOf}
 use Rattle.shown_sectors.specs.Sectors.{sectors_after}
 use Rattle.shown_sectors.specs.declared.sectors.SectorWords.{SectorWords}
 use Rattle.tal_tree.specs.declared.act.Act.{Act}

@@ -17,6 +17,7 @@ use crate::verified::due_of_verify;
 use accepted_decks::{
     a_run_of_an_accepted_site_keeps_possible_acts, an_accepted_deck_meets_the_premises,
 };
+use command_dues::packet_runs::run;
 use command_dues::{AdvisedSite, Due, RefusedSite, Report, RunEnd, Task, Telling};
 use command_words::{Command, asked_by};
 use deck_reader::{Deck, read_deck};
@@ -24,12 +25,11 @@ use gd_io::{Source, SourceFault, read_all};
 use gd_words::NoMemory;
 use load_deck::load_text;
 use logs::Shared;
-use packet_runs::run;
 use player::ProcessorStop;
 use shown_sectors::sectors_after;
-use site_advice::{SiteAdvice, advise_all};
 use std::alloc::Global;
 use tal_tree::DeckFault;
+use trace_print::site_advice::{SiteAdvice, advise_all};
 use verdicts::first_refused;
 
 /// A deck has at most this many bytes.

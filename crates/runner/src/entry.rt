@@ -8,9 +8,9 @@ ghost use Rattle.command_dues.specs.Written.{CanBeWritten, cause_of};
 ghost use Rattle.command_dues.specs.declared.outcome.Outcome.{Outcome};
 
 use crate::decide::decide;
+use command_dues::report_judge::Why;
 use command_dues::{Due, Outcome, RefusedSite, Report, RunEnd, Status, Telling};
 use gd_io::{Sink, Source, WriteFault};
-use report_judge::Why;
 use schedule_loop::Ending;
 use std::alloc::Global;
 use tal_tree::Act;

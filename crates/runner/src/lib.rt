@@ -13,4 +13,5 @@ mod stopped;
 mod sweep;
 mod verified;
 
+pub use command_dues;
 pub use entry::{command, exit_number};

@@ -1,8 +1,8 @@
 ghost use Rattle.std.specs.Prelude.{◌≡◌, IfOk};
 ghost use Rattle.command_dues.specs.Stopped.{stopped_from};
 
+use command_dues::site_machine::Machine;
 use gd_words::{List, NoMemory};
-use site_machine::Machine;
 use std::alloc::Global;
 
 /// The numbers of the processors that have stopped, rising.

@@ -1,14 +1,14 @@
 ghost use Rattle.std.specs.Prelude.{IfOk};
 ghost use Rattle.command_dues.specs.Decided.{IsSpelt};
-ghost use Rattle.schedule_sweeps.specs.Sweeps.{IsSweepOf};
+ghost use Rattle.command_dues.specs.schedule_sweeps.specs.Sweeps.{IsSweepOf};
 ghost use Rattle.verdicts.specs.Refused.{AreAccepted};
 
 use accepted_decks::an_accepted_deck_meets_the_premises;
+use command_dues::schedule_sweeps::sweep;
 use deck_reader::Deck;
 use gd_words::NoMemory;
 use logs::Shared;
 use run_table::Table;
-use schedule_sweeps::sweep;
 use std::alloc::Global;
 
 /// The rows of a sweep of a deck.

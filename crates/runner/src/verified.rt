@@ -8,11 +8,11 @@ ghost use Rattle.command_dues.specs.Written.{CanBeWritten};
 
 use crate::decide::due_of_fault;
 use accepted_decks::an_accepted_deck_meets_the_premises;
+use command_dues::report_judge::{VerifyRefusal, verify};
+use command_dues::report_reader::deck_end;
 use command_dues::{Due, RefusedSite};
 use deck_reader::{Deck, read_deck};
 use gd_io::{Source, SourceFault, read_all};
-use report_judge::{VerifyRefusal, verify};
-use report_reader::deck_end;
 use std::alloc::Global;
 use tal_tree::{DeckFault, Site};
 use verdicts::first_refused;

@@ -8,7 +8,7 @@ ghost use Rattle.gd_io.specs.Puts.{Puts};
 ghost use Rattle.gd_io.specs.declared.writing.WriteFault.{WriteFault};
 ghost use Rattle.plain_semantics.specs.Machine.{IsNoneLeft, IsPossible, shown_by};
 ghost use Rattle.player.specs.declared.stop.ProcessorStop.{ProcessorStop};
-ghost use Rattle.packet_runs.specs.Ends.{IsRunOf};
+ghost use Rattle.command_dues.specs.packet_runs.specs.Ends.{IsRunOf};
 ghost use Rattle.schedule_loop.specs.declared.ran.Ending.TheVariants.{Idle};
 ghost use Rattle.shown_sectors.specs.Sectors.{sectors_after};
 ghost use Rattle.command_dues.specs.Decided.{IsDue, IsOfWholeDeck, IsReportOf, reads_deck};

@@ -7,9 +7,9 @@ use Rattle.player.specs.declared.standing.Sizes.{Sizes}
 use Rattle.player.specs.declared.stop.ProcessorStop.{ProcessorStop}
 use Rattle.message_wires.specs.Play.{MachineState, machine_at_boot}
 use Rattle.message_wires.specs.Wires.{Wires}
-use Rattle.number_laws.proofs.Counts.{letters-within}
-use Rattle.number_laws.proofs.Played.{room-within}
-use Rattle.number_laws.proofs.Requests.{openers-there}
+use Rattle.pair_machine.specs.number_laws.proofs.Counts.{letters-within}
+use Rattle.pair_machine.specs.number_laws.proofs.Played.{room-within}
+use Rattle.pair_machine.specs.number_laws.proofs.Requests.{openers-there}
 use Rattle.plain_semantics.specs.SiteLimits.{KeepsSiteLimits}
 use Rattle.pair_machine.specs.Seen.{MachineStanding}
 use Rattle.schedule_loop.specs.Ends.{CanBePlayed, Course, EndsBy, IsRunOn, Plays, RunsOutBy, RunsToStopBy}

@@ -2,3 +2,4 @@ pub mod Ends
 pub mod Lengths
 pub mod Rules
 pub mod Runs
+pub use Rattle.pair_machine

@@ -12,7 +12,7 @@ pub use Rattle.agendas.specs.Agendas.{agenda_of, coming, planned_by, stopped_by,
 use Rattle.machine_states.specs.States.{Makes, Skips, WouldStop}
 use Rattle.message_wires.specs.Idle.{is_idle}
 use Rattle.message_wires.specs.Play.{MachineState, play, machine_at_boot}
-use Rattle.node_copies.specs.ShownCounts.{replies_in, writes_in}
+use Rattle.pair_machine.specs.node_copies.specs.ShownCounts.{replies_in, writes_in}
 
 -- What is counted before an event
 

@@ -1,5 +1,5 @@
 ghost use Rattle.std.specs.Prelude.{◌≡◌, IfOk};
-ghost use Rattle.process_copies.specs.Starting.{IsStartable};
+ghost use Rattle.pair_machine.specs.process_copies.specs.Starting.{IsStartable};
 ghost use Rattle.schedule_runs.specs.Ends.{IsRunOf, ending_of};
 ghost use Rattle.schedule_runs.specs.Lengths.{AsksForFewEvents};
 ghost use Rattle.schedule_runs.specs.Runs.{sizes_of};

@@ -7,4 +7,6 @@
 
 pub mod rows;
 
+pub use packet_runs;
+pub use packet_runs::site_machine;
 pub use rows::sweep;

@@ -1,10 +1,10 @@
 ghost use Rattle.std.specs.Prelude.{◌≡◌, ◌≤◌, IfOk, Some};
 ghost use Rattle.packet_runs.specs.Runs.{course_on, packet_rules};
 ghost use Rattle.player.specs.declared.stop.ProcessorStop.{ProcessorStop};
-ghost use Rattle.process_copies.specs.Starting.{IsStartable};
+ghost use Rattle.packet_runs.specs.process_copies.specs.Starting.{IsStartable};
 ghost use Rattle.schedule_loop.specs.Ends.{CanBePlayed};
 ghost use Rattle.schedule_sweeps.specs.Sweeps.{IsKindOf, IsRowOf, IsSweepOf, kind_of};
-ghost use Rattle.site_machine.specs.Needs.{IsReady};
+ghost use Rattle.packet_runs.specs.site_machine.specs.Needs.{IsReady};
 
 use gd_words::NoMemory;
 use logs::Shared;

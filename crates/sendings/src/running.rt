@@ -1,5 +1,5 @@
 ghost use Rattle.std.specs.Prelude.{◌≡◌};
-ghost use Rattle.world_semantics.specs.World.{is_running};
+ghost use Rattle.letters.specs.world_semantics.specs.World.{is_running};
 
 /// The node that carries the terminals.
 pub const TERMINAL_NODE: u8 = 16;

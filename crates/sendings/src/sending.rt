@@ -13,7 +13,7 @@ pub struct Sending {
 
 impl Model for Sending {
     ghost use Rattle.std.specs.Coded.{codes};
-    ghost use Rattle.world_semantics.specs.Messages as messages;
+    ghost use Rattle.letters.specs.world_semantics.specs.Messages as messages;
     ghost use Rattle.sendings.specs.Seen.{message_of};
 
     ghost Value = { messages.Sending };

@@ -21,7 +21,7 @@ use Rattle.process_semantics.specs.State.{Entry, Last, ProgramState, Run, Test, 
 use Rattle.process_semantics.specs.State.{memory_of}
 use Rattle.process_semantics.specs.State.{next_of, words_of}
 use Rattle.process_semantics.specs.declared.point.Point.TheVariants as point
-use Rattle.report_reader.specs.Telling.{has_sectors}
+use Rattle.told_reports.specs.report_reader.specs.Telling.{has_sectors}
 use Rattle.whole_states.proofs.Awake.{awake-whole}
 use Rattle.whole_states.proofs.Calls.{answered-awake, asked-whole, got-awake, marked-awake, start-awake, took-awake}
 use Rattle.whole_states.proofs.Inner.{inner-awake}

@@ -33,7 +33,7 @@ use Rattle.plain_semantics.specs.Openers.{opener_of, opener_on, openers_of}
 use Rattle.plain_semantics.specs.declared.slot.Opener.{Opener}
 use Rattle.plain_semantics.specs.declared.slot.Slot.{Slot}
 use Rattle.plain_semantics.specs.declared.slot.Slot.TheVariants.{Empty, Waiting, Taken, Answered}
-use Rattle.report_reader.specs.Telling.{has_sectors, has_sectors_in}
+use Rattle.told_reports.specs.report_reader.specs.Telling.{has_sectors, has_sectors_in}
 use Rattle.told_reports.specs.InForm.{AreEach, IsShownOn}
 use Rattle.told_reports.specs.NamesApart.{IsNamedAct}
 use Rattle.shown_forms.specs.Numbers.{IsMessage}

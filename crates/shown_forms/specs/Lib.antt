@@ -1,2 +1,3 @@
 pub mod Numbers
 pub mod Sites
+pub use Rattle.told_reports

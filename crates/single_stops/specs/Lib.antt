@@ -1,1 +1,2 @@
 pub mod StopsAsked
+pub use Rattle.message_wires_laws

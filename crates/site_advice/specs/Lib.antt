@@ -1,2 +1,3 @@
 pub mod Pushed
 pub mod SiteAdvised
+pub use Rattle.advise.specs.advice

@@ -10,9 +10,9 @@ use Rattle.path_semantics.specs.declared.reason.RefusalFault.TheVariants.{TooDee
 use Rattle.statement_lines.specs.Lines.{lines_of}
 use Rattle.verdicts.specs.Refused.{program_at}
 use Rattle.verdicts.specs.declared.refused.RefusedProgram.{RefusedProgram}
-use Rattle.advice.specs.declared.answer.Advice.{Advice}
-use Rattle.advice.specs.declared.answer.AdviseRefusal.TheVariants as advise
-use Rattle.advice.specs.Answer.{IsAdvised, IsAnswer, IsUnmendable}
+use Rattle.advise.specs.advice.specs.declared.answer.Advice.{Advice}
+use Rattle.advise.specs.advice.specs.declared.answer.AdviseRefusal.TheVariants as advise
+use Rattle.advise.specs.advice.specs.Answer.{IsAdvised, IsAnswer, IsUnmendable}
 use Rattle.site_advice.specs.declared.pairs.PairAdvice.{PairAdvice}
 use Rattle.site_advice.specs.declared.pairs.SiteAdvice.{SiteAdvice}
 use Rattle.site_advice.specs.declared.pairs.SiteAdvice.TheVariants.{Given, Refused}

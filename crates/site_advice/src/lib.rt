@@ -7,4 +7,5 @@
 
 pub mod pairs;
 
+pub use advise::advice;
 pub use pairs::{PairAdvice, SiteAdvice, advise_all};

@@ -3,7 +3,7 @@ ghost use Rattle.verdicts.specs.Judgeable.{AreJudgeable, IsJudgeable, IsJudgeabl
 ghost use Rattle.site_advice.specs.Pushed.{IsCause, IsPushed};
 ghost use Rattle.site_advice.specs.SiteAdvised.{IsSiteAdvice, IsUnadvised};
 
-use advice::{Advice, AdviseRefusal};
+use advise::advice::{Advice, AdviseRefusal};
 use advise::advise;
 use gd_words::{List, NoMemory};
 use path_semantics::RefusalFault;

@@ -11,8 +11,8 @@ use Rattle.computed_changes.specs.Stopped.{stopped_world}
 use Rattle.machine_states.specs.States.{Makes, Settles, Skips, WouldStop}
 use Rattle.machine_states.specs.declared.effect.Effect.{Effect}
 use Rattle.machine_states.specs.declared.effect.Effect.TheVariants as effect
-use Rattle.message_wires.specs.Play.{has_stopped}
-use Rattle.number_ranges.specs.HasRoom.{CopyHasRoom}
+use Rattle.packet_wires.specs.message_wires.specs.Play.{has_stopped}
+use Rattle.world_copies.specs.number_ranges.specs.HasRoom.{CopyHasRoom}
 use Rattle.packet_wires.specs.Lines.{line_pulled}
 use Rattle.packet_wires.specs.Play.{Packeted, ended, line_of, marks_and_declares, over, pulled, pulls}
 use Rattle.packet_wires.specs.Play.{pulls_its}

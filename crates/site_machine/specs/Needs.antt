@@ -15,7 +15,7 @@ use Rattle.message_layout.specs.Messages.{NodeMessage, Carrying}
 use Rattle.packet_wires.specs.Nodes.{Node}
 use Rattle.event_parts.specs.Numbers.{CanPush}
 use Rattle.packet_wires.specs.Play.{Packeted}
-use Rattle.number_ranges.specs.HasRoom.{WorldHasRoom}
+use Rattle.world_copies.specs.number_ranges.specs.HasRoom.{WorldHasRoom}
 
 -- each message that is sent keeps to the layout
 abbrev pub AreWithin : List Sending → Type 0

@@ -4,9 +4,9 @@ ghost use Rattle.computed_changes.specs.Handed.{handed_done};
 ghost use Rattle.message_layout.specs.Layout.{Fits};
 ghost use Rattle.message_layout.specs.Messages.{Carrying};
 ghost use Rattle.message_layout.specs.Reading.{if_known, node_message_in};
-ghost use Rattle.message_words.specs.Seen as seen;
-ghost use Rattle.node_copies.specs.Seen.{step_sendings};
-ghost use Rattle.number_ranges.specs.HasRoom.{WorldHasRoom};
+ghost use Rattle.node.specs.message_words.specs.Seen as seen;
+ghost use Rattle.world_copies.specs.node_copies.specs.Seen.{step_sendings};
+ghost use Rattle.world_copies.specs.number_ranges.specs.HasRoom.{WorldHasRoom};
 ghost use Rattle.packet_wires.specs.Play.{handed, handed_any, handed_words};
 ghost use Rattle.sendings.specs.Seen.{message_of};
 ghost use Rattle.world_copies.specs.Room.{NamesItsOpener};
@@ -17,9 +17,9 @@ ghost use Rattle.site_machine.specs.Told.{after_part, unsent};
 use crate::whole::MachineParts;
 use gd_words::{List, NoMemory};
 use logs::Shared;
-use message_words::{NodeMessage, read};
-use node_copies::StepOutcome;
+use node::message_words::{NodeMessage, read};
 use sendings::Message;
+use world_copies::node_copies::StepOutcome;
 
 impl MachineParts {
     /// The words of a whole message are handed over at a node, where there are any.

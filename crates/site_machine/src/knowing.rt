@@ -3,11 +3,11 @@ ghost use Rattle.std.specs.List.{list_all};
 ghost use Rattle.plain_semantics.specs.Openers.{openers_of};
 ghost use Rattle.message_layout.specs.Messages.{has_members, has_opener, has_process, has_processor};
 ghost use Rattle.message_layout.specs.Messages.{is_known};
-ghost use Rattle.message_words.specs.Seen.{message_of};
+ghost use Rattle.node.specs.message_words.specs.Seen.{message_of};
 
 use crate::whole::MachineParts;
 use alive_regroup::ProcessorSet;
-use message_words::NodeMessage;
+use node::message_words::NodeMessage;
 
 impl MachineParts {
     /// Whether the site has all that a message names.

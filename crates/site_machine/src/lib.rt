@@ -20,3 +20,5 @@ mod whole;
 mod wording;
 
 pub use machine::Machine;
+pub use world_copies;
+pub use world_copies::{node_copies, process_copies};

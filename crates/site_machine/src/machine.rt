@@ -1,11 +1,11 @@
 ghost use Rattle.std.specs.Prelude.{◌≡◌, ◌≤◌, false, true, length, reverse, IfOk, OnOk, OnErr};
 ghost use Rattle.std.specs.Option.{option_copied};
 ghost use Rattle.machine_states.specs.States.{Settles};
-ghost use Rattle.node_copies.specs.ShownCounts.{replies_in, writes_in};
+ghost use Rattle.world_copies.specs.node_copies.specs.ShownCounts.{replies_in, writes_in};
 ghost use Rattle.packet_wires.specs.Idle.{is_idle};
 ghost use Rattle.packet_wires.specs.Play.{count_on, kind_at, packet_at, packeted_at_boot, play, sender_at};
 ghost use Rattle.packet_wires.specs.Wires.{bus_named};
-ghost use Rattle.process_copies.specs.Starting.{IsStartable};
+ghost use Rattle.world_copies.specs.process_copies.specs.Starting.{IsStartable};
 ghost use Rattle.world_copies.specs.Seen.{ArePlaced, pairs_in};
 ghost use Rattle.world_semantics.specs.Kept.{acts_of};
 ghost use Rattle.site_machine.specs.Needs.{IsReady};
@@ -16,14 +16,14 @@ use crate::whole::MachineParts;
 use gd_words::NoMemory;
 use logs::Shared;
 use machine_states::Effect;
-use node_copies::Downs;
 use packet_words::{Packet, PacketKind};
-use process_copies::ProcessCopies;
 use schedule::Event;
 use std::alloc::Global;
 use std::marker::Model;
 use tal_tree::{Act, Shown, Site};
 use world_copies::Terminal;
+use world_copies::node_copies::Downs;
+use world_copies::process_copies::ProcessCopies;
 
 /// The machine over packets. Once an allocation was refused to it, it answers so for good.
 #[derive(Drop)]

@@ -1,6 +1,6 @@
 ghost use Rattle.std.specs.Prelude.{◌≡◌, [], ◌∷◌, IfOk, OnOk};
 ghost use Rattle.message_layout.specs.Layout.{IsCarriedWithin};
-ghost use Rattle.node_copies.specs.Seen.{step_sendings};
+ghost use Rattle.world_copies.specs.node_copies.specs.Seen.{step_sendings};
 ghost use Rattle.event_parts.specs.Numbers.{CanPush};
 ghost use Rattle.site_machine.specs.Needs.{AreWithin, AreWithinIfAny};
 ghost use Rattle.site_machine.specs.Told.{Answers, sent_all};
@@ -9,8 +9,8 @@ use crate::whole::MachineParts;
 use crate::wording::words_of;
 use gd_words::{List, NoMemory};
 use machine_states::Effect;
-use node_copies::StepOutcome;
 use sendings::Sending;
+use world_copies::node_copies::StepOutcome;
 
 impl MachineParts {
     /// A message is sent at a node, where that runs: to where the node finds the receiver.

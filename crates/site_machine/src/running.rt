@@ -3,8 +3,8 @@ ghost use Rattle.schedule.specs.declared.event.Event.TheVariants as event;
 ghost use Rattle.computed_changes.specs.Entered.{enter_done};
 ghost use Rattle.world_semantics.specs.Running.{run_done};
 ghost use Rattle.machine_states.specs.States.{Settles};
-ghost use Rattle.node_copies.specs.Seen.{step_sendings};
-ghost use Rattle.number_ranges.specs.HasRoom.{WorldHasRoom};
+ghost use Rattle.world_copies.specs.node_copies.specs.Seen.{step_sendings};
+ghost use Rattle.world_copies.specs.number_ranges.specs.HasRoom.{WorldHasRoom};
 ghost use Rattle.packet_wires.specs.Play.{play};
 ghost use Rattle.world_copies.specs.Told.{sent_in};
 ghost use Rattle.site_machine.specs.Needs.{IsReady};
@@ -13,7 +13,7 @@ ghost use Rattle.site_machine.specs.Told.{unsent};
 use crate::whole::MachineParts;
 use gd_words::NoMemory;
 use machine_states::Effect;
-use node_copies::StepOutcome;
+use world_copies::node_copies::StepOutcome;
 
 impl MachineParts {
     /// A process runs.

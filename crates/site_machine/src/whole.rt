@@ -1,6 +1,6 @@
 ghost use Rattle.std.specs.Prelude.{◌≡◌, IfOk, OnOk};
 ghost use Rattle.packet_wires.specs.Play.{packeted_at_boot};
-ghost use Rattle.process_copies.specs.Starting.{IsStartable};
+ghost use Rattle.world_copies.specs.process_copies.specs.Starting.{IsStartable};
 ghost use Rattle.site_machine.specs.Seen.{closed_state};
 
 use gd_words::NoMemory;

@@ -4,7 +4,7 @@ ghost use Rattle.message_layout.specs.Messages.{Carrying};
 ghost use Rattle.sendings.specs.Seen.{message_of};
 
 use gd_words::{List, NoMemory};
-use message_words::{checkpoint_words, reply_words, request_words, taken_words};
+use node::message_words::{checkpoint_words, reply_words, request_words, taken_words};
 use sendings::Message;
 use std::alloc::Global;
 

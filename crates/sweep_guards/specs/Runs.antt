@@ -1,7 +1,7 @@
 -- What rows and sweeps are, run by run and row by row.
 use Rattle.std.specs.Prelude.{◌≡◌, ℕ, List, [], ◌∷◌, Some}
-use Rattle.packet_runs.specs.Ends.{IsRunOf}
-use Rattle.packet_runs.specs.declared.ran.Ran.{Ran}
+use Rattle.schedule_sweeps.specs.packet_runs.specs.Ends.{IsRunOf}
+use Rattle.schedule_sweeps.specs.packet_runs.specs.declared.ran.Ran.{Ran}
 use Rattle.run_table.specs.Counts.{row_of}
 use Rattle.run_table.specs.declared.rows.Row.{Row}
 use Rattle.run_table.specs.declared.table.ProcessorRow.{ProcessorRow}

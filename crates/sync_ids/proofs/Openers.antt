@@ -11,7 +11,7 @@ use Rattle.std.proofs.lemmas.Option.{slice_get-map, slice_get_read, get_or_from_
 use Rattle.std.proofs.Math.Seq.{map-set_same}
 use Rattle.checkpoint_image.specs.Receive.{last_ones, after_taking, after_answering}
 use Rattle.checkpoint_image.specs.declared.receive.OpenerBlock.{OpenerBlock}
-use Rattle.tal_tree.specs.declared.site.OpenerSpec.{OpenerSpec}
+use Rattle.checkpoint_image.specs.tal_tree.specs.declared.site.OpenerSpec.{OpenerSpec}
 use Rattle.sync_ids.specs.declared.opener.Opener.{Opener}
 use Rattle.sync_ids.specs.Openers.{block_of, depth_of, untaken_of, remembered}
 use Rattle.sync_ids.specs.Tables.{IsDepth, Remembered, IsSound, untaken, nothing_taken, is_of_depth, are_of_depths}

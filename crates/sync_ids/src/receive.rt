@@ -7,11 +7,11 @@ ghost use Rattle.sync_ids.specs.Openers.{block_of, depth_of, untaken_of};
 ghost use Rattle.sync_ids.specs.Tables.{IsDepth, IsSound, are_of_depths, can_hold, fits, last_taken, nothing_taken};
 
 use crate::opener::Opener;
+use checkpoint_image::tal_tree::OpenerSpec;
 use checkpoint_image::{OpenerBlock, ReceiveBlock, RequestStanding};
 use gd_words::{List, NoMemory, Words};
 use std::alloc::Global;
 use std::marker::Model;
-use tal_tree::OpenerSpec;
 
 /// What a process remembers of its openers: of each the number last taken and the latest replies, and whose request is
 /// in hand.

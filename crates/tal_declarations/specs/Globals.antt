@@ -2,7 +2,7 @@
 use Rattle.std.specs.Prelude.{ℕ, ◌+◌, ◌||◌, min, nat_lt, nat_le, Bool, false, ℤ, pos, zero, neg_ℤ, int_lt, List, []}
 use Rattle.std.specs.Prelude.{◌∷◌, ◌++◌, length, Option, Some, None, option_map, is_some, unwrap_or, if◌then◌else◌}
 use Rattle.gd_words.specs.Arithmetic.{wrap}
-use Rattle.tal_tokens.specs.declared.token.At.{At}
+use Rattle.tal_syntax.specs.tal_tokens.specs.declared.token.At.{At}
 use Rattle.tal_syntax.specs.Grammar as g
 use Rattle.tal_tree.specs.Shapes.{width}
 use Rattle.tal_tree.specs.declared.program.Shape.{Shape}

@@ -1,7 +1,7 @@
 -- The headings of procedures, their parameters and their locals.
 use Rattle.std.specs.Prelude.{ℕ, ◌+◌, ◌||◌, ◌&&◌, ◌==◌, not, min, nat_le, Bool, true, false, List, [], ◌∷◌, ◌++◌}
 use Rattle.std.specs.Prelude.{length, Option, Some, None, is_some, if◌then◌else◌}
-use Rattle.tal_tokens.specs.declared.token.At.{At}
+use Rattle.tal_syntax.specs.tal_tokens.specs.declared.token.At.{At}
 use Rattle.tal_syntax.specs.Grammar as g
 use Rattle.tal_names.specs.declared.fault.Rule.TheVariants.{Unknown, Twice, Prologue, Limit}
 use Rattle.tal_names.specs.declared.fault.RuleFault.{RuleFault}

@@ -19,8 +19,8 @@ use tal_names::least::{with_fault, with_fault_if};
 use tal_names::meaning::Meaning;
 use tal_names::names::Names;
 use tal_names::system::system_of;
+use tal_syntax::tal_tokens::At;
 use tal_syntax::{Atom, Bounds, Constant, Globals, Item, Literal, NextItem, NextLiteral};
-use tal_tokens::At;
 use tal_tree::Shape;
 
 /// The most global names.

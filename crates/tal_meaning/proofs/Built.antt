@@ -10,7 +10,7 @@ use Rattle.tal_tree.specs.declared.statement.What.TheVariants as what
 use Rattle.tal_names.specs.declared.scope.Named.{Named}
 use Rattle.tal_names.specs.declared.scope.Scope.{Scope}
 use Rattle.tal_rules.specs.declared.walk.Walk.{Walk}
-use Rattle.tal_declarations.specs.Globals.{with_lines, nothing_declared}
+use Rattle.tal_rules.specs.tal_declarations.specs.Globals.{with_lines, nothing_declared}
 use Rattle.tal_names.specs.Names.{Declarations}
 use Rattle.tal_names.specs.Scopes.{meaning_of}
 use Rattle.tal_rules.specs.Statements.{stepped, after}

@@ -3,3 +3,4 @@ pub mod Expressions
 pub mod Judged
 pub mod Programs
 pub mod Statements
+pub use Rattle.tal_rules

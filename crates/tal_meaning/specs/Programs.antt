@@ -7,14 +7,14 @@ use Rattle.tal_tree.specs.declared.program.Program.{Program}
 use Rattle.tal_tree.specs.declared.program.Shape.{Shape}
 use Rattle.tal_tree.specs.declared.program.Shape.TheVariants as shape
 use Rattle.tal_tree.specs.declared.statement.Statement.{Statement}
-use Rattle.tal_declarations.specs.declared.table.Files.{Files}
+use Rattle.tal_rules.specs.tal_declarations.specs.declared.table.Files.{Files}
 use Rattle.tal_names.specs.declared.scope.Named.{Named}
 use Rattle.tal_rules.specs.declared.walk.Progress.{Progress}
 use Rattle.tal_names.specs.declared.scope.Scope.{Scope}
 use Rattle.tal_rules.specs.declared.walk.Walk.{Walk}
 use Rattle.tal_rules.specs.Calls.{file_number}
-use Rattle.tal_declarations.specs.Globals.{with_lines, nothing_declared}
-use Rattle.tal_declarations.specs.Headings.{parameters_of, locals_of}
+use Rattle.tal_rules.specs.tal_declarations.specs.Globals.{with_lines, nothing_declared}
+use Rattle.tal_rules.specs.tal_declarations.specs.Headings.{parameters_of, locals_of}
 use Rattle.tal_names.specs.Names.{Declarations, meaning_in}
 use Rattle.tal_rules.specs.Statements.{after}
 use Rattle.tal_rules.specs.Texts.{scope_of, gives_by, entered, after_procedure, first_progress, headed_text, files_by}

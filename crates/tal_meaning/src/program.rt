@@ -1,5 +1,5 @@
 ghost use Rattle.std.specs.Prelude.{◌≡◌, [], ◌∷◌, ◌++◌, min, length, OnOk, IfOk};
-ghost use Rattle.tal_declarations.specs.Headings.{locals_of};
+ghost use Rattle.tal_rules.specs.tal_declarations.specs.Headings.{locals_of};
 ghost use Rattle.tal_rules.specs.Texts.{body_after, after_procedure, first_progress};
 ghost use Rattle.tal_syntax.specs.Seen.{seen_heading, seen_locals, seen_statement, seen_row, seen_procedure};
 ghost use Rattle.tal_syntax.specs.Seen.{seen_procedures, seen_text};
@@ -10,11 +10,11 @@ ghost use Rattle.tal_meaning.specs.Programs.{tree_of_procedure, trees_of, progra
 use crate::statement::{push_row, push_statement};
 use gd_words::{Ident, List, NoMemory};
 use std::alloc::Global;
-use tal_declarations::heading::{does_give, locals_of, parameters_of};
 use tal_names::least::answer_of;
 use tal_names::names::Names;
 use tal_names::scope::{Named, Scope};
 use tal_rules::call::file_number;
+use tal_rules::tal_declarations::heading::{does_give, locals_of, parameters_of};
 use tal_rules::text::{Tables, enter, entered, first_progress, judge_text, passed};
 use tal_rules::walk::{Progress, Walk};
 use tal_syntax::{Next, Statement, Text};

@@ -6,7 +6,7 @@ use Rattle.std.specs.Cmp.Lexicographic.{bytes_decides, nat_list_eq_equiv}
 use Rattle.std.proofs.lemmas.Bool.{true≢false}
 use Rattle.std.specs.Prelude.{cond, IsSome}
 use Rattle.std.specs.BTreeMap.{BTreeMap, get, is_at}
-use Rattle.gd_words.specs.IdentOrder.{ident_cmp, ident_ties}
+use Rattle.tal_syntax.specs.gd_words.specs.IdentOrder.{ident_cmp, ident_ties}
 use Rattle.tal_names.specs.declared.meaning.Meaning.{Meaning}
 use Rattle.tal_names.specs.Found.{place_in}
 use Rattle.tal_names.specs.Names.{Declarations, same, meaning_in, is_declared, with_name}

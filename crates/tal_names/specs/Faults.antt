@@ -2,10 +2,10 @@
 use Rattle.std.specs.Prelude.{ℕ, ◌≡◌, ◌==◌, nat_lt, Bool, false, List, [], ◌∷◌, Option, Some, None, Contains}
 use Rattle.std.specs.Prelude.{if◌then◌else◌}
 use Rattle.std.specs.List.{All}
-use Rattle.tal_tokens.specs.declared.token.At.{At}
-use Rattle.tal_tree.specs.declared.fault.TalFault.{TalFault}
-use Rattle.tal_tree.specs.declared.fault.TalFault.TheVariants as tal
-use Rattle.tal_tree.specs.declared.place.Place.{Place}
+use Rattle.tal_syntax.specs.tal_tokens.specs.declared.token.At.{At}
+use Rattle.tal_syntax.specs.tal_tree.specs.declared.fault.TalFault.{TalFault}
+use Rattle.tal_syntax.specs.tal_tree.specs.declared.fault.TalFault.TheVariants as tal
+use Rattle.tal_syntax.specs.tal_tree.specs.declared.place.Place.{Place}
 use Rattle.tal_names.specs.declared.fault.Rule.{Rule}
 use Rattle.tal_names.specs.declared.fault.Rule.TheVariants.{Unknown, Twice, WrongKind, NotBefore, Prologue, Limit}
 use Rattle.tal_names.specs.declared.fault.Rule.TheVariants.{NoMain}

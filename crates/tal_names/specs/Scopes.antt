@@ -1,6 +1,6 @@
 -- What a name stands for in the body of a procedure, and what it has to be where it stands.
 use Rattle.std.specs.Prelude.{ℕ, Bool, true, false, List, [], Option, Some, None, if◌then◌else◌}
-use Rattle.tal_tokens.specs.declared.token.At.{At}
+use Rattle.tal_syntax.specs.tal_tokens.specs.declared.token.At.{At}
 use Rattle.tal_names.specs.declared.fault.Rule.TheVariants.{Unknown, WrongKind}
 use Rattle.tal_names.specs.declared.fault.RuleFault.{RuleFault}
 use Rattle.tal_names.specs.declared.meaning.Meaning.{Meaning}

@@ -7,8 +7,8 @@ use crate::fault::{Rule, RuleFault};
 use crate::least::{with_fault, with_fault_if};
 use crate::meaning::{Meaning, Need};
 use crate::scope::Scope;
-use gd_words::Ident;
-use tal_tokens::At;
+use tal_syntax::gd_words::Ident;
+use tal_syntax::tal_tokens::At;
 
 /// What a name stands for.
 pub fn meaning_of(scope: &Scope, name: Ident) -> Option<Meaning>

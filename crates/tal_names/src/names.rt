@@ -2,11 +2,11 @@ ghost use Rattle.std.specs.Prelude.{◌≡◌, [], length, IfOk, OnOk};
 ghost use Rattle.tal_names.specs.Names.{meaning_in, is_declared, with_name};
 
 use crate::meaning::Meaning;
-use gd_words::{Ident, List, NoMemory};
 use std::alloc::Global;
 use std::collections::BTreeMap;
 use std::collections::btree_map::Entry;
 use std::marker::Model;
+use tal_syntax::gd_words::{Ident, List, NoMemory};
 
 /// Names and what each is declared as, in the order of the declarations. The first declaration of a name counts.
 ///
@@ -20,7 +20,7 @@ pub struct Names {
 impl Model for Names {
     ghost use Rattle.std.specs.Prelude.{◌≡◌, List, ℕ};
     ghost use Rattle.std.specs.BTreeMap.{get};
-    ghost use Rattle.gd_words.specs.IdentOrder.{ident_cmp};
+    ghost use Rattle.tal_syntax.specs.gd_words.specs.IdentOrder.{ident_cmp};
     ghost use Rattle.tal_names.specs.declared.meaning.Meaning.{Meaning};
     ghost use Rattle.tal_names.specs.Found.{place_in};
 

@@ -1,6 +1,6 @@
 use crate::names::Names;
-use gd_words::Ident;
-use tal_tokens::At;
+use tal_syntax::gd_words::Ident;
+use tal_syntax::tal_tokens::At;
 
 /// A name where it stands.
 #[derive(Clone, Copy)]

@@ -23,7 +23,7 @@ use Rattle.tal_tree.specs.declared.fault.TalFault.{TalFault}
 use Rattle.tal_tree.specs.declared.fault.TalFault.TheVariants as fault
 use Rattle.tal_tree.specs.declared.program.Program.{Program}
 use Rattle.tal_names.specs.Faults.{IsLeast}
-use Rattle.tal_rules.specs.Texts.{faults}
+use Rattle.tal_meaning.specs.tal_rules.specs.Texts.{faults}
 use Rattle.tal_meaning.specs.Programs.{tree_of}
 use Rattle.tal_reader.specs.Places.{place_of}
 use Rattle.tal_reader.specs.Reads.{IsSyntaxOf, Reads, IsRefused, misspelt, unexpected, too_deep, unruly, IsRead}

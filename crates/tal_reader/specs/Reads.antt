@@ -11,7 +11,7 @@ use Rattle.tal_tree.specs.declared.fault.TalFault.TheVariants as fault
 use Rattle.tal_tree.specs.declared.program.Program.{Program}
 use Rattle.tal_names.specs.declared.fault.RuleFault.{RuleFault}
 use Rattle.tal_names.specs.Faults.{answer_of, IsLeast}
-use Rattle.tal_rules.specs.Texts.{faults}
+use Rattle.tal_meaning.specs.tal_rules.specs.Texts.{faults}
 use Rattle.tal_meaning.specs.Programs.{tree_of}
 use Rattle.tal_meaning.specs.Judged.{Judged}
 use Rattle.tal_builder.specs.Built.{IsSyntax}

@@ -12,4 +12,5 @@ pub mod statement;
 pub mod text;
 pub mod walk;
 
+pub use tal_declarations;
 pub use walk::{Progress, Stage, Walk};

@@ -28,7 +28,7 @@ use tal_names::names::Names;
 use tal_names::scope::Scope;
 use tal_syntax::{Heading, Local, Main, Next, Procedure, Statement, Text};
 use tal_tokens::At;
-use tal_tree::{FileUse, Item};
+use tal_tokens::tal_tree::{FileUse, Item};
 
 /// The most procedures.
 const PROCEDURES: u16 = 64;

@@ -1,5 +1,5 @@
-use gd_words::{Ident, List};
 use tal_tokens::At;
+use tal_tokens::gd_words::{Ident, List};
 
 /// `number | name`
 #[derive(Clone, Copy)]

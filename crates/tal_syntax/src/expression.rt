@@ -1,5 +1,5 @@
-use gd_words::{Boxed, Ident, List};
 use tal_tokens::At;
+use tal_tokens::gd_words::{Boxed, Ident, List};
 
 /// `"=" | "<>" | "<" | "<=" | ">" | ">="`
 #[derive(Clone, Copy)]

@@ -23,4 +23,6 @@ pub use statement::{
     Answer, Argument, ArgumentList, Arguments, Assign, AssignCall, Call, ForHead, Next,
     NextArgument, NextValue, Otherwise, Return, Statement, Test,
 };
+pub use tal_tokens;
+pub use tal_tokens::{gd_words, tal_tree};
 pub use text::{Procedure, Text};

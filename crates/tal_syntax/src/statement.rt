@@ -1,6 +1,6 @@
 use crate::expression::{Expr, Spot};
-use gd_words::{Boxed, Ident, List, Name};
 use tal_tokens::At;
+use tal_tokens::gd_words::{Boxed, Ident, List, Name};
 
 /// `expr | string`
 #[derive(Drop)]

@@ -1,7 +1,7 @@
 use crate::declaration::{Globals, Heading, Local};
 use crate::statement::{Next, Statement};
-use gd_words::List;
 use tal_tokens::At;
+use tal_tokens::gd_words::List;
 
 /// `heading { local } BEGIN { local } statement { ";" statement } END ";"`
 #[derive(Drop)]

@@ -5,8 +5,8 @@ use Rattle.std.specs.List.{position}
 use Rattle.std.specs.Option.{option_or}
 use Rattle.std.specs.Char.{is_ascii_digit, to_ascii_lowercase}
 use Rattle.std.specs.Cmp.Lexicographic.{pointwise}
-use Rattle.gd_words.specs.Arithmetic.{wrap}
-use Rattle.gd_words.specs.Spelling.{is_ident_sign, ident_of, name_of}
+use Rattle.tal_tree.specs.gd_words.specs.Arithmetic.{wrap}
+use Rattle.tal_tree.specs.gd_words.specs.Spelling.{is_ident_sign, ident_of, name_of}
 use Rattle.tal_tree.specs.declared.fault.TalFault.TheVariants as fault
 use Rattle.tal_tokens.specs.declared.cursor.Cursor.{Cursor}
 use Rattle.tal_tokens.specs.declared.token.At.{At}

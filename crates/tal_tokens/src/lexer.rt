@@ -4,9 +4,9 @@ ghost use Rattle.tal_tokens.specs.Lexer.{tokens_of, IsEnded};
 use crate::begun::Begun;
 use crate::cursor::Cursor;
 use crate::token::Token;
-use gd_words::{List, NoMemory};
 use std::alloc::Global;
 use tal_tree::TalFault;
+use tal_tree::gd_words::{List, NoMemory};
 
 /// The tokens of a text, `Finish` last, or the tokens before the first byte that belongs to none, and the fault there.
 #[derive(Drop)]

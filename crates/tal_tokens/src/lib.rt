@@ -17,4 +17,6 @@ pub mod token;
 mod word;
 
 pub use lexer::{TokenList, tokens};
+pub use tal_tree;
+pub use tal_tree::gd_words;
 pub use token::{At, Token};

@@ -6,8 +6,8 @@ ghost use Rattle.tal_tokens.specs.Lexeme.{same, is_string_end, text_token, strin
 use crate::begun::Begun;
 use crate::cursor::Cursor;
 use crate::token::{At, Token};
-use gd_words::Name;
 use tal_tree::TalFault;
+use tal_tree::gd_words::Name;
 
 fn is_receive(text: &[u8]) -> bool
     ensures { result ≡ same (map to_ascii_lowercase text.now) (codes "$receive") }

@@ -1,5 +1,5 @@
-use gd_words::{Ident, Name};
 use tal_tree::Place;
+use tal_tree::gd_words::{Ident, Name};
 
 /// Where a token stands: its place, and its bytes in the text from `start` up to, but without, `end`.
 #[derive(Clone, Copy, PartialEq, Eq)]

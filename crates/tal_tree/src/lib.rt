@@ -17,6 +17,7 @@ pub mod statement;
 pub use act::{Act, Shown};
 pub use expression::{Cond, Expr, Op, Rel, Spot, Variable};
 pub use fault::{DeckFault, TalFault};
+pub use gd_words;
 pub use gd_words::Ident;
 pub use place::Place;
 pub use program::{FileUse, Item, Procedure, Program, Shape, Target};

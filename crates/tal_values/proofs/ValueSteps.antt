@@ -2,7 +2,7 @@
 use Rattle.std.proofs.Common.{◌≡◌, ◌<◌, ◌≤◌, List, [], ◌∷◌, ◌++◌, ap, sym, ◌∙◌, arith}
 use Rattle.std.specs.Prelude.{ℤ, neg_ℤ, Option, option_map}
 use Rattle.std.specs.Option.{option_and_then}
-use Rattle.gd_words.specs.Arithmetic.{wrap}
+use Rattle.tal_tree.specs.gd_words.specs.Arithmetic.{wrap}
 use Rattle.tal_tree.specs.Rows.{read-is, minus-is, two-is}
 use Rattle.tal_tree.specs.declared.expression.Op.{Op}
 use Rattle.tal_tree.specs.declared.expression.Spot.{Spot}

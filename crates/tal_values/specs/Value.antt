@@ -4,7 +4,7 @@ use Rattle.std.specs.Prelude.{ℕ, ℤ, pos, ◌+ℤ◌, ◌-ℤ◌, ◌*ℤ◌,
 use Rattle.std.specs.Prelude.{unsigned_abs, List, Option, Some, None, slice_get, option_map, option_and_then}
 use Rattle.std.specs.Prelude.{if◌then◌else◌}
 use Rattle.std.specs.Ordering.{int_eq}
-use Rattle.gd_words.specs.Arithmetic.{wrap, quotient}
+use Rattle.tal_tree.specs.gd_words.specs.Arithmetic.{wrap, quotient}
 use Rattle.tal_tree.specs.declared.program.Item.{Item}
 use Rattle.tal_tree.specs.declared.program.Shape.{Shape}
 use Rattle.tal_tree.specs.declared.program.Shape.TheVariants.{Array}

@@ -1,8 +1,8 @@
 ghost use Rattle.std.specs.Prelude.{◌≡◌, IfOk};
 ghost use Rattle.tal_values.specs.Chain.{expr_of, chained, cond_of, linked};
 
-use gd_words::NoMemory;
 use std::alloc::Global;
+use tal_tree::gd_words::NoMemory;
 use tal_tree::{Cond, Expr, Op, Rel, Spot};
 
 /// What a chain of operators begins with.

@@ -8,8 +8,8 @@ use crate::chain::{Junction, Link, Test, cond_chain};
 use crate::expression::value;
 use crate::memory::Memory;
 use crate::operators::holds;
-use gd_words::NoMemory;
 use std::alloc::Global;
+use tal_tree::gd_words::NoMemory;
 use tal_tree::{Cond, Rel};
 
 /// The truth of a condition. None is a trap of a value that is looked at.

@@ -6,8 +6,8 @@ ghost use Rattle.tal_values.specs.Value.{cell_of, value_of, word_at};
 use crate::chain::{Operand, expr_chain};
 use crate::memory::{Cell, Memory};
 use crate::operators::{applied, element, negated};
-use gd_words::NoMemory;
 use std::alloc::Global;
+use tal_tree::gd_words::NoMemory;
 use tal_tree::{Expr, Spot};
 
 /// The value of an expression. None is a trap: a zero divisor, or an index outside the bounds of its array.

@@ -14,3 +14,5 @@ pub mod operators;
 pub use condition::truth;
 pub use expression::{cell, value};
 pub use memory::{Cell, Memory};
+pub use tal_tree;
+pub use tal_tree::gd_words;

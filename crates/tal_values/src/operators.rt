@@ -1,10 +1,10 @@
 ghost use Rattle.std.specs.Prelude.{◌≡◌, neg_ℤ, option_map, option_and_then};
-ghost use Rattle.gd_words.specs.Arithmetic.{wrap};
+ghost use Rattle.tal_tree.specs.gd_words.specs.Arithmetic.{wrap};
 ghost use Rattle.tal_values.specs.Seen.{seen};
 ghost use Rattle.tal_values.specs.Value.{both, holds, place_of, result_of};
 
 use crate::memory::{Cell, Memory};
-use gd_words::{div_trunc, wrap_add, wrap_mul, wrap_neg, wrap_sub};
+use tal_tree::gd_words::{div_trunc, wrap_add, wrap_mul, wrap_neg, wrap_sub};
 use tal_tree::{Op, Rel};
 
 /// The result of an operator on two words, none where one of them traps.

@@ -2,3 +2,4 @@ pub mod InForm
 pub mod NamesApart
 pub mod ToldLine
 pub mod Words
+pub use Rattle.report_reader

@@ -9,7 +9,7 @@ use Rattle.tal_tree.specs.declared.program.Target.TheVariants as target
 use Rattle.tal_tree.specs.declared.site.Kind.{Kind}
 use Rattle.tal_tree.specs.declared.site.Kind.TheVariants as kind
 use Rattle.tal_tree.specs.declared.site.Site.{Site}
-use Rattle.advice.specs.declared.answer.Advised.{Advised}
+use Rattle.site_advice.specs.advice.specs.declared.answer.Advised.{Advised}
 use Rattle.site_advice.specs.declared.pairs.PairAdvice.{PairAdvice}
 use Rattle.trace_print.specs.ActLine.{variable_name}
 use Rattle.trace_print.specs.EndLine.{end_line}

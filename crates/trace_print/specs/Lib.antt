@@ -12,3 +12,4 @@ pub mod StopLine
 pub mod TalNumbers
 pub mod VerdictLine
 pub mod VerdictText
+pub use Rattle.site_advice

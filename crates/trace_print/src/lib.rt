@@ -35,5 +35,6 @@ pub use report::{write_load_report, write_report};
 pub use rows::{write_row, write_sweep};
 pub use sectors::{write_all_sectors, write_sector};
 pub use shown::{write_all_shown, write_shown};
+pub use site_advice;
 pub use stops::{write_all_stops, write_stop};
 pub use verdict::{write_accepted, write_checked, write_refusal};

@@ -7,12 +7,12 @@ use Rattle.std.proofs.Math.Nat.{min-le_left}
 use Rattle.std.proofs.lemmas.Bool.{leb-true}
 use Rattle.std.proofs.lemmas.List.{length-set}
 use Rattle.std.proofs.lemmas.Option.{same_Some}
-use Rattle.tal_tree.specs.declared.expression.Variable.{Variable}
-use Rattle.tal_tree.specs.declared.program.Program.{Program}
-use Rattle.tal_tree.specs.declared.statement.Statement.{Statement}
-use Rattle.tal_tree.specs.declared.statement.What.{What, What-F, out-What}
-use Rattle.tal_values.specs.declared.memory.Cell.{Cell}
-use Rattle.tal_values.specs.declared.memory.Cell.TheVariants as cell
+use Rattle.process_semantics.specs.tal_tree.specs.declared.expression.Variable.{Variable}
+use Rattle.process_semantics.specs.tal_tree.specs.declared.program.Program.{Program}
+use Rattle.process_semantics.specs.tal_tree.specs.declared.statement.Statement.{Statement}
+use Rattle.process_semantics.specs.tal_tree.specs.declared.statement.What.{What, What-F, out-What}
+use Rattle.process_semantics.specs.tal_values.specs.declared.memory.Cell.{Cell}
+use Rattle.process_semantics.specs.tal_values.specs.declared.memory.Cell.TheVariants as cell
 use Rattle.process_semantics.specs.Calls.{received}
 use Rattle.process_semantics.specs.Changes.{done, before, ends, with_hand, with_waiting, with_word, with_words}
 use Rattle.process_semantics.specs.Changes.{variable_cell}

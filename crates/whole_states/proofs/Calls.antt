@@ -1,13 +1,13 @@
 -- A program begins in a whole state, and its steps at Take, Ask, Await, Answer and Checkpoint come to whole states.
 use Rattle.std.proofs.Common.{◌≡◌, ℕ, ℤ, Bool, true, false, List, [], ◌∷◌, Option, Some, None, slice_get, refl, ap}
 use Rattle.std.proofs.Common.{subst, sym, arith}
-use Rattle.tal_tree.specs.Regular.{IsRegular}
-use Rattle.tal_tree.specs.declared.expression.Variable.{Variable}
-use Rattle.tal_tree.specs.declared.expression.Variable.TheVariants.{Local, Simple}
-use Rattle.tal_tree.specs.declared.program.Program.{Program}
-use Rattle.tal_tree.specs.declared.statement.Statement.{Statement}
-use Rattle.tal_tree.specs.declared.statement.What.{What, What-F, out-What}
-use Rattle.tal_values.specs.Value.{value_of}
+use Rattle.process_semantics.specs.tal_tree.specs.Regular.{IsRegular}
+use Rattle.process_semantics.specs.tal_tree.specs.declared.expression.Variable.{Variable}
+use Rattle.process_semantics.specs.tal_tree.specs.declared.expression.Variable.TheVariants.{Local, Simple}
+use Rattle.process_semantics.specs.tal_tree.specs.declared.program.Program.{Program}
+use Rattle.process_semantics.specs.tal_tree.specs.declared.statement.Statement.{Statement}
+use Rattle.process_semantics.specs.tal_tree.specs.declared.statement.What.{What, What-F, out-What}
+use Rattle.process_semantics.specs.tal_values.specs.Value.{value_of}
 use Rattle.process_semantics.specs.Calls.{received, took_in, got_in, after_took, after_asked, after_got, after_answered}
 use Rattle.process_semantics.specs.Calls.{after_checkpoint}
 use Rattle.process_semantics.specs.Changes.{with_waiting}

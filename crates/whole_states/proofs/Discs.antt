@@ -3,9 +3,9 @@ use Rattle.std.proofs.Common.{◌≡◌, ◌≤◌, ◌<◌, ℕ, ◌+◌, ◌==
 use Rattle.std.proofs.Common.{[], ◌∷◌, length, Option, Some, None, refl, subst, sym, arith}
 use Rattle.std.specs.Option.{unwrap_or}
 use Rattle.std.specs.Ordering.{int_eq}
-use Rattle.gd_words.specs.Ranges.{HasNext}
-use Rattle.gd_words.specs.declared.device.DeviceCall.{DeviceCall}
-use Rattle.gd_words.specs.declared.device.DeviceCall.TheVariants.{Nothing, Read, Write}
+use Rattle.process_semantics.specs.gd_words.specs.Ranges.{HasNext}
+use Rattle.process_semantics.specs.gd_words.specs.declared.device.DeviceCall.{DeviceCall}
+use Rattle.process_semantics.specs.gd_words.specs.declared.device.DeviceCall.TheVariants.{Nothing, Read, Write}
 use Rattle.process_semantics.specs.Disc.{disc_start, disc_took, disc_checkpointed, disc_done, disc_answered, disc_call}
 use Rattle.process_semantics.specs.Disc.{call_of, call_at, sector_of, filled, reply_of, last_write_after}
 use Rattle.process_semantics.specs.declared.disc.DiscState.{DiscState}

@@ -2,12 +2,12 @@
 use Rattle.std.proofs.Common.{◌≡◌, ◌≤◌, inl, ℕ, ◌-◌, ℤ, pos, List, [], ◌∷◌, ◌++◌, length, drop, Some, slice_get, refl}
 use Rattle.std.proofs.Common.{subst, ◌∙◌, arith, length-append}
 use Rattle.std.proofs.lemmas.List.{length-set, length-replicate}
-use Rattle.gd_words.specs.Members.{IsAmong}
-use Rattle.tal_tree.specs.Regular.{IsRegular, IsRegularStatement}
-use Rattle.tal_tree.specs.declared.program.Procedure.{Procedure}
-use Rattle.tal_tree.specs.declared.program.Program.{Program}
-use Rattle.tal_tree.specs.declared.statement.Statement.{Statement}
-use Rattle.tal_tree.specs.declared.statement.What.{What, What-F, out-What}
+use Rattle.process_semantics.specs.gd_words.specs.Members.{IsAmong}
+use Rattle.process_semantics.specs.tal_tree.specs.Regular.{IsRegular, IsRegularStatement}
+use Rattle.process_semantics.specs.tal_tree.specs.declared.program.Procedure.{Procedure}
+use Rattle.process_semantics.specs.tal_tree.specs.declared.program.Program.{Program}
+use Rattle.process_semantics.specs.tal_tree.specs.declared.statement.Statement.{Statement}
+use Rattle.process_semantics.specs.tal_tree.specs.declared.statement.What.{What, What-F, out-What}
 use Rattle.process_semantics.specs.Changes.{local_set, put_before, without_next}
 use Rattle.process_semantics.specs.Image.{is_empty}
 use Rattle.process_semantics.specs.Remains.{Remains, leads_to}

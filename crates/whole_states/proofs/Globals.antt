@@ -2,8 +2,8 @@
 use Rattle.std.proofs.Common.{◌≡◌, ◌≤◌, ℕ, zero, suc, ℤ, pos, List, [], ◌∷◌, ◌++◌, length, map, drop, slice_set, refl}
 use Rattle.std.proofs.Common.{ap, ap₂, arith}
 use Rattle.std.proofs.lemmas.List.{length-replicate}
-use Rattle.tal_tree.specs.Shapes.{width}
-use Rattle.tal_tree.specs.declared.program.Item.{Item}
+use Rattle.process_semantics.specs.tal_tree.specs.Shapes.{width}
+use Rattle.process_semantics.specs.tal_tree.specs.declared.program.Item.{Item}
 use Rattle.process_semantics.specs.State.{words_of, zeros}
 use Rattle.whole_states.specs.Whole.{sizes_of}
 

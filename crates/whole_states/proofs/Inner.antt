@@ -2,17 +2,17 @@
 use Rattle.std.proofs.Common.{◌≡◌, ◌≤◌, inl, inr, ℕ, suc, ℤ, pos, Bool, true, false, List, [], ◌∷◌, ◌++◌, length}
 use Rattle.std.proofs.Common.{Option, Some, None, refl, ap, sym, subst, ◌∙◌, append_assoc, option_and_then}
 use Rattle.std.specs.Option.{option_map}
-use Rattle.gd_words.specs.Members.{IsAmong}
-use Rattle.tal_tree.specs.Regular.{IsCalled, IsRegular, IsRegularStatement}
-use Rattle.tal_tree.specs.Statements.{called_in}
-use Rattle.tal_tree.specs.declared.expression.Expr.{Expr}
-use Rattle.tal_tree.specs.declared.expression.Variable.{Variable}
-use Rattle.tal_tree.specs.declared.program.Procedure.{Procedure}
-use Rattle.tal_tree.specs.declared.program.Program.{Program}
-use Rattle.tal_tree.specs.declared.statement.Statement.{Statement}
-use Rattle.tal_tree.specs.declared.statement.What.{What, What-F, out-What}
-use Rattle.tal_values.specs.Value.{Memory, value_of}
-use Rattle.tal_values.specs.declared.memory.Cell.{Cell}
+use Rattle.process_semantics.specs.gd_words.specs.Members.{IsAmong}
+use Rattle.process_semantics.specs.tal_tree.specs.Regular.{IsCalled, IsRegular, IsRegularStatement}
+use Rattle.process_semantics.specs.tal_tree.specs.Statements.{called_in}
+use Rattle.process_semantics.specs.tal_tree.specs.declared.expression.Expr.{Expr}
+use Rattle.process_semantics.specs.tal_tree.specs.declared.expression.Variable.{Variable}
+use Rattle.process_semantics.specs.tal_tree.specs.declared.program.Procedure.{Procedure}
+use Rattle.process_semantics.specs.tal_tree.specs.declared.program.Program.{Program}
+use Rattle.process_semantics.specs.tal_tree.specs.declared.statement.Statement.{Statement}
+use Rattle.process_semantics.specs.tal_tree.specs.declared.statement.What.{What, What-F, out-What}
+use Rattle.process_semantics.specs.tal_values.specs.Value.{Memory, value_of}
+use Rattle.process_semantics.specs.tal_values.specs.declared.memory.Cell.{Cell}
 use Rattle.process_semantics.specs.Changes.{variable_cell}
 use Rattle.process_semantics.specs.Remains.{ways_into, ways_round, leads_to}
 use Rattle.process_semantics.specs.State.{Entry, Run, Test, Last, Frame, ProgramState, runs_of, first_of, next_of}

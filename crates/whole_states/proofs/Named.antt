@@ -1,11 +1,11 @@
 -- What a program lists at a checkpoint it may list, and the file that it asks at Ask is its own.
 use Rattle.std.proofs.Common.{◌≡◌, ◌<◌, ℕ, List, [], ◌∷◌, length, refl, subst, sym}
 use Rattle.std.proofs.lemmas.Option.{slice_get_within}
-use Rattle.tal_tree.specs.Named.{IsProcess}
-use Rattle.tal_tree.specs.Regular.{AreListed, IsRegular}
-use Rattle.tal_tree.specs.declared.program.Program.{Program}
-use Rattle.tal_tree.specs.declared.statement.Statement.{Statement}
-use Rattle.tal_tree.specs.declared.statement.What.{What, What-F, out-What}
+use Rattle.process_semantics.specs.tal_tree.specs.Named.{IsProcess}
+use Rattle.process_semantics.specs.tal_tree.specs.Regular.{AreListed, IsRegular}
+use Rattle.process_semantics.specs.tal_tree.specs.declared.program.Program.{Program}
+use Rattle.process_semantics.specs.tal_tree.specs.declared.statement.Statement.{Statement}
+use Rattle.process_semantics.specs.tal_tree.specs.declared.statement.What.{What, What-F, out-What}
 use Rattle.process_semantics.specs.Calls.{file_in, asked_file}
 use Rattle.process_semantics.specs.Image.{listed_items_in, listed_files_in}
 use Rattle.process_semantics.specs.Points.{point_of}

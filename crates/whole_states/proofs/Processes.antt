@@ -1,10 +1,10 @@
 -- The steps of processes of either kind: but for that at Ask they come to whole states that await nothing.
 use Rattle.std.proofs.Common.{◌≡◌, ◌≢◌, ◌≤◌, ◌<◌, ℕ, ℤ, List, true, length, refl, subst}
-use Rattle.gd_words.specs.Ranges.{HasNext}
-use Rattle.gd_words.specs.Members.{IsAmong}
-use Rattle.tal_tree.specs.Regular.{IsRegular}
-use Rattle.tal_tree.specs.declared.site.Kind.{Kind}
-use Rattle.tal_tree.specs.declared.site.Kind.TheVariants as kind
+use Rattle.process_semantics.specs.gd_words.specs.Ranges.{HasNext}
+use Rattle.process_semantics.specs.gd_words.specs.Members.{IsAmong}
+use Rattle.process_semantics.specs.tal_tree.specs.Regular.{IsRegular}
+use Rattle.process_semantics.specs.tal_tree.specs.declared.site.Kind.{Kind}
+use Rattle.process_semantics.specs.tal_tree.specs.declared.site.Kind.TheVariants as kind
 use Rattle.process_semantics.specs.Changes.{with_waiting}
 use Rattle.process_semantics.specs.Image.{listed_items, listed_files}
 use Rattle.process_semantics.specs.Process as process

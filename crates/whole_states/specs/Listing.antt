@@ -1,6 +1,6 @@
 -- What a process may list for a checkpoint.
 use Rattle.std.specs.Prelude.{◌≡◌, ℕ, List, [], length}
-use Rattle.tal_tree.specs.Regular.{AreListed}
+use Rattle.process_semantics.specs.tal_tree.specs.Regular.{AreListed}
 use Rattle.process_semantics.specs.Process.{ProcessState, Runs, Serves}
 
 -- a program may list its items that have words and its files that are opened to a process, each once; a disc may list

@@ -1,8 +1,8 @@
 -- The whole states of processes of either kind.
 use Rattle.std.specs.Prelude.{◌≤◌, ◌<◌, ℤ, List, length, Option, Some, None}
-use Rattle.tal_tree.specs.Regular.{IsRegular}
-use Rattle.tal_tree.specs.declared.site.Kind.{Kind}
-use Rattle.tal_tree.specs.declared.site.Kind.TheVariants as kind
+use Rattle.process_semantics.specs.tal_tree.specs.Regular.{IsRegular}
+use Rattle.process_semantics.specs.tal_tree.specs.declared.site.Kind.{Kind}
+use Rattle.process_semantics.specs.tal_tree.specs.declared.site.Kind.TheVariants as kind
 use Rattle.process_semantics.specs.declared.disc.DiscState.{DiscState}
 use Rattle.process_semantics.specs.declared.point.Point.{Point}
 use Rattle.process_semantics.specs.declared.point.Point.TheVariants.{Take, Answer, AtCheckpoint, Device}

@@ -1,9 +1,9 @@
 -- Whole states: those that a program may be in. What is no state of a program, such as two frames of which the lower
 -- one has called nothing, is none.
 use Rattle.std.specs.Prelude.{◌≡◌, ℕ, ℤ, true, false, List, [], ◌∷◌, map, length, slice_get, Option, Some}
-use Rattle.tal_tree.specs.Shapes.{width}
-use Rattle.tal_tree.specs.declared.program.Program.{Program}
-use Rattle.tal_tree.specs.declared.program.Procedure.{Procedure}
+use Rattle.process_semantics.specs.tal_tree.specs.Shapes.{width}
+use Rattle.process_semantics.specs.tal_tree.specs.declared.program.Program.{Program}
+use Rattle.process_semantics.specs.tal_tree.specs.declared.program.Procedure.{Procedure}
 use Rattle.process_semantics.specs.declared.point.Point.TheVariants.{Ask}
 use Rattle.process_semantics.specs.State.{Frame, ProgramState, called_by}
 use Rattle.process_semantics.specs.Changes.{with_waiting}

@@ -1,7 +1,7 @@
 ghost use Rattle.std.specs.Prelude.{◌≡◌, ◌≤◌, ◌<◌, ℕ, ℤ, true, false, List, length};
-ghost use Rattle.gd_words.specs.Ranges.{HasNext};
-ghost use Rattle.gd_words.specs.Members.{IsAmong};
-ghost use Rattle.tal_tree.specs.declared.site.Kind.{Kind};
+ghost use Rattle.process_semantics.specs.gd_words.specs.Ranges.{HasNext};
+ghost use Rattle.process_semantics.specs.gd_words.specs.Members.{IsAmong};
+ghost use Rattle.process_semantics.specs.tal_tree.specs.declared.site.Kind.{Kind};
 ghost use Rattle.process_semantics.specs.declared.disc.DiscState.{DiscState};
 ghost use Rattle.process_semantics.specs.declared.point.Point.TheVariants.{Take, Ask, Await, Answer, AtCheckpoint};
 ghost use Rattle.process_semantics.specs.declared.point.Point.TheVariants.{Device};

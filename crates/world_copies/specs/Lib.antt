@@ -7,3 +7,6 @@ pub mod Seen
 pub mod SiteWorld
 pub mod Starting
 pub mod Told
+pub use Rattle.process_copies.specs.node_copies
+pub use Rattle.process_copies.specs.number_ranges
+pub use Rattle.process_copies

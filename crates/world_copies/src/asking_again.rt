@@ -13,8 +13,8 @@ ghost use Rattle.world_copies.specs.Again.{of_copy, of_terminal, terminal_asking
 use crate::copies::WorldCopies;
 use crate::terminal::Terminal;
 use gd_words::{List, NoMemory, Request, Words};
-use node_copies::Address;
 use process_copies::ProcessCopies;
+use process_copies::node_copies::Address;
 use sendings::{Message, Sending, TERMINAL_NODE};
 use world_semantics::Which;
 

@@ -1,5 +1,5 @@
 ghost use Rattle.std.specs.Prelude.{◌≡◌, length, reverse};
-ghost use Rattle.node_copies.specs.ShownCounts.{replies_in, writes_in};
+ghost use Rattle.process_copies.specs.node_copies.specs.ShownCounts.{replies_in, writes_in};
 ghost use Rattle.world_semantics.specs.Kept.{acts_of};
 ghost use Rattle.world_semantics.specs.World.{has_noted, is_running};
 ghost use Rattle.world_copies.specs.Seen.{ArePlaced, pairs_in};
@@ -8,8 +8,8 @@ use crate::processors::Processors;
 use crate::terminal::Terminal;
 use gd_words::List;
 use logs::Shared;
-use node_copies::{Address, Downs, Records};
 use process_copies::ProcessCopies;
+use process_copies::node_copies::{Address, Downs, Records};
 use sendings::is_running;
 use std::alloc::Global;
 use std::marker::Model;

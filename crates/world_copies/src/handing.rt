@@ -2,17 +2,17 @@ ghost use Rattle.std.specs.Prelude.{◌≡◌, slice_get, IfOk, OnOk};
 ghost use Rattle.std.specs.Option.{option_map};
 ghost use Rattle.computed_changes.specs.Handed.{brought, handed_done, replied_done, replied_to};
 ghost use Rattle.computed_changes.specs.Laws.{NamesOpener};
-ghost use Rattle.number_ranges.specs.HasRoom.{WorldHasRoom};
+ghost use Rattle.process_copies.specs.number_ranges.specs.HasRoom.{WorldHasRoom};
 ghost use Rattle.plain_semantics.specs.Openers.{openers_of};
 ghost use Rattle.sendings.specs.Seen.{message_of};
-ghost use Rattle.node_copies.specs.Seen.{step_sendings};
+ghost use Rattle.process_copies.specs.node_copies.specs.Seen.{step_sendings};
 ghost use Rattle.world_copies.specs.Room.{NamesItsOpener};
 ghost use Rattle.world_copies.specs.SiteWorld.{changed_by};
 ghost use Rattle.world_copies.specs.Told.{sent_in};
 
 use crate::copies::WorldCopies;
 use gd_words::{NoMemory, Reply};
-use node_copies::StepOutcome;
+use process_copies::node_copies::StepOutcome;
 use sendings::{Message, TERMINAL_NODE};
 use tal_tree::Who;
 

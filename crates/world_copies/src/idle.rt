@@ -2,8 +2,9 @@ ghost use Rattle.std.specs.Prelude.{◌≡◌, ◌==◌, length, slice_get, is_s
 ghost use Rattle.world_semantics.specs.World.{is_running};
 ghost use Rattle.world_semantics.specs.Running.{run_done};
 ghost use Rattle.computed_changes.specs.Entered.{enter_done, enter_where};
-ghost use Rattle.message_wires.specs.Idle.{all_from, all_noted, has_marked_all, has_marked_if, none_enters, none_runs};
-ghost use Rattle.message_wires.specs.Idle.{none_waits};
+ghost use Rattle.process_copies.specs.message_wires.specs.Idle.{all_from, all_noted, has_marked_all, has_marked_if};
+ghost use Rattle.process_copies.specs.message_wires.specs.Idle.{none_enters, none_runs};
+ghost use Rattle.process_copies.specs.message_wires.specs.Idle.{none_waits};
 ghost use Rattle.world_copies.specs.Seen.{pairs_in};
 
 use crate::copies::WorldCopies;

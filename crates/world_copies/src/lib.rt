@@ -27,4 +27,6 @@ mod telling_again;
 pub mod terminal;
 
 pub use copies::WorldCopies;
+pub use process_copies;
+pub use process_copies::node_copies;
 pub use terminal::Terminal;

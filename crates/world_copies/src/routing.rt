@@ -5,8 +5,8 @@ ghost use Rattle.plain_semantics.specs.Openers.{openers_of};
 ghost use Rattle.sendings.specs.Seen.{message_of};
 
 use crate::copies::WorldCopies;
-use node_copies::Downs;
 use process_copies::ProcessCopies;
+use process_copies::node_copies::Downs;
 use sendings::{Message, TERMINAL_NODE};
 use tal_tree::Who;
 use world_semantics::Which;

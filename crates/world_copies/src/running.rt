@@ -1,13 +1,13 @@
 ghost use Rattle.std.specs.Prelude.{◌≡◌, IfOk, OnOk};
 ghost use Rattle.world_semantics.specs.Running.{run_done};
-ghost use Rattle.number_ranges.specs.HasRoom.{WorldHasRoom};
-ghost use Rattle.node_copies.specs.Seen.{step_sendings};
+ghost use Rattle.process_copies.specs.number_ranges.specs.HasRoom.{WorldHasRoom};
+ghost use Rattle.process_copies.specs.node_copies.specs.Seen.{step_sendings};
 ghost use Rattle.world_copies.specs.SiteWorld.{changed_by};
 ghost use Rattle.world_copies.specs.Told.{sent_in};
 
 use crate::copies::WorldCopies;
 use gd_words::NoMemory;
-use node_copies::StepOutcome;
+use process_copies::node_copies::StepOutcome;
 
 impl WorldCopies {
     /// A process makes its step, if it can.

@@ -1,6 +1,6 @@
 ghost use Rattle.std.specs.Prelude.{◌≡◌, [], if◌then◌else◌, map, None, Some};
 ghost use Rattle.computed_changes.specs.Stopped.{stop_done, stopped_world};
-ghost use Rattle.message_wires.specs.Play.{has_stopped};
+ghost use Rattle.process_copies.specs.message_wires.specs.Play.{has_stopped};
 ghost use Rattle.world_semantics.specs.Rules.{stopped_pair};
 ghost use Rattle.world_copies.specs.Changes.{changed};
 

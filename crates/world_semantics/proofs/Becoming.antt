@@ -5,8 +5,8 @@ use Rattle.gd_words.specs.Members.{IsAmong}
 use Rattle.gd_words.specs.declared.message.Request.{Request}
 use Rattle.tal_tree.specs.declared.act.Act.{Act}
 use Rattle.tal_tree.specs.declared.site.Site.{Site}
-use Rattle.process_semantics.specs.declared.point.Point.TheVariants as point
-use Rattle.process_semantics.specs.Process as process
+use Rattle.plain_semantics.specs.process_semantics.specs.declared.point.Point.TheVariants as point
+use Rattle.plain_semantics.specs.process_semantics.specs.Process as process
 use Rattle.plain_semantics.specs.Openers.{openers_of}
 use Rattle.checkpoint_image.specs.declared.message.ImageMessage.{ImageMessage}
 use Rattle.checkpoint_image.specs.declared.message.TakenMessage.{TakenMessage}

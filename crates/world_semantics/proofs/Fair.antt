@@ -9,7 +9,7 @@ use Rattle.tal_tree.specs.declared.act.Act.{Act}
 use Rattle.tal_tree.specs.declared.site.Site.{Site}
 use Rattle.tal_tree.specs.declared.site.ProcessSpec.{ProcessSpec}
 use Rattle.tal_tree.specs.declared.site.OpenerSpec.{OpenerSpec}
-use Rattle.process_semantics.specs.Image.{restored}
+use Rattle.plain_semantics.specs.process_semantics.specs.Image.{restored}
 use Rattle.plain_semantics.specs.Openers.{openers_of}
 use Rattle.disc_device.specs.declared.stored.Stored.{Stored}
 use Rattle.checkpoint_image.specs.declared.message.ImageMessage.{ImageMessage}

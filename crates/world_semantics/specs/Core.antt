@@ -6,9 +6,9 @@ use Rattle.gd_words.specs.declared.device.DeviceCall.{DeviceCall}
 use Rattle.tal_tree.specs.declared.site.Site.{Site}
 use Rattle.tal_tree.specs.declared.site.ProcessSpec.{ProcessSpec}
 use Rattle.tal_tree.specs.declared.site.OpenerSpec.{OpenerSpec}
-use Rattle.process_semantics.specs.declared.point.Point.TheVariants as point
-use Rattle.process_semantics.specs.Process as process
-use Rattle.process_semantics.specs.Image.{image_of, listed_items, listed_files, restored}
+use Rattle.plain_semantics.specs.process_semantics.specs.declared.point.Point.TheVariants as point
+use Rattle.plain_semantics.specs.process_semantics.specs.Process as process
+use Rattle.plain_semantics.specs.process_semantics.specs.Image.{image_of, listed_items, listed_files, restored}
 use Rattle.plain_semantics.specs.Openers.{files_of, openers_of}
 use Rattle.checkpoint_image.specs.declared.receive.OpenerBlock.{OpenerBlock}
 use Rattle.checkpoint_image.specs.declared.receive.ReceiveBlock.{ReceiveBlock}

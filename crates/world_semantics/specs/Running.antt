@@ -10,9 +10,9 @@ use Rattle.tal_tree.specs.declared.act.Act.TheVariants as act
 use Rattle.tal_tree.specs.declared.act.Shown.TheVariants as shown
 use Rattle.tal_tree.specs.declared.site.Site.{Site}
 use Rattle.tal_tree.specs.declared.site.OpenerSpec.{OpenerSpec}
-use Rattle.process_semantics.specs.declared.point.Point.{Point}
-use Rattle.process_semantics.specs.declared.point.Point.TheVariants as point
-use Rattle.process_semantics.specs.Process as process
+use Rattle.plain_semantics.specs.process_semantics.specs.declared.point.Point.{Point}
+use Rattle.plain_semantics.specs.process_semantics.specs.declared.point.Point.TheVariants as point
+use Rattle.plain_semantics.specs.process_semantics.specs.Process as process
 use Rattle.plain_semantics.specs.Openers.{openers_of}
 use Rattle.disc_device.specs.Sectors.{stored_after}
 use Rattle.checkpoint_image.specs.declared.receive.OpenerBlock.{OpenerBlock}

@@ -3,7 +3,7 @@ ghost use Rattle.gd_words.specs.Members.{IsAmong};
 ghost use Rattle.tal_tree.specs.declared.site.Site.{Site};
 ghost use Rattle.schedule.specs.declared.event.Event.{Event};
 ghost use Rattle.schedule.specs.declared.event.Event.TheVariants.{Run};
-ghost use Rattle.process_semantics.specs.Process.{in_hand};
+ghost use Rattle.plain_semantics.specs.process_semantics.specs.Process.{in_hand};
 ghost use Rattle.world_semantics.specs.declared.role.Role.TheVariants.{Acting, Gone};
 ghost use Rattle.world_semantics.specs.World.{Pair, Down, Terminal, World, Which, copy_of};
 ghost use Rattle.world_semantics.specs.Kept.{own_acts};

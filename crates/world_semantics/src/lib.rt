@@ -14,6 +14,7 @@ pub mod message_laws;
 pub mod role;
 pub mod which;
 
+pub use checkpoint_image;
 pub use examples::{
     a_disc_finds_its_write_done, a_lost_take_is_replaced, a_repeated_request_is_answered_once,
     a_request_can_wait_ahead, an_adder_is_taken_over,

@@ -4,8 +4,8 @@ use Rattle.tal_tree.specs.declared.site.Who.{Who}
 use Rattle.process_semantics.specs.declared.point.Point.TheVariants as point
 use Rattle.process_semantics.specs.Process as process
 use Rattle.whole_states.specs.Processes.{IsRegularKind}
-use Rattle.discipline_laws.specs.Disciplined.{IsDisciplined}
-use Rattle.discipline_laws.proofs.Discs.{disc-disciplined}
+use Rattle.awaited_requests.specs.discipline_laws.specs.Disciplined.{IsDisciplined}
+use Rattle.awaited_requests.specs.discipline_laws.proofs.Discs.{disc-disciplined}
 use Rattle.process_histories.specs.Served.{disc}
 use Rattle.world_semantics.specs.declared.which.Which.{Which}
 use Rattle.world_semantics.specs.declared.which.Which.TheVariants.{First, Second}

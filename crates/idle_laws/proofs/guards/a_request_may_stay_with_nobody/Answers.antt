@@ -23,7 +23,7 @@ use Rattle.world_semantics.proofs.Ran.{run-idle}
 use Rattle.letters.specs.Idle.{IsIdle, OneStops}
 use Rattle.letters.specs.Posts.{Post, plays_enter, plays_fail, plays_tick, one_mark, no_mark, HasPlayed, played_none}
 use Rattle.letters.specs.Posts.{played_more}
-use Rattle.awaited_requests.specs.Examples.{site_with, disc_pair, letter_to}
+use Rattle.served_requests.specs.awaited_requests.specs.Examples.{site_with, disc_pair, letter_to}
 use Rattle.idle_laws.proofs.guards.a_request_may_stay_with_nobody.Goals as goal
 
 abbrev two_stop : (post : Post) × HasPlayed (site_with 2 0 1) (Enter 0 ∷ Fail 0 ∷ Fail 1 ∷ Tick 16 ∷ []) post

@@ -4,7 +4,7 @@ use Rattle.left_runs.specs.LeftRuns.{IsLeftText, run_text}
 use Rattle.packet_runs.specs.Ends.{IsRunOf}
 use Rattle.packet_runs.specs.Runs.{course_on, packet_rules}
 use Rattle.schedule_loop.specs.Ends.{CanBePlayed}
-use Rattle.site_machine.specs.Needs.{IsReady}
+use Rattle.packet_runs.specs.site_machine.specs.Needs.{IsReady}
 use Rattle.left_runs.proofs.run.left_after.Goals as goal
 
 pub returns : goal.returns

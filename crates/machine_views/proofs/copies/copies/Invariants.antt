@@ -1,5 +1,5 @@
 use Rattle.std.proofs.Common.{◌≡◌, ◌++◌, drop}
-use Rattle.world_copies.specs.Seen.{pairs_in}
+use Rattle.site_machine.specs.world_copies.specs.Seen.{pairs_in}
 use Rattle.machine_views.specs.Views.{copy_views, each_at}
 use Rattle.machine_views.proofs.copies.copies.Given as goal
 

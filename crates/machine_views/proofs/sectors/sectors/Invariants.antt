@@ -1,5 +1,5 @@
 use Rattle.std.proofs.Common.{◌≡◌, ◌++◌, drop}
-use Rattle.world_copies.specs.Seen.{pairs_in}
+use Rattle.site_machine.specs.world_copies.specs.Seen.{pairs_in}
 use Rattle.machine_views.specs.Views.{each_at, sector_views}
 use Rattle.machine_views.proofs.sectors.sectors.Given as goal
 

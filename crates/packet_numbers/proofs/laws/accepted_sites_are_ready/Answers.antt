@@ -1,4 +1,4 @@
-use Rattle.accepted_sites.proofs.Accepted.{accepted-fit}
+use Rattle.packets_played.specs.accepted_sites.proofs.Accepted.{accepted-fit}
 use Rattle.packets_played.proofs.Small.{small-of}
 use Rattle.packet_numbers.proofs.Ready.{is-ready}
 use Rattle.packet_numbers.proofs.laws.accepted_sites_are_ready.Goals as goal

@@ -1,5 +1,5 @@
-use Rattle.idle_end.proofs.Reached.{end-of}
-use Rattle.idle_end.proofs.Still.{none-left, closed-shows-nothing, same-state}
+use Rattle.idle_laws.specs.idle_end.proofs.Reached.{end-of}
+use Rattle.idle_laws.specs.idle_end.proofs.Still.{none-left, closed-shows-nothing, same-state}
 use Rattle.packets_played.proofs.Joined.{ends}
 use Rattle.packets_played.proofs.laws.an_idle_end_that_is_played_leaves_none.Goals as goal
 

@@ -1,6 +1,6 @@
 use Rattle.std.proofs.Common.{arith}
-use Rattle.takeover_laws.proofs.Kept.{kept-possible, kept-shown}
-use Rattle.accepted_sites.proofs.Accepted.{accepted-fit}
+use Rattle.idle_laws.specs.takeover_laws.proofs.Kept.{kept-possible, kept-shown}
+use Rattle.idle_laws.specs.accepted_sites.proofs.Accepted.{accepted-fit}
 use Rattle.packets_played.proofs.Joined.{runs}
 use Rattle.packets_played.proofs.laws.what_is_played_is_possible.Goals as goal
 

@@ -1,6 +1,6 @@
 use Rattle.std.proofs.Common.{◌≡◌, take, map}
 use Rattle.process_semantics.specs.State.{zeros}
-use Rattle.tal_tree.specs.Shapes.{width}
+use Rattle.tal_values.specs.tal_tree.specs.Shapes.{width}
 use Rattle.process_semantics.proofs.globals.zeroed.Given as goal
 
 abbrev pub invariant-loop-item : goal.invariant-loop-item

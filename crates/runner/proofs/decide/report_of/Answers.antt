@@ -1,9 +1,9 @@
 use Rattle.std.proofs.Common.{◌∙◌, ap, subst, sym}
-use Rattle.packet_runs.specs.Ends.{IsRunOf}
-use Rattle.packet_runs.specs.Runs.{course_on, packet_rules}
+use Rattle.command_dues.specs.packet_runs.specs.Ends.{IsRunOf}
+use Rattle.command_dues.specs.packet_runs.specs.Runs.{course_on, packet_rules}
 use Rattle.schedule_loop.specs.Ends.{CanBePlayed}
 use Rattle.shown_sectors.specs.Sectors.{sectors_after}
-use Rattle.site_machine.specs.Needs.{IsReady}
+use Rattle.command_dues.specs.site_machine.specs.Needs.{IsReady}
 use Rattle.runner.proofs.Reported.{reported}
 use Rattle.runner.proofs.decide.report_of.Goals as goal
 

@@ -1,8 +1,8 @@
 use Rattle.std.proofs.Common.{◌≤◌, subst, sym}
 use Rattle.std.specs.Prelude.{Some}
-use Rattle.packet_runs.specs.Runs.{course_on, packet_rules}
+use Rattle.command_dues.specs.packet_runs.specs.Runs.{course_on, packet_rules}
 use Rattle.schedule_loop.specs.Ends.{CanBePlayed}
-use Rattle.site_machine.specs.Needs.{IsReady}
+use Rattle.command_dues.specs.site_machine.specs.Needs.{IsReady}
 use Rattle.tal_tree.specs.declared.site.Site.{Site}
 use Rattle.runner.proofs.sweep.swept.Goals as goal
 

@@ -3,7 +3,7 @@ use Rattle.std.proofs.Common.{arith, ◌≡◌, ◌<◌, ℕ, refl, ap, sym, ◌
 use Rattle.std.proofs.lemmas.Int.{to_z-of_z}
 use Rattle.std.specs.Prelude.{pos}
 use Rattle.std.specs.Int.{w16, int_wrap}
-use Rattle.gd_words.specs.Arithmetic.{wrap}
+use Rattle.tal_tree.specs.gd_words.specs.Arithmetic.{wrap}
 use Rattle.tal_tokens.proofs.number.numbered.Goals as goal
 
 word_of : (v : ℕ) → v < 65536 → wrap (pos v) ≡ to_z w16 v

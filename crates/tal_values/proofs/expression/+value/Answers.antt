@@ -1,6 +1,6 @@
 use Rattle.std.proofs.Common.{◌≤◌, ◌<◌, ap, sym, ◌∙◌, arith}
 use Rattle.std.specs.Prelude.{neg_ℤ, option_map, option_and_then}
-use Rattle.gd_words.specs.Arithmetic.{wrap}
+use Rattle.tal_tree.specs.gd_words.specs.Arithmetic.{wrap}
 use Rattle.tal_tree.specs.declared.expression.Expr.{size-Expr}
 use Rattle.tal_values.specs.Chain.{expr_of}
 use Rattle.tal_values.specs.Seen.{seen}

@@ -1,6 +1,6 @@
-use Rattle.tal_laws.proofs.Ordered.{read_is_ordered}
-use Rattle.tal_laws.proofs.Regular.{read_is_regular}
-use Rattle.tal_laws.proofs.WithinLimits.{read_is_within}
+use Rattle.loading_laws.specs.tal_laws.proofs.Ordered.{read_is_ordered}
+use Rattle.loading_laws.specs.tal_laws.proofs.Regular.{read_is_regular}
+use Rattle.loading_laws.specs.tal_laws.proofs.WithinLimits.{read_is_within}
 use Rattle.loading_laws.proofs.Loading.{read-is-loadable}
 use Rattle.worked_programs.proofs.program.program_of.Goals as goal
 

@@ -1,6 +1,6 @@
 use Rattle.std.proofs.Common.{◌≡◌, ℕ, ℤ, List, ◌∙◌, ap, ap₂}
-use Rattle.message_layout.specs.Messages.{Declaring}
-use Rattle.message_layout.specs.Layout.{words_of}
+use Rattle.packet_wires.specs.message_layout.specs.Messages.{Declaring}
+use Rattle.packet_wires.specs.message_layout.specs.Layout.{words_of}
 use Rattle.packet_wires.specs.Nodes.{others}
 use Rattle.packet_wires.specs.Wires.{Wires, at_end, for_each, push_at}
 use Rattle.event_parts.specs.Parts.{carried_out}

@@ -1,7 +1,7 @@
 use Rattle.std.proofs.Common.{◌≤◌, length}
 use Rattle.tal_tree.specs.declared.site.ProcessSpec.{ProcessSpec}
 use Rattle.plain_semantics.specs.Openers.{files_of}
-use Rattle.processes.specs.Seen.{IsLoadableKind}
+use Rattle.node_copies.specs.processes.specs.Seen.{IsLoadableKind}
 use Rattle.process_copies.specs.Starting.{HasSectors}
 use Rattle.process_copies.proofs.Depths.{all-there, openers-deep}
 use Rattle.process_copies.proofs.copies.ProcessCopies.start.Goals as goal

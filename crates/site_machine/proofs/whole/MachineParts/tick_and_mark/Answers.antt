@@ -2,7 +2,7 @@ use Rattle.std.proofs.Common.{◌≡◌, Bool, Some, false, ◌∙◌, refl, ap,
 use Rattle.computed_changes.specs.Stopped.{stopped_world}
 use Rattle.machine_states.specs.States.{Settles}
 use Rattle.machine_states.specs.declared.effect.Effect.TheVariants as effect
-use Rattle.message_wires.specs.Play.{has_stopped}
+use Rattle.packet_wires.specs.message_wires.specs.Play.{has_stopped}
 use Rattle.packet_wires.specs.Play.{Packeted, ended, pulled}
 use Rattle.event_parts.specs.Numbers.{CanPush}
 use Rattle.world_copies.specs.Room.{AllWatchersHaveRoom}

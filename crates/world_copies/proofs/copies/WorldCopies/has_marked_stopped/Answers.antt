@@ -1,5 +1,5 @@
 use Rattle.std.proofs.Common.{◌<◌, ◌∙◌, arith, length, slice_get, sym}
-use Rattle.message_wires.specs.Idle.{has_marked_if}
+use Rattle.process_copies.specs.message_wires.specs.Idle.{has_marked_if}
 use Rattle.world_copies.proofs.Sweeps.{all-after}
 use Rattle.world_copies.proofs.copies.WorldCopies.has_marked_stopped.Goals as goal
 

@@ -1,5 +1,5 @@
 use Rattle.std.proofs.Common.{◌≡◌, ◌-◌, length, slice_get}
-use Rattle.message_wires.specs.Idle.{all_from, has_marked_if}
+use Rattle.process_copies.specs.message_wires.specs.Idle.{all_from, has_marked_if}
 use Rattle.world_copies.proofs.copies.WorldCopies.has_marked_stopped.Given as goal
 
 abbrev pub invariant-loop-processor : goal.invariant-loop-processor

@@ -1,6 +1,6 @@
 use Rattle.std.proofs.Common.{◌≡◌, ◌-◌, length, is_none}
 use Rattle.world_semantics.specs.Running.{run_done}
-use Rattle.message_wires.specs.Idle.{all_from, none_runs}
+use Rattle.process_copies.specs.message_wires.specs.Idle.{all_from, none_runs}
 use Rattle.world_copies.proofs.copies.WorldCopies.none_runs.Given as goal
 
 abbrev pub invariant-loop-number : goal.invariant-loop-number

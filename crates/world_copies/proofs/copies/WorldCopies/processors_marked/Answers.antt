@@ -1,5 +1,5 @@
 use Rattle.std.proofs.Common.{◌<◌, ◌∙◌, arith, length, sym}
-use Rattle.message_wires.specs.Idle.{has_marked_all}
+use Rattle.process_copies.specs.message_wires.specs.Idle.{has_marked_all}
 use Rattle.world_copies.proofs.Sweeps.{all-after}
 use Rattle.world_copies.proofs.copies.WorldCopies.processors_marked.Goals as goal
 

@@ -1,5 +1,5 @@
 use Rattle.std.proofs.Common.{◌≡◌, ◌-◌, length}
-use Rattle.message_wires.specs.Idle.{all_from, has_marked_all}
+use Rattle.process_copies.specs.message_wires.specs.Idle.{all_from, has_marked_all}
 use Rattle.world_copies.proofs.copies.WorldCopies.processors_marked.Given as goal
 
 abbrev pub invariant-loop-node : goal.invariant-loop-node

@@ -1,0 +1,3 @@
+pub use Rattle.packets_played.specs.accepted_sites
+pub use Rattle.packets_played.specs.awaited_requests
+pub use Rattle.packets_played

@@ -1,0 +1,1 @@
+pub use Rattle.packet_runs
