@@ -4,15 +4,18 @@ use Rattle.std.specs.Prelude.{◌≡◌, List, [], ◌∷◌, refl}
 use mathlib.Core.Path.{ap, subst, sym, ◌∙◌}
 use mathlib.Core.Former.{this, arity}
 use Rattle.gd_words.specs.formers.list.List as list
-use Rattle.tal_tree.specs.Rows.{places, rows, if-is, while-is, for-is}
+use Rattle.tal_tree.specs.Rows.{places, rows, if-is, while-is, for-is, do-is}
+use Rattle.tal_tree.specs.Statements.{body_before}
 use Rattle.tal_tree.specs.declared.statement.Statement.{Statement}
 use Rattle.tal_tree.specs.declared.statement.What.{What, What-F, out-What, roll-What, Assign, AssignCall, If', While'}
-use Rattle.tal_tree.specs.declared.statement.What.{For', Call, Return, ReadUpdate, Reply, WriteRead, Checkpoint}
-use Rattle.tal_tree.specs.declared.statement.What.{CheckMonitor, Open, Stop, Row_of-Statement, end_of-Statement}
+use Rattle.tal_tree.specs.declared.statement.What.{For', DoUntil', Call, Return, ReadUpdate, Reply, WriteRead}
+use Rattle.tal_tree.specs.declared.statement.What.{Checkpoint, CheckMonitor, Open, Stop, Row_of-Statement}
+use Rattle.tal_tree.specs.declared.statement.What.{end_of-Statement}
 use Rattle.tal_tree.specs.declared.statement.What.{more_of-Statement}
 use Rattle.tal_tree.specs.declared.statement.What.TheViews.{out-roll-What, rolls-Assign, rolls-AssignCall, rolls-If}
-use Rattle.tal_tree.specs.declared.statement.What.TheViews.{rolls-While, rolls-For, rolls-Call, rolls-Return}
-use Rattle.tal_tree.specs.declared.statement.What.TheViews.{rolls-ReadUpdate, rolls-Reply, rolls-WriteRead}
+use Rattle.tal_tree.specs.declared.statement.What.TheViews.{rolls-While, rolls-For, rolls-DoUntil, rolls-Call}
+use Rattle.tal_tree.specs.declared.statement.What.TheViews.{rolls-Return, rolls-ReadUpdate, rolls-Reply}
+use Rattle.tal_tree.specs.declared.statement.What.TheViews.{rolls-WriteRead}
 use Rattle.tal_tree.specs.declared.statement.What.TheViews.{rolls-Checkpoint, rolls-CheckMonitor, rolls-Open}
 use Rattle.tal_tree.specs.declared.statement.What.TheViews.{rolls-Stop}
 
@@ -20,7 +23,8 @@ use Rattle.tal_tree.specs.declared.statement.What.TheViews.{rolls-Stop}
 abbrev pub HoldsInside : (List Statement → Type 0) → What-F What Statement → Type 0
 HoldsInside P (What-F.If test first second) = P first × P second
 HoldsInside P (What-F.While test body) = P body
-HoldsInside P (What-F.For variable from to body last) = P body
+HoldsInside P (What-F.For variable from to down step body last) = P body
+HoldsInside P (What-F.DoUntil body test) = P body
 HoldsInside P (What-F.Assign to value) = Unit {0}
 HoldsInside P (What-F.AssignCall to procedure arguments) = Unit {0}
 HoldsInside P (What-F.Call procedure arguments) = Unit {0}
@@ -32,6 +36,25 @@ HoldsInside P (What-F.Checkpoint items files) = Unit {0}
 HoldsInside P What-F.CheckMonitor = Unit {0}
 HoldsInside P (What-F.Open file) = Unit {0}
 HoldsInside P What-F.Stop = Unit {0}
+
+-- so it holds of the body that is done before a statement's own number, where it holds of no statements
+pub holds-before : (P : List Statement → Type 0) → P [] → (layer : What-F What Statement) → HoldsInside P layer
+    → P (body_before layer)
+holds-before P none (What-F.DoUntil body test) holds = holds
+holds-before P none (What-F.Assign _ _) holds = none
+holds-before P none (What-F.AssignCall _ _ _) holds = none
+holds-before P none (What-F.If _ _ _) holds = none
+holds-before P none (What-F.While _ _) holds = none
+holds-before P none (What-F.For _ _ _ _ _ _ _) holds = none
+holds-before P none (What-F.Call _ _) holds = none
+holds-before P none (What-F.Return _) holds = none
+holds-before P none (What-F.ReadUpdate _ _ _) holds = none
+holds-before P none (What-F.Reply _ _) holds = none
+holds-before P none (What-F.WriteRead _ _ _ _ _) holds = none
+holds-before P none (What-F.Checkpoint _ _) holds = none
+holds-before P none What-F.CheckMonitor holds = none
+holds-before P none (What-F.Open _) holds = none
+holds-before P none What-F.Stop holds = none
 
 -- P holds of no statements, and of more where it holds inside the first and of the rest
 pub record IsInductive (P : List Statement → Type 0) : Type 0 where
@@ -79,10 +102,15 @@ module _ (P : List Statement → Type 0) (steps : IsInductive P) where
         by-layer P (While' test s body) (What-F.While test (listed body))
         (rolls-While test (listed body) ∙ while-is test (listed body)
         ∙ (λ i. While' test (row-again s body i).0 (row-again s body i).1)) (by-row body)
-    by-what (For' variable from to s body last) =
-        by-layer P (For' variable from to s body last) (What-F.For variable from to (listed body) last)
-        (rolls-For variable from to (listed body) last ∙ for-is variable from to (listed body) last
-        ∙ (λ i. For' variable from to (row-again s body i).0 (row-again s body i).1 last)) (by-row body)
+    by-what (For' variable from to down step s body last) =
+        by-layer P (For' variable from to down step s body last)
+        (What-F.For variable from to down step (listed body) last)
+        (rolls-For variable from to down step (listed body) last ∙ for-is variable from to down step (listed body) last
+        ∙ (λ i. For' variable from to down step (row-again s body i).0 (row-again s body i).1 last)) (by-row body)
+    by-what (DoUntil' s body test) =
+        by-layer P (DoUntil' s body test) (What-F.DoUntil (listed body) test)
+        (rolls-DoUntil (listed body) test ∙ do-is (listed body) test
+        ∙ (λ i. DoUntil' (row-again s body i).0 (row-again s body i).1 test)) (by-row body)
     by-what (Assign to value) = by-layer P _ (What-F.Assign to value) (rolls-Assign to value) tt
     by-what (AssignCall to procedure arguments) =
         by-layer P _ (What-F.AssignCall to procedure arguments) (rolls-AssignCall to procedure arguments) tt

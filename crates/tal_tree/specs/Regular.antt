@@ -1,5 +1,6 @@
 -- Regular programs: what is named in their statements is there and of its kind.
-use Rattle.std.specs.Prelude.{◌≡◌, ◌≤◌, ◌<◌, ℕ, Bool, true, false, List, length, slice_get, Option, Some, None, is_some}
+use Rattle.std.specs.Prelude.{◌≡◌, ◌≤◌, ◌<◌, ℕ, pos, ◌≤ℤ◌, Bool, true, false, List, length, slice_get, Option}
+use Rattle.std.specs.Prelude.{Some, None, is_some}
 use Rattle.gd_words.specs.Members.{IsAmong, AreDistinct}
 use Rattle.tal_tree.specs.declared.expression.Expr.{Expr}
 use Rattle.tal_tree.specs.declared.program.Item.{Item}
@@ -41,15 +42,17 @@ IsAnswerThere program locals (Some value) = IsThere program locals value
 
 -- in a procedure that has so many locals, and gives a value or not
 module _ (program : Program) (locals : ℕ) (gives : Bool) where
-  -- what a statement names is there and of its kind
+  -- what a statement names is there and of its kind, and a FOR counts by 1 or more
   abbrev pub IsRegularStatement : What-F What Statement → Type 0
   IsRegularStatement (What-F.Assign to value) = IsSpotThere program locals to × IsThere program locals value
   IsRegularStatement (What-F.AssignCall to procedure arguments) =
       IsSpotThere program locals to × IsCalled program locals true procedure arguments
   IsRegularStatement (What-F.If test first second) = IsTestThere program locals test
   IsRegularStatement (What-F.While test body) = IsTestThere program locals test
-  IsRegularStatement (What-F.For variable from to body last) =
+  IsRegularStatement (What-F.For variable from to down step body last) =
       IsVariableThere program locals variable × (IsThere program locals from × IsThere program locals to)
+      × (pos 1 ≤ℤ step)
+  IsRegularStatement (What-F.DoUntil body test) = IsTestThere program locals test
   IsRegularStatement (What-F.Call procedure arguments) = IsCalled program locals false procedure arguments
   IsRegularStatement (What-F.Return value) = (is_some value ≡ gives) × IsAnswerThere program locals value
   IsRegularStatement (What-F.ReadUpdate buffer most got) =

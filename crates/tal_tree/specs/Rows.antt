@@ -1,7 +1,7 @@
 -- One layer of a tree, for definitions by recursion. Such a definition matches the apostrophe constructors (`Minus'`,
 -- `If'`), where a child, or a list of children, is a shape and a row; a caller has the plain ones (`Minus`, `If`).
 -- These equations lead from the plain ones to the others, and no other file names how a child is hidden in its row.
-use Rattle.std.specs.Prelude.{◌≡◌, ℕ, List, [], ◌∷◌, refl}
+use Rattle.std.specs.Prelude.{◌≡◌, ℕ, ℤ, Bool, List, [], ◌∷◌, refl}
 use mathlib.Core.Former.{this, arity}
 use denote.Hole.Carrier.{hidden}
 use Rattle.gd_words.specs.formers.list.List as list
@@ -15,8 +15,8 @@ use Rattle.tal_tree.specs.declared.expression.Expr.TheBlock.{shape-the_row-Expr-
 use Rattle.tal_tree.specs.declared.expression.Cond.{Cond, Not, Not', And, And', Or, Or', end_of-Cond, more_of-Cond}
 use Rattle.tal_tree.specs.declared.expression.Cond.TheBlock.{shape-the_row-Cond-0, hidden-the_row-Cond-0}
 use Rattle.tal_tree.specs.declared.statement.Statement.{Statement}
-use Rattle.tal_tree.specs.declared.statement.What.{If, If', While, While', For, For', Row_of-Statement}
-use Rattle.tal_tree.specs.declared.statement.What.{end_of-Statement, more_of-Statement}
+use Rattle.tal_tree.specs.declared.statement.What.{If, If', While, While', For, For', DoUntil, DoUntil'}
+use Rattle.tal_tree.specs.declared.statement.What.{Row_of-Statement, end_of-Statement, more_of-Statement}
 use Rattle.tal_tree.specs.declared.statement.What.TheBlock.{shape-the_row-Statement-0, hidden-the_row-Statement-0}
 
 pub read-is : (spot : Spot) → Read spot ≡ Read' tt (more_of-Spot spot end_of-Spot)
@@ -79,6 +79,10 @@ if-is test first second =
 pub while-is : (test : Cond) (body : List Statement) → While test body ≡ While' test (places body) (rows body)
 while-is test body = λ i. While' test (hidden-is body i).0 (hidden-is body i).1
 
-pub for-is : (variable : Variable) (from to : Expr) (body : List Statement) (last : ℕ)
-    → For variable from to body last ≡ For' variable from to (places body) (rows body) last
-for-is variable from to body last = λ i. For' variable from to (hidden-is body i).0 (hidden-is body i).1 last
+pub for-is : (variable : Variable) (from to : Expr) (down : Bool) (step : ℤ) (body : List Statement) (last : ℕ)
+    → For variable from to down step body last ≡ For' variable from to down step (places body) (rows body) last
+for-is variable from to down step body last =
+    λ i. For' variable from to down step (hidden-is body i).0 (hidden-is body i).1 last
+
+pub do-is : (body : List Statement) (test : Cond) → DoUntil body test ≡ DoUntil' (places body) (rows body) test
+do-is body test = λ i. DoUntil' (hidden-is body i).0 (hidden-is body i).1 test

@@ -34,13 +34,21 @@ pub enum What {
         body: List<Statement>,
     },
     /// The statement's number is that of the first assignment, its test has the next number, and `last` is that of the
-    /// last assignment, which adds 1 to the variable.
+    /// last assignment, which adds `step`, 1 to 32,767, to the variable, or takes it away where the FOR counts down.
     For {
         variable: Variable,
         from: Expr,
         to: Expr,
+        down: bool,
+        step: i16,
         body: List<Statement>,
         last: u16,
+    },
+    /// The statement's number and line are those of its test, which comes after the body. The body is done again until
+    /// the test is true.
+    DoUntil {
+        body: List<Statement>,
+        test: Cond,
     },
     Call {
         procedure: u16,
