@@ -3,15 +3,16 @@ use Rattle.std.proofs.Common.{◌≤◌, ℕ, zero, ◌+◌, suc, List, [], ◌�
 use Rattle.tal_syntax.specs.Grammar as g
 use Rattle.tal_syntax.specs.Expected.{AllAtMost}
 use Rattle.tal_syntax.specs.Nesting.{nest_expr, nest_argument, nest_further, nest_arguments, nest_values, nest_answer}
-use Rattle.tal_syntax.specs.Nesting.{nest_statement, nest_otherwise, nest_row}
+use Rattle.tal_syntax.specs.Nesting.{nest_step, nest_statement, nest_otherwise, nest_row}
 use Rattle.tal_tree.specs.declared.expression.Spot.{Spot}
 use Rattle.tal_tree.specs.declared.statement.Statement.{Statement}
 use Rattle.tal_tree.specs.declared.statement.What.{What, What-F}
 use Rattle.tal_tree.specs.declared.statement.What.TheVariants as what
 use Rattle.tal_tree.specs.declared.statement.What.TheViews.{rolls-Assign, rolls-AssignCall, rolls-If, rolls-While}
-use Rattle.tal_tree.specs.declared.statement.What.TheViews.{rolls-For, rolls-Call, rolls-Return, rolls-ReadUpdate}
-use Rattle.tal_tree.specs.declared.statement.What.TheViews.{rolls-Reply, rolls-WriteRead, rolls-Checkpoint}
-use Rattle.tal_tree.specs.declared.statement.What.TheViews.{rolls-CheckMonitor, rolls-Open, rolls-Stop}
+use Rattle.tal_tree.specs.declared.statement.What.TheViews.{rolls-For, rolls-DoUntil, rolls-Call, rolls-Return}
+use Rattle.tal_tree.specs.declared.statement.What.TheViews.{rolls-ReadUpdate, rolls-Reply, rolls-WriteRead}
+use Rattle.tal_tree.specs.declared.statement.What.TheViews.{rolls-Checkpoint, rolls-CheckMonitor, rolls-Open}
+use Rattle.tal_tree.specs.declared.statement.What.TheViews.{rolls-Stop}
 use Rattle.tal_names.specs.declared.meaning.Meaning.{Meaning}
 use Rattle.tal_names.specs.declared.meaning.Meaning.TheVariants as m
 use Rattle.tal_names.specs.declared.scope.Scope.{Scope}
@@ -21,13 +22,15 @@ use Rattle.tal_names.specs.Places.{first_of_spot, name_of_expr, arguments_of, fu
 use Rattle.tal_names.specs.Scopes.{meaning_of}
 use Rattle.tal_names.specs.Systems.{system_of}
 use Rattle.tal_rules.specs.declared.walk.Walk.{Walk}
-use Rattle.tal_rules.specs.Statements.{stepped, after}
+use Rattle.tal_rules.specs.Statements.{stepped, inside_do, after}
 use Rattle.tal_meaning.specs.Calls.{value_of_argument, procedure_by, meaning_by, call_what, item_by, file_by, value_at}
 use Rattle.tal_meaning.specs.Calls.{meaning_at, variable_by, items_named, files_named, values_of, values_of_arguments}
 use Rattle.tal_meaning.specs.Calls.{system_what}
 use Rattle.tal_meaning.specs.Expressions.{value_of_expr, cond_of_expr, target_of_spot}
 use Rattle.tal_meaning.specs.Programs.{body_statements}
-use Rattle.tal_meaning.specs.Statements.{answer_of, assign_by, statements_of, else_statements, row_statements}
+use Rattle.tal_meaning.specs.Statements.{answer_of, assign_by, is_down, step_of, statements_of, else_statements}
+use Rattle.tal_meaning.specs.Statements.{row_statements}
+use Rattle.tal_pieces.proofs.Standing.LevelsAfter.{after_step}
 use Rattle.tal_laws.proofs.Everywhere.{Everywhere, everywhere_append, among_append, everywhere_one}
 use Rattle.tal_code.specs.Waiting.{waiting_of, waiting_of_spot, waiting_of_all, waiting_of_answer, waiting_at}
 use Rattle.code_room.proofs.Layers.{for-more}
@@ -196,20 +199,31 @@ module _ (s : Scope) (most : ℕ) where
               (rolls-While c xs) (omega (arith, own.0)) rest.0,
           rest.1,
         )
-    statement_few w (g.for_do head at name set_at from to_at to do_at t) n ls h =
+    statement_few w (g.for_do head at name set_at from direction to step do_at t) n ls h =
         let xs = statements_of s (stepped (stepped w)) t in
         let last = (after s (stepped (stepped w)) t).number in
         let variable = variable_by (meaning_of s name) in
         let low = value_of_expr s from in
         let high = value_of_expr s to in
-        let first = few_expr s most from (suc n) (suc n ∷ nest_expr (suc n) to (suc n ∷ nest_statement (suc n) t ls))
-        h.1.1.1 in
-        let second = few_expr s most to (suc n) (suc n ∷ nest_statement (suc n) t ls) first.1.1 in
-        let rest = statement_few (stepped (stepped w)) t (suc n) ls second.1.1 in (
-          everywhere_one (WaitsFew most) w.number head.place.line (what.For variable low high xs last)
-              (What-F.For variable low high xs last) (rolls-For variable low high xs last)
+        let down = is_down direction in
+        let by = step_of s step in
+        let body = suc n ∷ nest_statement (suc n) t ls in
+        let first = few_expr s most from (suc n) (suc n ∷ nest_expr (suc n) to (nest_step (suc n) step body)) h.1.1.1 in
+        let second = few_expr s most to (suc n) (nest_step (suc n) step body) first.1.1 in
+        let rest = statement_few (stepped (stepped w)) t (suc n) ls (after_step s most step (suc n) body second.1).1 in (
+          everywhere_one (WaitsFew most) w.number head.place.line (what.For variable low high down by xs last)
+              (What-F.For variable low high down by xs last) (rolls-For variable low high down by xs last)
               (omega (arith, first.0, second.0, (for-more high).1)) rest.0,
           rest.1,
+        )
+    statement_few w (g.do_until head t at test) n ls h =
+        let xs = statements_of s (inside_do w) t in
+        let c = cond_of_expr s test in
+        let body = statement_few (inside_do w) t (suc n) (suc n ∷ nest_expr (suc n) test ls) h.1 in
+        let own = few_test s most test (suc n) ls body.1.1 in (
+          everywhere_one (WaitsFew most) (after s (inside_do w) t).number at.place.line (what.DoUntil xs c)
+              (What-F.DoUntil xs c) (rolls-DoUntil xs c) (omega (arith, own.0)) body.0,
+          own.1,
         )
     statement_few w (g.call head at name a) n ls h =
         let r = arguments_few a (suc n) ls h.1.1 in

@@ -1,4 +1,4 @@
-ghost use Rattle.std.specs.Prelude.{◌≡◌, ℕ, suc, [], ◌∷◌, Some, None, true, false};
+ghost use Rattle.std.specs.Prelude.{◌≡◌, ℕ, suc, pos, [], ◌∷◌, Some, None, true, false};
 ghost use Rattle.tal_tree.specs.declared.expression.Cond.{Truth, Compare, Not, And, Or};
 ghost use Rattle.tal_tree.specs.declared.expression.Expr.{Read, Minus, Two};
 ghost use Rattle.tal_tree.specs.declared.expression.Op.TheVariants.{Add, Mul};
@@ -70,8 +70,9 @@ pub fn each_part_of_a_statement_counts()
     ensures call_argument { waiting_at (What-F.AssignCall (Local 0) 0 (one ∷ nested 2 ∷ [])) ≡ 2 }
     ensures if_test { waiting_at (What-F.If (nested_tests 2) [] []) ≡ 2 }
     ensures while_test { waiting_at (What-F.While (nested_tests 2) []) ≡ 2 }
-    ensures from { waiting_at (What-F.For (variable.Local 0) (nested 2) one [] 3) ≡ 2 }
-    ensures to { waiting_at (What-F.For (variable.Local 0) one (nested 2) [] 3) ≡ 3 }
+    ensures from { waiting_at (What-F.For (variable.Local 0) (nested 2) one false (pos 1) [] 3) ≡ 2 }
+    ensures to { waiting_at (What-F.For (variable.Local 0) one (nested 2) true (pos 1) [] 3) ≡ 3 }
+    ensures do_test { waiting_at (What-F.DoUntil [] (nested_tests 2)) ≡ 2 }
     ensures argument { waiting_at (What-F.Call 0 (one ∷ nested 2 ∷ [])) ≡ 2 }
     ensures answer { waiting_at (What-F.Return (Some (nested 2))) ≡ 2 }
     ensures most { waiting_at (What-F.ReadUpdate 0 (nested 2) (variable.Local 0)) ≡ 2 }

@@ -1,8 +1,8 @@
-ghost use Rattle.std.specs.Prelude.{◌≡◌, ◌↔◌, ℕ, List, ◌+◌, ◌<◌, length, pos};
+ghost use Rattle.std.specs.Prelude.{◌≡◌, ◌↔◌, ℕ, ℤ, List, ◌+◌, ◌<◌, length};
 ghost use Rattle.tal_tree.specs.declared.expression.Cond.{Cond, Compare};
 ghost use Rattle.tal_tree.specs.declared.expression.Expr.{Expr, Number, Read, Two};
-ghost use Rattle.tal_tree.specs.declared.expression.Op.TheVariants as op;
-ghost use Rattle.tal_tree.specs.declared.expression.Rel.TheVariants as rel;
+ghost use Rattle.tal_tree.specs.declared.expression.Op.{Op};
+ghost use Rattle.tal_tree.specs.declared.expression.Rel.{Rel};
 ghost use Rattle.tal_tree.specs.declared.expression.Variable.{Variable};
 ghost use Rattle.tal_tree.specs.declared.program.Program.{Program};
 ghost use Rattle.tal_values.specs.Spots.{spot_of};
@@ -33,11 +33,12 @@ pub fn there_is_room_above_others()
         → LowFrom s (steps_of_test c) ↔ (length s.below + waiting_of_test c < 80) }
 {}
 
-/// For the test of a FOR as many wait as for the value after TO, and for what its variable becomes after a turn none.
+/// For the test of a FOR as many wait as for its limit, and for what its variable becomes after a turn none.
 pub fn a_loop_waits_for_its_limit()
-    ensures limit { (variable : Variable) (to : Expr)
-        → waiting_of_test (Compare rel.AtMost (Read (spot_of variable)) to) ≡ waiting_for to }
-    ensures next { (variable : Variable) → waiting_of (Two op.Add (Read (spot_of variable)) (Number (pos 1))) ≡ 0 }
+    ensures limit { (variable : Variable) (rel : Rel) (to : Expr)
+        → waiting_of_test (Compare rel (Read (spot_of variable)) to) ≡ waiting_for to }
+    ensures next { (variable : Variable) (op : Op) (step : ℤ)
+        → waiting_of (Two op (Read (spot_of variable)) (Number step)) ≡ 0 }
 {}
 
 /// While a program that a text reads as is run, fewer than 80 left sides wait at one time.

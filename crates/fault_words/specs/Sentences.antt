@@ -9,7 +9,7 @@ use Rattle.tal_tree.specs.declared.fault.TalFault.TheVariants as tal
 abbrev pub program_limit : ℕ → List ℕ
 program_limit which =
     if which == 1 then codes "the program has more than 64 global names"
-    else if which == 2 then codes "the globals have more than 512 words"
+    else if which == 2 then codes "the globals have more than 1,024 words"
     else if which == 3 then codes "an array has at most 256 words"
     else if which == 4 then codes "the program has more than 8 files"
     else if which == 5 then codes "the program has more than 64 procedures"

@@ -49,7 +49,7 @@ fn program_limit(which: u8) -> &'static [u8]
 {
     match which {
         1 => b"the program has more than 64 global names",
-        2 => b"the globals have more than 512 words",
+        2 => b"the globals have more than 1,024 words",
         3 => b"an array has at most 256 words",
         4 => b"the program has more than 8 files",
         5 => b"the program has more than 64 procedures",

@@ -12,10 +12,10 @@ use Rattle.tal_tree.specs.declared.program.Procedure.{Procedure}
 use Rattle.tal_tree.specs.declared.program.Program.{Program}
 use Rattle.tal_tree.specs.declared.statement.Statement.{Statement}
 use Rattle.tal_tree.specs.declared.statement.What.{What, What-F, out-What}
-use Rattle.tal_tree.proofs.Numbers.{numbers_inside, numbers-more}
+use Rattle.tal_tree.proofs.Numbers.{numbers_inside, numbers_by, numbers-by}
 use Rattle.tal_tree.proofs.Within.{within_of, within-is}
 use Rattle.statement_lines.specs.Lines.{lines_in, lines_of, line_among, line_of}
-use Rattle.statement_lines.proofs.Layers.{lines_inside, lines-more}
+use Rattle.statement_lines.proofs.Layers.{lines_inside, lines_by, lines-by}
 
 -- a number stands where a line stands
 record IsAt (number line : ℕ) (numbers lines : List ℕ) : Type 0 where
@@ -53,7 +53,7 @@ at-right number line (n ∷ numbers) (l ∷ lines) ns ls same at =
 
 -- the numbers of a statement itself: a FOR has three
 abbrev own_numbers : ℕ → What-F What Statement → List ℕ
-own_numbers number (What-F.For variable from to body last) = number ∷ (number + 1) ∷ last ∷ []
+own_numbers number (What-F.For variable from to down step body last) = number ∷ (number + 1) ∷ last ∷ []
 own_numbers number _ = number ∷ []
 
 -- there are as many lines as numbers, and each statement's line stands where its numbers stand
@@ -128,48 +128,80 @@ for-inside number line last body inside = record {
 }
 
 layer-own : (number line : ℕ) (layer : What-F What Statement) → HoldsInside Aligned layer → OwnAligned number line layer
-layer-own number line (What-F.For variable from to body last) holds n own = for-own number line last n body holds own
+layer-own number line (What-F.For variable from to down step body last) holds n own = for-own number line last n body
+    holds own
 layer-own number line (What-F.If test first second) holds n own =
     one-own number line n (numbers_of first ++ numbers_of second) (lines_in first ++ lines_in second) own
 layer-own number line (What-F.While test body) holds n own = one-own number line n (numbers_of body) (lines_in body) own
 layer-own number line _ holds n own = one-own number line n [] [] own
 
-layer-inside : (number line : ℕ) (layer : What-F What Statement) → HoldsInside Aligned layer
-    → InsideAligned number line layer
-layer-inside number line (What-F.If test first second) holds =
-    aligned-append (all_of first) (all_of second) (numbers_of first) (lines_in first) (numbers_of second)
-    (lines_in second) holds.0 holds.1
-layer-inside number line (What-F.While test body) holds = holds
-layer-inside number line (What-F.For variable from to body last) holds = for-inside number line last body holds
-layer-inside number line _ holds = none-aligned
-
--- a statement with those that stand in it
-one-aligned : (statement : Statement) → HoldsInside Aligned (out-What statement.what)
-    → AreAligned (statement ∷ within_of (out-What statement.what))
-    (statement.number ∷ numbers_inside statement.number (out-What statement.what))
-    (statement.line ∷ lines_inside statement.line (out-What statement.what))
-one-aligned statement holds = record {
+-- a statement with those that stand in it, where none stands before its number
+plain-aligned : (statement : Statement) (layer : What-F What Statement) → out-What statement.what ≡ layer
+    → HoldsInside Aligned layer → InsideAligned statement.number statement.line layer
+    → AreAligned (statement ∷ within_of layer) (statement.number ∷ numbers_inside statement.number layer)
+    (statement.line ∷ lines_inside statement.line layer)
+plain-aligned statement layer is holds inner = record {
   same = ap suc inner.same;
   there = λ one n among own. which one n among own;
 }
   where
-    inner : InsideAligned statement.number statement.line (out-What statement.what)
-    inner = layer-inside statement.number statement.line (out-What statement.what) holds
-
-    which : (one : Statement) (n : ℕ) → IsAmong one (statement ∷ within_of (out-What statement.what))
+    which : (one : Statement) (n : ℕ) → IsAmong one (statement ∷ within_of layer)
         → IsAmong n (own_numbers one.number (out-What one.what))
-        → IsAt n one.line (statement.number ∷ numbers_inside statement.number (out-What statement.what))
-        (statement.line ∷ lines_inside statement.line (out-What statement.what))
-    which one n (inl is) own =
-        subst (λ (s : Statement). IsAt n s.line
-        (statement.number ∷ numbers_inside statement.number (out-What statement.what))
-        (statement.line ∷ lines_inside statement.line (out-What statement.what))) (sym is)
-        (layer-own statement.number statement.line (out-What statement.what) holds n
-        (subst (λ (s : Statement). IsAmong n (own_numbers s.number (out-What s.what))) is own))
+        → IsAt n one.line (statement.number ∷ numbers_inside statement.number layer)
+        (statement.line ∷ lines_inside statement.line layer)
+    which one n (inl same) own =
+        subst (λ (s : Statement). IsAt n s.line (statement.number ∷ numbers_inside statement.number layer)
+        (statement.line ∷ lines_inside statement.line layer)) (sym same)
+        (layer-own statement.number statement.line layer holds n
+        (subst (λ (l : What-F What Statement). IsAmong n (own_numbers statement.number l)) is
+        (subst (λ (s : Statement). IsAmong n (own_numbers s.number (out-What s.what))) same own)))
     which one n (inr among) own =
-        at-next n one.line statement.number statement.line (numbers_inside statement.number (out-What statement.what))
-        (lines_inside statement.line (out-What statement.what))
-        (inner.there one n among own)
+        at-next n one.line statement.number statement.line (numbers_inside statement.number layer)
+        (lines_inside statement.line layer) (inner.there one n among own)
+
+-- a DO with those of its body, which stand before its number
+do-aligned : (statement : Statement) (body : List Statement) (test : _)
+    → out-What statement.what ≡ What-F.DoUntil body test → Aligned body
+    → AreAligned (statement ∷ all_of body) (numbers_of body ++ statement.number ∷ [])
+    (lines_in body ++ statement.line ∷ [])
+do-aligned statement body test is holds = record {
+  same = let same : length (lines_in body) ≡ length (numbers_of body) = holds.same in
+      omega (
+        arith,
+        length-append (lines_in body) (statement.line ∷ []),
+        length-append (numbers_of body) (statement.number ∷ []),
+      );
+  there = λ one n among own. which one n among own;
+}
+  where
+    which : (one : Statement) (n : ℕ) → IsAmong one (statement ∷ all_of body)
+        → IsAmong n (own_numbers one.number (out-What one.what))
+        → IsAt n one.line (numbers_of body ++ statement.number ∷ []) (lines_in body ++ statement.line ∷ [])
+    which one n (inl same) own =
+        subst (λ (s : Statement). IsAt n s.line (numbers_of body ++ statement.number ∷ [])
+        (lines_in body ++ statement.line ∷ [])) (sym same)
+        (at-right n statement.line (numbers_of body) (lines_in body) (statement.number ∷ []) (statement.line ∷ [])
+        holds.same (one-own statement.number statement.line n [] []
+        (subst (λ (l : What-F What Statement). IsAmong n (own_numbers statement.number l)) is
+        (subst (λ (s : Statement). IsAmong n (own_numbers s.number (out-What s.what))) same own))))
+    which one n (inr among) own =
+        at-left n one.line (numbers_of body) (lines_in body) (statement.number ∷ []) (statement.line ∷ [])
+        (holds.there one n among own)
+
+one-aligned : (statement : Statement) (layer : What-F What Statement) → out-What statement.what ≡ layer
+    → HoldsInside Aligned layer
+    → AreAligned (statement ∷ within_of layer) (numbers_by statement.number layer) (lines_by statement.line layer)
+one-aligned statement (What-F.DoUntil body test) is holds = do-aligned statement body test is holds
+one-aligned statement (What-F.If test first second) is holds =
+    plain-aligned statement (What-F.If test first second) is holds
+    (aligned-append (all_of first) (all_of second) (numbers_of first) (lines_in first) (numbers_of second)
+    (lines_in second) holds.0 holds.1)
+one-aligned statement (What-F.While test body) is holds =
+    plain-aligned statement (What-F.While test body) is holds holds
+one-aligned statement (What-F.For variable from to down step body last) is holds =
+    plain-aligned statement (What-F.For variable from to down step body last) is holds
+    (for-inside statement.number statement.line last body holds)
+one-aligned statement layer is holds = plain-aligned statement layer is holds none-aligned
 
 more-aligned : (statement : Statement) (rest : List Statement) → HoldsInside Aligned (out-What statement.what)
     → Aligned rest → Aligned (statement ∷ rest)
@@ -179,14 +211,14 @@ more-aligned statement rest holds later =
     (sym (within-is statement.what))
     (subst (λ (ns : List ℕ). AreAligned ((statement ∷ within_of (out-What statement.what)) ++ all_of rest) ns
     (lines_in (statement ∷ rest)))
-    (sym (numbers-more statement rest))
+    (sym (numbers-by statement rest))
     (subst (λ (ls : List ℕ). AreAligned ((statement ∷ within_of (out-What statement.what)) ++ all_of rest)
-    (statement.number ∷ numbers_inside statement.number (out-What statement.what) ++ numbers_of rest) ls)
-    (sym (lines-more statement rest))
+    (numbers_by statement.number (out-What statement.what) ++ numbers_of rest) ls)
+    (sym (lines-by statement rest))
     (aligned-append (statement ∷ within_of (out-What statement.what)) (all_of rest)
-    (statement.number ∷ numbers_inside statement.number (out-What statement.what))
-    (statement.line ∷ lines_inside statement.line (out-What statement.what)) (numbers_of rest) (lines_in rest)
-    (one-aligned statement holds) later)))
+    (numbers_by statement.number (out-What statement.what)) (lines_by statement.line (out-What statement.what))
+    (numbers_of rest) (lines_in rest)
+    (one-aligned statement (out-What statement.what) refl holds) later)))
 
 aligned : (statements : List Statement) → Aligned statements
 aligned = by-statements Aligned (record { none = none-aligned; more = more-aligned })
@@ -224,7 +256,7 @@ own-line program procedure statement number numbered among inside own =
     is = let counted : number ≡ at.place + 1 = numbered at.place number at.counted in omega arith
 
 first-own : (number : ℕ) (layer : What-F What Statement) → IsAmong number (own_numbers number layer)
-first-own number (What-F.For variable from to body last) = inl refl
+first-own number (What-F.For variable from to down step body last) = inl refl
 first-own number _ = inl refl
 
 module _ (program : Program) (procedure : Procedure) (statement : Statement) (numbered : IsNumbered program)

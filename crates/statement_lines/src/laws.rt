@@ -1,4 +1,4 @@
-ghost use Rattle.std.specs.Prelude.{◌≡◌, ◌+◌, ℕ, List, length};
+ghost use Rattle.std.specs.Prelude.{◌≡◌, ◌+◌, ℕ, ℤ, Bool, List, length};
 ghost use Rattle.gd_words.specs.Members.{IsAmong};
 ghost use Rattle.tal_tree.specs.Ordered.{IsNumbered, numbers_in_all};
 ghost use Rattle.tal_tree.specs.Statements.{all_of};
@@ -18,12 +18,13 @@ pub fn lines_are_of_statements()
         → IsAmong procedure program.procedures
         → IsAmong statement (all_of procedure.body) → line_of program statement.number ≡ statement.line }
     ensures for_test { (program : Program) (procedure : Procedure) (statement : Statement) (variable : Variable)
-        (from to : Expr) (body : List Statement) (last : ℕ)
+        (from to : Expr) (down : Bool) (step : ℤ) (body : List Statement) (last : ℕ)
         → IsNumbered program → IsAmong procedure program.procedures → IsAmong statement (all_of procedure.body)
-        → out-What statement.what ≡ What-F.For variable from to body last
+        → out-What statement.what ≡ What-F.For variable from to down step body last
         → line_of program (statement.number + 1) ≡ statement.line }
     ensures for_last { (program : Program) (procedure : Procedure) (statement : Statement) (variable : Variable)
-        (from to : Expr) (body : List Statement) (last : ℕ)
+        (from to : Expr) (down : Bool) (step : ℤ) (body : List Statement) (last : ℕ)
         → IsNumbered program → IsAmong procedure program.procedures → IsAmong statement (all_of procedure.body)
-        → out-What statement.what ≡ What-F.For variable from to body last → line_of program last ≡ statement.line }
+        → out-What statement.what ≡ What-F.For variable from to down step body last
+        → line_of program last ≡ statement.line }
 {}

@@ -1,13 +1,13 @@
 ghost use Rattle.std.specs.Prelude.{◌≡◌, ◌++◌, IfOk, OnOk};
 ghost use Rattle.statement_lines.specs.Lines as spec;
-ghost use Rattle.statement_lines.specs.Lines.{lines_in, lines_within};
+ghost use Rattle.statement_lines.specs.Lines.{lines_before, lines_in, lines_within};
 
 use gd_words::{List, NoMemory};
 use std::alloc::Global;
 use tal_tree::{Program, Statement, What};
 
 /// The lines of a program's statements by their numbers: the line of number 1 first. A FOR's line stands there for each
-/// of its three numbers.
+/// of its three numbers, and a DO's, which is that of its UNTIL, behind those of its body.
 pub fn lines_of(alloc: Global, program: &Program) -> Result<List<u32>, NoMemory>
     ensures { IfOk result (λ lines. lines ≡ spec.lines_of program.now) }
 {
@@ -25,13 +25,25 @@ fn push_lines(statements: &[Statement], lines: &mut List<u32>) -> Result<(), NoM
     ensures { OnOk result (lines.new ≡ lines.old ++ lines_in statements.now) }
 {
     for statement in statements {
+        push_before(statement, lines)?;
         lines.push(statement.line)?;
         push_within(statement, lines)?;
     }
     Ok(())
 }
 
-/// Puts the lines that a statement has behind its first one behind others.
+/// Puts the lines that a statement has before its own behind others: those of a DO's body.
+#[cycle(lines)]
+fn push_before(statement: &Statement, lines: &mut List<u32>) -> Result<(), NoMemory>
+    ensures { OnOk result (lines.new ≡ lines.old ++ lines_before statement.now.what) }
+{
+    match &statement.what {
+        What::DoUntil { body, test: _ } => push_lines(body.as_slice(), lines),
+        _ => Ok(()),
+    }
+}
+
+/// Puts the lines that a statement has behind its own behind others.
 #[cycle(lines)]
 fn push_within(statement: &Statement, lines: &mut List<u32>) -> Result<(), NoMemory>
     ensures { OnOk result (lines.new ≡ lines.old ++ lines_within statement.now.line statement.now.what) }
@@ -46,6 +58,8 @@ fn push_within(statement: &Statement, lines: &mut List<u32>) -> Result<(), NoMem
             variable: _,
             from: _,
             to: _,
+            down: _,
+            step: _,
             body,
             last: _,
         } => {

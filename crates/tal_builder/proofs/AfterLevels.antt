@@ -5,7 +5,8 @@ use Rattle.tal_syntax.specs.Expected.{AllAtMost}
 use Rattle.tal_syntax.specs.Nesting.{nest_expr, nest_ors, nest_both, nest_ands, nest_neg, nest_compared, nest_sum}
 use Rattle.tal_syntax.specs.Nesting.{nest_terms, nest_product, nest_factors, nest_factor, nest_spot, nest_index}
 use Rattle.tal_syntax.specs.Nesting.{nest_argument, nest_further, nest_arguments, nest_values, nest_answer}
-use Rattle.tal_syntax.specs.Nesting.{nest_statement, nest_otherwise, nest_row}
+use Rattle.tal_syntax.specs.Nesting.{nest_step, nest_statement, nest_otherwise, nest_row}
+use Rattle.tal_builder.proofs.Flat.{after_step}
 
 mutual
   pub after_expr : (x : g.Expr) (n m : ℕ) (ls : List ℕ) → AllAtMost m (nest_expr n x ls) → AllAtMost m ls
@@ -94,9 +95,13 @@ mutual
       (after_expr test (suc n) m (suc n ∷ nest_statement (suc n) s (nest_otherwise (suc n) o ls)) a.1).1)
   after_statement (g.while_do head test do_at s) n m ls a =
       after_statement s (suc n) m ls (after_expr test (suc n) m (suc n ∷ nest_statement (suc n) s ls) a.1).1
-  after_statement (g.for_do head at name set_at from to_at to do_at s) n m ls a =
-      after_statement s (suc n) m ls (after_expr to (suc n) m (suc n ∷ nest_statement (suc n) s ls)
-      (after_expr from (suc n) m (suc n ∷ nest_expr (suc n) to (suc n ∷ nest_statement (suc n) s ls)) a.1.1.1).1).1
+  after_statement (g.for_do head at name set_at from direction to step do_at s) n m ls a =
+      let inner : List ℕ = suc n ∷ nest_statement (suc n) s ls in
+      after_statement s (suc n) m ls (after_step step (suc n) m inner
+      (after_expr to (suc n) m (nest_step (suc n) step inner)
+      (after_expr from (suc n) m (suc n ∷ nest_expr (suc n) to (nest_step (suc n) step inner)) a.1.1.1).1)).1
+  after_statement (g.do_until head s at test) n m ls a =
+      after_expr test (suc n) m ls (after_statement s (suc n) m (suc n ∷ nest_expr (suc n) test ls) a.1).1
   after_statement (g.call head at name x) n m ls a = after_arguments x (suc n) m ls a.1.1
   after_statement (g.return head x) n m ls a = after_answer x (suc n) m ls a.1
   after_statement (g.assign target at e) n m ls a =

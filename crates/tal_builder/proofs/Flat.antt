@@ -5,7 +5,7 @@ use Rattle.tal_syntax.specs.Grammar as g
 use Rattle.tal_syntax.specs.Expected.{AllAtMost}
 use Rattle.tal_syntax.specs.Nesting.{nest_atom, nest_constant, nest_bounds, nest_item, nest_items, nest_literal}
 use Rattle.tal_syntax.specs.Nesting.{nest_literals, nest_globals, nest_lines, nest_names, nest_parameters, nest_local}
-use Rattle.tal_syntax.specs.Nesting.{nest_locals, nest_gives, nest_main, nest_heading}
+use Rattle.tal_syntax.specs.Nesting.{nest_locals, nest_gives, nest_main, nest_heading, nest_step}
 
 -- tokens at an allowed level before allowed ones
 abbrev Flat : {X : Type 0} → (ℕ → X → List ℕ → List ℕ) → Type 0
@@ -18,6 +18,10 @@ flat_atom (g.known at name) n m ls l a = (l, a)
 flat_constant : Flat nest_constant
 flat_constant (g.positive x) n m ls l a = flat_atom x n m ls l a
 flat_constant (g.negative sign x) n m ls l a = (l, flat_atom x n m ls l a)
+
+pub flat_step : Flat nest_step
+flat_step g.step_one n m ls l a = a
+flat_step (g.step_by at c) n m ls l a = (l, flat_constant c n m ls l a)
 
 flat_bounds : Flat nest_bounds
 flat_bounds g.unbounded n m ls l a = a
@@ -88,6 +92,10 @@ after_atom (g.known at name) n m ls a = a.1
 after_constant : After nest_constant
 after_constant (g.positive x) n m ls a = after_atom x n m ls a
 after_constant (g.negative sign x) n m ls a = after_atom x n m ls a.1
+
+pub after_step : After nest_step
+after_step g.step_one n m ls a = a
+after_step (g.step_by at c) n m ls a = after_constant c n m ls a.1
 
 after_bounds : After nest_bounds
 after_bounds g.unbounded n m ls a = a

@@ -9,17 +9,19 @@ use Rattle.tal_tokens.specs.declared.token.Token.TheVariants as tok
 use Rattle.tal_syntax.specs.Grammar as g
 use Rattle.tal_syntax.specs.Expected.{AllAtMost}
 use Rattle.tal_syntax.specs.Nesting.{nest_expr, nest_argument, nest_further, nest_arguments, nest_values, nest_answer}
-use Rattle.tal_syntax.specs.Nesting.{nest_statement, nest_otherwise, nest_row}
+use Rattle.tal_syntax.specs.Nesting.{nest_step, nest_statement, nest_otherwise, nest_row}
 use Rattle.tal_builder.specs.declared.plain_token.PlainToken.TheVariants as mark
-use Rattle.tal_builder.specs.First.{is_value, is_begun}
+use Rattle.tal_builder.specs.First.{direction_of, is_value, is_begun}
 use Rattle.tal_builder.specs.PlainTokens.{plain_of}
 use Rattle.tal_builder.specs.Parse.{rest_by, rest_after, expr_at, argument_after, argument_at, arguments_after}
 use Rattle.tal_builder.specs.Parse.{arguments_at, answer_at, right_after, right_at, otherwise_after, otherwise_by}
 use Rattle.tal_builder.specs.Parse.{begun_by, statement_at}
 use Rattle.tal_builder.proofs.AfterLevels.{after_expr, after_spot, after_argument, after_statement}
+use Rattle.tal_builder.proofs.Constants.{found_step}
+use Rattle.tal_builder.proofs.Flat.{after_step}
 use Rattle.tal_builder.proofs.Sizes.{grows_expr, grows_argument, grows_statement}
 use Rattle.tal_builder.proofs.Steps.{listed-found, values-found, assign-found, block-found, if-found, while-found}
-use Rattle.tal_builder.proofs.Steps.{for-found, linked}
+use Rattle.tal_builder.proofs.Steps.{for-found, do-found, linked}
 use Rattle.tal_builder.proofs.FoundExpressions.{QuitsExpr, begins_value, no_string, no_call, found_expr, found_spot}
 
 -- calls
@@ -141,6 +143,18 @@ pub else_row : (r : g.Row) (ks : List Token) → plain_of mark.Else ks ≡ None 
 else_row g.no_row ks q = q
 else_row (g.more_row semicolon s r) ks q = refl
 
+found_direction : (d : g.Direction) (ks : List Token) → direction_of (g.of_direction d ∷ ks) ≡ Some (d, ks)
+found_direction (g.up at) ks = refl
+found_direction (g.down at) ks = refl
+
+quits_direction : (d : g.Direction) (ks : List Token) → QuitsExpr (g.of_direction d ∷ ks)
+quits_direction (g.up at) ks = ((((((refl, refl), refl), refl), refl), refl), refl)
+quits_direction (g.down at) ks = ((((((refl, refl), refl), refl), refl), refl), refl)
+
+quits_step : (s : g.Step) (at : At) (ks : List Token) → QuitsExpr (g.of_step s (tok.Do at ∷ ks))
+quits_step g.step_one at ks = ((((((refl, refl), refl), refl), refl), refl), refl)
+quits_step (g.step_by by c) at ks = ((((((refl, refl), refl), refl), refl), refl), refl)
+
 -- a statement is open only where no ELSE follows
 abbrev Shut : Bool → List Token → Type 0
 Shut b ks = b ≡ true → plain_of mark.Else ks ≡ None
@@ -192,25 +206,36 @@ mutual
       (omega (arith, l)) a.1 ((((((refl, refl), refl), refl), refl), refl), refl)) refl
       (found_statement s r (suc n) m ks ls (omega (arith, l))
       (after_expr test (suc n) m (suc n ∷ nest_statement (suc n) s ls) a.1).1 near h q)
-  found_statement (g.for_do head at name set_at from to_at to do_at s) zero n m ks ls l a near h q =
+  found_statement (g.for_do head at name set_at from direction to step do_at s) zero n m ks ls l a near h q =
       absurd (omega (arith, l, a.0))
-  found_statement (g.for_do head at name set_at from to_at to do_at s) (suc r) n m ks ls l a near h q =
+  found_statement (g.for_do head at name set_at from direction to step do_at s) (suc r) n m ks ls l a near h q =
       let inner : List Token = g.of_statement s ks in
-      let end : List Token = g.of_expr to (tok.Do do_at ∷ inner) in
-      let b : AllAtMost m (suc n ∷ nest_expr (suc n) to (suc n ∷ nest_statement (suc n) s ls)) =
-      after_expr from (suc n) m (suc n ∷ nest_expr (suc n) to (suc n ∷ nest_statement (suc n) s ls)) a.1.1.1 in
-      let c : AllAtMost m (suc n ∷ nest_statement (suc n) s ls) =
-      after_expr to (suc n) m (suc n ∷ nest_statement (suc n) s ls) b.1 in
-      for-found (statement_at r) r head at name set_at to_at do_at
-      (tok.Name at name ∷ tok.Assign set_at ∷ g.of_expr from (tok.To to_at ∷ end))
-      (tok.Assign set_at ∷ g.of_expr from (tok.To to_at ∷ end)) (g.of_expr from (tok.To to_at ∷ end))
-      (tok.To to_at ∷ end) end (tok.Do do_at ∷ inner) inner ks from to s refl refl
-      (found_expr from r (suc n) m (tok.To to_at ∷ end)
-      (suc n ∷ nest_expr (suc n) to (suc n ∷ nest_statement (suc n) s ls)) (omega (arith, l)) a.1.1.1
-      ((((((refl, refl), refl), refl), refl), refl), refl)) refl
-      (found_expr to r (suc n) m (tok.Do do_at ∷ inner) (suc n ∷ nest_statement (suc n) s ls) (omega (arith, l)) b.1
-      ((((((refl, refl), refl), refl), refl), refl), refl)) refl
+      let body : List Token = tok.Do do_at ∷ inner in
+      let end : List Token = g.of_expr to (g.of_step step body) in
+      let low : List ℕ = suc n ∷ nest_statement (suc n) s ls in
+      let b : AllAtMost m (suc n ∷ nest_expr (suc n) to (nest_step (suc n) step low)) =
+      after_expr from (suc n) m (suc n ∷ nest_expr (suc n) to (nest_step (suc n) step low)) a.1.1.1 in
+      let c : AllAtMost m low =
+      after_step step (suc n) m low (after_expr to (suc n) m (nest_step (suc n) step low) b.1) in
+      for-found (statement_at r) r head at name set_at do_at
+      (tok.Name at name ∷ tok.Assign set_at ∷ g.of_expr from (g.of_direction direction ∷ end))
+      (tok.Assign set_at ∷ g.of_expr from (g.of_direction direction ∷ end))
+      (g.of_expr from (g.of_direction direction ∷ end))
+      (g.of_direction direction ∷ end) end (g.of_step step body) body inner ks from direction to step s refl refl
+      (found_expr from r (suc n) m (g.of_direction direction ∷ end)
+      (suc n ∷ nest_expr (suc n) to (nest_step (suc n) step low)) (omega (arith, l)) a.1.1.1
+      (quits_direction direction end)) (found_direction direction end)
+      (found_expr to r (suc n) m (g.of_step step body) (nest_step (suc n) step low) (omega (arith, l)) b.1
+      (quits_step step do_at inner)) (found_step step body refl) refl
       (found_statement s r (suc n) m ks ls (omega (arith, l)) c.1 near h q)
+  found_statement (g.do_until head s at test) zero n m ks ls l a near h q = absurd (omega (arith, l, a.0))
+  found_statement (g.do_until head s at test) (suc r) n m ks ls l a near h q =
+      let end : List Token = tok.Until at ∷ g.of_expr test ks in
+      let low : List ℕ = suc n ∷ nest_expr (suc n) test ls in
+      do-found (statement_at r) r head at (g.of_statement s end) end (g.of_expr test ks) ks s test
+      (found_statement s r (suc n) m end low (omega (arith, l)) a.1 near (λ _. refl)
+      (((((((refl, refl), refl), refl), refl), refl), refl), refl, refl)) refl
+      (found_expr test r (suc n) m ks ls (omega (arith, l)) (after_statement s (suc n) m low a.1).1 q.0)
   found_statement (g.call head at name x) zero n m ks ls l a near h q = absurd (omega (arith, l, a.0))
   found_statement (g.call head at name x) (suc r) n m ks ls l a near h q =
       ap (option_map (λ l. (g.call head at name l.0, l.1)))

@@ -12,10 +12,11 @@ use Rattle.tal_syntax.specs.Nesting.{nest_locals, nest_statement, nest_row, nest
 use Rattle.tal_builder.specs.declared.plain_token.PlainToken.TheVariants as mark
 use Rattle.tal_builder.specs.First.{name_of, is_line, is_local, is_heading}
 use Rattle.tal_builder.specs.PlainTokens.{plain_of}
-use Rattle.tal_builder.specs.Parse.{Found, rest_by, rest_after, row_by, bounds_after, bounds_at, item_at, constant_at}
+use Rattle.tal_builder.specs.Parse.{Found, rest_by, rest_after, row_by, bounds_after, bounds_at, item_at}
 use Rattle.tal_builder.specs.Parse.{literal_at, line_at, link_name, parameters_after, parameters_at, gives_at, main_at}
 use Rattle.tal_builder.specs.Parse.{local_at, heading_at, procedure_at, text_at}
 use Rattle.tal_builder.proofs.AfterLevels.{after_statement, after_row}
+use Rattle.tal_builder.proofs.Constants.{found_constant}
 use Rattle.tal_builder.proofs.Flat.{after_lines, after_heading, after_locals}
 use Rattle.tal_builder.proofs.Sizes.{grows_item, grows_literal, grows_globals, grows_local, grows_procedure}
 use Rattle.tal_builder.proofs.Steps.{bounded-found, parameters-found, local-found, int_line-found, literal_line-found}
@@ -23,12 +24,6 @@ use Rattle.tal_builder.proofs.Steps.{heading-found, procedure-found, text-found,
 use Rattle.tal_builder.proofs.FoundStatements.{quits_row, else_row, found_statement, found_row}
 
 -- globals
-found_constant : (c : g.Constant) (ks : List Token) → constant_at (g.of_constant c ks) ≡ Some (c, ks)
-found_constant (g.positive (g.digits at v)) ks = refl
-found_constant (g.positive (g.known at name)) ks = refl
-found_constant (g.negative sign (g.digits at v)) ks = refl
-found_constant (g.negative sign (g.known at name)) ks = refl
-
 found_bounds : (b : g.Bounds) (ks : List Token) → plain_of mark.OpenIndex ks ≡ None
     → bounds_at (g.of_bounds b ks) ≡ Some (b, ks)
 found_bounds g.unbounded ks q = ap (bounds_after ks) q
@@ -192,7 +187,8 @@ no_local g.nothing ks q = q
 no_local (g.block begin first more end) ks q = refl
 no_local (g.if_then head test then_at s o) ks q = refl
 no_local (g.while_do head test do_at s) ks q = refl
-no_local (g.for_do head at name set_at from to_at to do_at s) ks q = refl
+no_local (g.for_do head at name set_at from direction to step do_at s) ks q = refl
+no_local (g.do_until head s at test) ks q = refl
 no_local (g.call head at name x) ks q = refl
 no_local (g.return head x) ks q = refl
 no_local (g.assign (g.spot place name i) at e) ks q = refl

@@ -1,4 +1,5 @@
 pub mod AfterLevels
+pub mod Constants
 pub mod Exact
 pub mod Flat
 pub mod FoundExpressions

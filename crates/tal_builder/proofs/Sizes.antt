@@ -154,6 +154,10 @@ grows_answer : Grows g.of_answer
 grows_answer g.no_answer ks = omega arith
 grows_answer (g.answer e) ks = grows_expr e ks
 
+grows_step : Grows g.of_step
+grows_step g.step_one ks = omega arith
+grows_step (g.step_by at c) ks = omega (arith, grows_constant c ks)
+
 mutual
   pub grows_statement : (s : g.Statement) (ks : List Token) → length ks ≤ length (g.of_statement s ks)
   grows_statement g.nothing ks = omega arith
@@ -168,13 +172,17 @@ mutual
       )
   grows_statement (g.while_do head test do_at s) ks =
       omega (arith, grows_expr test (tok.Do do_at ∷ g.of_statement s ks), grows_statement s ks)
-  grows_statement (g.for_do head at name set_at from to_at to do_at s) ks =
+  grows_statement (g.for_do head at name set_at from direction to step do_at s) ks =
+      let body : List Token = tok.Do do_at ∷ g.of_statement s ks in
       omega (
         arith,
-        grows_expr from (tok.To to_at ∷ g.of_expr to (tok.Do do_at ∷ g.of_statement s ks)),
-        grows_expr to (tok.Do do_at ∷ g.of_statement s ks),
+        grows_expr from (g.of_direction direction ∷ g.of_expr to (g.of_step step body)),
+        grows_expr to (g.of_step step body),
+        grows_step step body,
         grows_statement s ks,
       )
+  grows_statement (g.do_until head s at test) ks =
+      omega (arith, grows_statement s (tok.Until at ∷ g.of_expr test ks), grows_expr test ks)
   grows_statement (g.call head at name a) ks = omega (arith, grows_arguments a ks)
   grows_statement (g.return head a) ks = omega (arith, grows_answer a ks)
   grows_statement (g.assign target at e) ks =

@@ -7,17 +7,19 @@ use Rattle.tal_tokens.specs.declared.token.Token.{Token}
 use Rattle.tal_tokens.specs.declared.token.Token.TheVariants as tok
 use Rattle.tal_syntax.specs.Grammar as g
 use Rattle.tal_syntax.specs.Nesting.{nest_expr, nest_spot, nest_argument, nest_further, nest_arguments, nest_values}
-use Rattle.tal_syntax.specs.Nesting.{nest_answer, nest_statement, nest_otherwise, nest_row}
+use Rattle.tal_syntax.specs.Nesting.{nest_answer, nest_step, nest_statement, nest_otherwise, nest_row}
 use Rattle.tal_builder.specs.declared.plain_token.PlainToken.TheVariants as mark
-use Rattle.tal_builder.specs.First.{name_of, called_of, string_of, is_value, is_begun}
+use Rattle.tal_builder.specs.First.{name_of, called_of, string_of, direction_of, is_value, is_begun}
 use Rattle.tal_builder.specs.PlainTokens.{plain_of}
 use Rattle.tal_builder.specs.Parse.{Found, no_level, expr_at, spot_at, argument_after, argument_at, further_at}
 use Rattle.tal_builder.specs.Parse.{listed_in, arguments_after, arguments_at, call_at, answer_at, return_at, values_at}
 use Rattle.tal_builder.specs.Parse.{value_list_at, value_list_in, right_after, assign_at, rows_by, block_by}
-use Rattle.tal_builder.specs.Parse.{otherwise_after, otherwise_by, if_by, while_by, for_by, begun_by, statement_at}
-use Rattle.tal_builder.specs.Parse.{row_at}
+use Rattle.tal_builder.specs.Parse.{otherwise_after, otherwise_by, if_by, while_by, step_at, for_by, do_by, begun_by}
+use Rattle.tal_builder.specs.Parse.{statement_at, row_at}
 use Rattle.tal_builder.proofs.Told.{Told, Reads, Within, Below, and_then, mapped, weaker, below, stands, chain}
-use Rattle.tal_builder.proofs.SoundTokens.{mark_is, name_is, called_is}
+use Rattle.tal_builder.proofs.Constants.{step_is}
+use Rattle.tal_builder.proofs.Flat.{flat_step}
+use Rattle.tal_builder.proofs.SoundTokens.{mark_is, name_is, called_is, direction_is}
 use Rattle.tal_builder.proofs.SoundExpressions.{expr_is, spot_is}
 
 -- calls
@@ -261,34 +263,53 @@ module _ (r : ℕ) (inner : List Token → Found g.Statement)
       and_then (name_of ks) _ (name_is ks) (λ w p.
       and_then (plain_of mark.Assign w.1) _ (mark_is mark.Assign w.1)
       (λ c d. and_then (expr_at r c.1) _ (expr_is r c.1) (λ f x.
-      and_then (plain_of mark.To f.1) _ (mark_is mark.To f.1)
+      and_then (direction_of f.1) _ (direction_is f.1)
       (λ t y. and_then (expr_at r t.1) _ (expr_is r t.1)
-      (λ i z. and_then (plain_of mark.Do i.1) _ (mark_is mark.Do i.1) (λ h q.
+      (λ i z. and_then (step_at i.1) _ (step_is i.1) (λ j v.
+      and_then (plain_of mark.Do j.1) _ (mark_is mark.Do j.1) (λ h q.
       mapped (inner h.1) _ (known h.1) (λ s u. (
-        rw (u.0, q, z.0, y, x.0, d, p) refl,
+        rw (u.0, q, v, z.0, y, x.0, d, p) refl,
         λ n m ls b a. (
           omega (arith, b),
           (
             omega (arith, b),
             (
               omega (arith, b),
-              x.1 (suc n) m (suc n ∷ nest_expr (suc n) i.0 (suc n ∷ nest_statement (suc n) s.0 ls)) (omega (arith, b)) (
-                omega (arith, b),
-                z.1 (suc n) m (suc n ∷ nest_statement (suc n) s.0 ls) (omega (arith, b))
-                    (omega (arith, b), u.1 (suc n) m ls (omega (arith, b)) a),
-              ),
+              x.1 (suc n) m (suc n
+                  ∷ nest_expr (suc n) i.0 (nest_step (suc n) j.0 (suc n ∷ nest_statement (suc n) s.0 ls)))
+                  (omega (arith, b)) (
+                    omega (arith, b),
+                    z.1 (suc n) m (nest_step (suc n) j.0 (suc n ∷ nest_statement (suc n) s.0 ls)) (omega (arith, b))
+                        (flat_step j.0 (suc n) m (suc n ∷ nest_statement (suc n) s.0 ls) (omega (arith, b))
+                        (omega (arith, b), u.1 (suc n) m ls (omega (arith, b)) a)),
+                  ),
             ),
           ),
         ),
         u.2,
         u.3,
-      ))))))))
+      )))))))))
+
+  do_is : (head : At) (ks : List Token) → Told (do_by inner r head ks) (Said (suc r) (tok.Do head ∷ ks))
+  do_is head ks =
+      and_then (inner ks) _ (known ks) (λ s u. and_then (plain_of mark.Until s.1) _ (mark_is mark.Until s.1) (λ h q.
+      mapped (expr_at r h.1) _ (expr_is r h.1) (λ t p. (
+        rw (p.0, q, u.0) refl,
+        λ n m ls b a. (
+          omega (arith, b),
+          u.1 (suc n) m (suc n ∷ nest_expr (suc n) t.0 ls) (omega (arith, b))
+              (omega (arith, b), p.1 (suc n) m ls (omega (arith, b)) a),
+        ),
+        u.2,
+        λ e. shut e,
+      ))))
 
   begun_is : (ks : List Token) → Told (begun_by inner r ks) (Said (suc r) ks)
   begun_is (tok.Begin at ∷ ks) = block_is at ks
   begun_is (tok.If at ∷ ks) = if_is at ks
   begun_is (tok.While at ∷ ks) = while_is at ks
   begun_is (tok.For at ∷ ks) = for_is at ks
+  begun_is (tok.Do at ∷ ks) = do_is at ks
   begun_is (tok.Call at ∷ ks) = call_is r at ks
   begun_is (tok.Return at ∷ ks) = return_is r at ks
   begun_is ks = assign_is r ks

@@ -9,34 +9,18 @@ use Rattle.tal_syntax.specs.Nesting.{nest_locals, nest_statement, nest_row, nest
 use Rattle.tal_builder.specs.declared.plain_token.PlainToken.TheVariants as mark
 use Rattle.tal_builder.specs.First.{name_of, is_line, is_local, is_heading}
 use Rattle.tal_builder.specs.PlainTokens.{plain_of}
-use Rattle.tal_builder.specs.Parse.{Found, atom_at, constant_after, constant_at, bounds_after, bounds_at, item_at}
+use Rattle.tal_builder.specs.Parse.{Found, constant_at, bounds_after, bounds_at, item_at}
 use Rattle.tal_builder.specs.Parse.{items_at, literal_at, literals_at, int_line_at, literal_line_at, line_after}
 use Rattle.tal_builder.specs.Parse.{line_at, lines_at, link_name, names_at, parameters_after, parameters_at, local_at}
 use Rattle.tal_builder.specs.Parse.{locals_at, gives_after, gives_at, main_after, main_at, heading_at, procedure_at}
 use Rattle.tal_builder.specs.Parse.{procedures_at, ended, text_at, statement_at, row_at}
+use Rattle.tal_builder.proofs.Constants.{Is, constant_is}
 use Rattle.tal_builder.proofs.Told.{Told, Reads, and_then, mapped, weaker, chain, row}
 use Rattle.tal_builder.proofs.Flat.{flat_lines, flat_heading, flat_locals}
 use Rattle.tal_builder.proofs.SoundTokens.{mark_is, name_is}
 use Rattle.tal_builder.proofs.SoundStatements.{statement_is, row_is}
 
--- a part is found in its tokens
-abbrev Is : {X : Type 0} → (X → List Token → List Token) → (List Token → Found X) → Type 0
-Is of_x reader = (ks : List Token) → Told (reader ks) (λ r. of_x r.0 r.1 ≡ ks)
-
 -- globals
-atom_is : Is g.of_atom atom_at
-atom_is (tok.Number at n ∷ ks) = record { told = refl }
-atom_is (tok.Name at name ∷ ks) = record { told = refl }
-atom_is _ = record { told = tt }
-
-constant_after_is : (ks : List Token) (o : Found At) → Told o (λ r. tok.Minus r.0 ∷ r.1 ≡ ks)
-    → Told (constant_after ks o) (λ r. g.of_constant r.0 r.1 ≡ ks)
-constant_after_is ks None h = mapped (atom_at ks) _ (atom_is ks) (λ v p. p)
-constant_after_is ks (Some (sign, us)) h = mapped (atom_at us) _ (atom_is us) (λ v p. rw p h.told)
-
-constant_is : Is g.of_constant constant_at
-constant_is ks = constant_after_is ks (plain_of mark.Minus ks) (mark_is mark.Minus ks)
-
 bounds_after_is : (ks : List Token) (o : Found At) → Told o (λ r. tok.OpenIndex r.0 ∷ r.1 ≡ ks)
     → Told (bounds_after ks o) (λ r. g.of_bounds r.0 r.1 ≡ ks)
 bounds_after_is ks None h = record { told = refl }

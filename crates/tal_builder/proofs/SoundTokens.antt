@@ -5,13 +5,14 @@ use Rattle.tal_tokens.specs.declared.token.Token.TheVariants as tok
 use Rattle.tal_syntax.specs.Grammar as g
 use Rattle.tal_builder.specs.declared.plain_token.PlainToken.{PlainToken}
 use Rattle.tal_builder.specs.declared.plain_token.PlainToken.TheVariants as mark
-use Rattle.tal_builder.specs.First.{name_of, called_of, rel_of, sign_of, scale_of}
+use Rattle.tal_builder.specs.First.{name_of, called_of, rel_of, sign_of, scale_of, direction_of}
 use Rattle.tal_builder.specs.PlainTokens.{token_of_plain, place_of, plain_of}
 use Rattle.tal_builder.proofs.Told.{Told, mapped}
 
 place_is : (m : PlainToken) (k : Token) → Told (place_of m k) (λ at. token_of_plain m at ≡ k)
 place_is mark.And (tok.And at) = record { told = refl }
 place_is mark.Begin (tok.Begin at) = record { told = refl }
+place_is mark.By (tok.By at) = record { told = refl }
 place_is mark.Do (tok.Do at) = record { told = refl }
 place_is mark.Else (tok.Else at) = record { told = refl }
 place_is mark.End (tok.End at) = record { told = refl }
@@ -21,7 +22,7 @@ place_is mark.Main (tok.Main at) = record { told = refl }
 place_is mark.Or (tok.Or at) = record { told = refl }
 place_is mark.Proc (tok.Proc at) = record { told = refl }
 place_is mark.Then (tok.Then at) = record { told = refl }
-place_is mark.To (tok.To at) = record { told = refl }
+place_is mark.Until (tok.Until at) = record { told = refl }
 place_is mark.Assign (tok.Assign at) = record { told = refl }
 place_is mark.Equal (tok.Equal at) = record { told = refl }
 place_is mark.Minus (tok.Minus at) = record { told = refl }
@@ -65,3 +66,8 @@ pub scale_is : (ks : List Token) → Told (scale_of ks) (λ r. g.of_scale r.0 �
 scale_is (tok.Star at ∷ ks) = record { told = refl }
 scale_is (tok.Slash at ∷ ks) = record { told = refl }
 scale_is _ = record { told = tt }
+
+pub direction_is : (ks : List Token) → Told (direction_of ks) (λ r. g.of_direction r.0 ∷ r.1 ≡ ks)
+direction_is (tok.To at ∷ ks) = record { told = refl }
+direction_is (tok.DownTo at ∷ ks) = record { told = refl }
+direction_is _ = record { told = tt }

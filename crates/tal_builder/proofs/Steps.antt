@@ -6,7 +6,7 @@ use Rattle.tal_tokens.specs.declared.token.At.{At}
 use Rattle.tal_tokens.specs.declared.token.Token.{Token}
 use Rattle.tal_tokens.specs.declared.token.Token.TheVariants as tok
 use Rattle.tal_syntax.specs.Grammar as g
-use Rattle.tal_builder.specs.First.{name_of, rel_of}
+use Rattle.tal_builder.specs.First.{name_of, rel_of, direction_of}
 use Rattle.tal_builder.specs.PlainTokens.{plain_of}
 use Rattle.tal_builder.specs.declared.plain_token.PlainToken.TheVariants as mark
 use Rattle.tal_builder.specs.Parse.{Found, constant_at, bounds_at, names_at, local_at, rest_after, row_by, compared_by}
@@ -16,7 +16,7 @@ use Rattle.tal_builder.specs.Parse.{literal_line_at, gives_at, parameters_at, ma
 use Rattle.tal_builder.specs.Parse.{statement_at, row_at, procedure_at, lines_at, procedures_at, text_at, ors_by}
 use Rattle.tal_builder.specs.Parse.{expr_by, ands_by, both_by, compared_to, terms_by, sum_by, factors_by, product_by}
 use Rattle.tal_builder.specs.Parse.{index_by, parens_by, minus_by, negated_by, expr_at, rows_by, block_by, otherwise_by}
-use Rattle.tal_builder.specs.Parse.{if_by, while_by, for_by}
+use Rattle.tal_builder.specs.Parse.{if_by, while_by, step_at, for_by, do_by}
 
 pub expr-found : (both : List Token → Found g.Both) (ks us vs : List Token) (first : g.Both) (more : g.Ors)
     → both ks ≡ Some (first, us) → ors_by both us ≡ Some (more, vs) → expr_by both ks ≡ Some (g.expr first more, vs)
@@ -80,14 +80,21 @@ pub while-found : (inner : List Token → Found g.Statement) (n : ℕ) (head do_
 while-found inner n head do_at ks us vs ws test s a b c = rw (a, b, c) refl
 
 pub for-found : (inner : List Token → Found g.Statement) (n : ℕ) (head at : At) (name : List ℕ)
-    (set_at to_at do_at : At) (ks us vs ws xs ys zs ts : List Token)
-    (from to : g.Expr) (s : g.Statement)
+    (set_at do_at : At) (ks us vs ws xs ys rs zs ts : List Token)
+    (from : g.Expr) (direction : g.Direction) (to : g.Expr) (step : g.Step) (s : g.Statement)
     → name_of ks ≡ Some ((at, name), us) → plain_of mark.Assign us ≡ Some (set_at, vs) → expr_at n vs ≡ Some (from, ws)
-    → plain_of mark.To ws ≡ Some (to_at, xs)
-    → expr_at n xs ≡ Some (to, ys) → plain_of mark.Do ys ≡ Some (do_at, zs) → inner zs ≡ Some (s, ts)
-    → for_by inner n head ks ≡ Some (g.for_do head at name set_at from to_at to do_at s, ts)
-for-found inner n head at name set_at to_at do_at ks us vs ws xs ys zs ts from to s a b c d e f h =
-    rw (a, b, c, d, e, f, h) refl
+    → direction_of ws ≡ Some (direction, xs)
+    → expr_at n xs ≡ Some (to, ys) → step_at ys ≡ Some (step, rs) → plain_of mark.Do rs ≡ Some (do_at, zs)
+    → inner zs ≡ Some (s, ts)
+    → for_by inner n head ks ≡ Some (g.for_do head at name set_at from direction to step do_at s, ts)
+for-found inner n head at name set_at do_at ks us vs ws xs ys rs zs ts from direction to step s a b c d e f h i =
+    rw (a, b, c, d, e, f, h, i) refl
+
+pub do-found : (inner : List Token → Found g.Statement) (n : ℕ) (head at : At) (ks us vs ws : List Token)
+    (s : g.Statement) (test : g.Expr)
+    → inner ks ≡ Some (s, us) → plain_of mark.Until us ≡ Some (at, vs) → expr_at n vs ≡ Some (test, ws)
+    → do_by inner n head ks ≡ Some (g.do_until head s at test, ws)
+do-found inner n head at ks us vs ws s test a b c = rw (a, b, c) refl
 
 pub relation-found : (sum : List Token → Found g.Sum) (ks us vs : List Token) (s : g.Sum) (c : g.Compared)
     → sum ks ≡ Some (s, us) → compared_by sum us ≡ Some (c, vs) → relation_by sum ks ≡ Some (g.relation s c, vs)

@@ -34,6 +34,12 @@ scale_of (tok.Star at ∷ ks) = Some (g.times at, ks)
 scale_of (tok.Slash at ∷ ks) = Some (g.over at, ks)
 scale_of _ = None
 
+-- which way a FOR counts
+abbrev pub direction_of : List Token → Option (g.Direction × List Token)
+direction_of (tok.To at ∷ ks) = Some (g.up at, ks)
+direction_of (tok.DownTo at ∷ ks) = Some (g.down at, ks)
+direction_of _ = None
+
 -- a string
 abbrev pub string_of : List Token → Option (g.Argument × List Token)
 string_of (tok.Receive at ∷ ks) = Some (g.receive at, ks)
@@ -56,6 +62,7 @@ is_begun (tok.Begin at ∷ ks) = true
 is_begun (tok.If at ∷ ks) = true
 is_begun (tok.While at ∷ ks) = true
 is_begun (tok.For at ∷ ks) = true
+is_begun (tok.Do at ∷ ks) = true
 is_begun (tok.Call at ∷ ks) = true
 is_begun (tok.Return at ∷ ks) = true
 is_begun (tok.Name at name ∷ ks) = true

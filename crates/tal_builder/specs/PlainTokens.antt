@@ -10,6 +10,7 @@ use Rattle.tal_builder.specs.declared.plain_token.PlainToken.TheVariants as mark
 abbrev pub token_of_plain : PlainToken → At → Token
 token_of_plain mark.And at = tok.And at
 token_of_plain mark.Begin at = tok.Begin at
+token_of_plain mark.By at = tok.By at
 token_of_plain mark.Do at = tok.Do at
 token_of_plain mark.Else at = tok.Else at
 token_of_plain mark.End at = tok.End at
@@ -19,7 +20,7 @@ token_of_plain mark.Main at = tok.Main at
 token_of_plain mark.Or at = tok.Or at
 token_of_plain mark.Proc at = tok.Proc at
 token_of_plain mark.Then at = tok.Then at
-token_of_plain mark.To at = tok.To at
+token_of_plain mark.Until at = tok.Until at
 token_of_plain mark.Assign at = tok.Assign at
 token_of_plain mark.Equal at = tok.Equal at
 token_of_plain mark.Minus at = tok.Minus at
@@ -36,6 +37,7 @@ token_of_plain mark.Finish at = tok.Finish at
 abbrev pub place_of : PlainToken → Token → Option At
 place_of mark.And (tok.And at) = Some at
 place_of mark.Begin (tok.Begin at) = Some at
+place_of mark.By (tok.By at) = Some at
 place_of mark.Do (tok.Do at) = Some at
 place_of mark.Else (tok.Else at) = Some at
 place_of mark.End (tok.End at) = Some at
@@ -45,7 +47,7 @@ place_of mark.Main (tok.Main at) = Some at
 place_of mark.Or (tok.Or at) = Some at
 place_of mark.Proc (tok.Proc at) = Some at
 place_of mark.Then (tok.Then at) = Some at
-place_of mark.To (tok.To at) = Some at
+place_of mark.Until (tok.Until at) = Some at
 place_of mark.Assign (tok.Assign at) = Some at
 place_of mark.Equal (tok.Equal at) = Some at
 place_of mark.Minus (tok.Minus at) = Some at

@@ -1,11 +1,12 @@
 ghost use Rattle.std.specs.Prelude.{◌≡◌};
-ghost use Rattle.tal_builder.specs.First.{name_of, called_of, rel_of, sign_of, scale_of, string_of, is_value, is_begun};
-ghost use Rattle.tal_builder.specs.First.{is_line, is_heading, is_local};
-ghost use Rattle.tal_builder.specs.Outcome.{Gives};
-ghost use Rattle.tal_syntax.specs.Seen.{seen_rel, seen_sign, seen_scale, seen_argument};
+ghost use Rattle.tal_builder.specs.First.{name_of, called_of, rel_of, sign_of, scale_of, direction_of, string_of};
+ghost use Rattle.tal_builder.specs.First.{is_value, is_begun, is_line, is_heading, is_local};
+ghost use Rattle.tal_builder.specs.Outcome.{Gives, Tells};
+ghost use Rattle.tal_syntax.specs.Seen.{seen_rel, seen_sign, seen_scale, seen_direction, seen_argument};
 
+use crate::stop::BuildFault;
 use gd_words::Ident;
-use tal_syntax::{Argument, Rel, Scale, Sign};
+use tal_syntax::{Argument, Direction, Rel, Scale, Sign};
 use tal_tokens::{At, Token};
 
 /// A name and its place.
@@ -78,6 +79,17 @@ pub fn scale_first(tokens: &[Token]) -> Option<(Scale, &[Token])>
     }
 }
 
+/// The way that a FOR counts, which the tokens have to begin with, and the tokens after it.
+pub fn direction(tokens: &[Token]) -> Result<(Direction, &[Token]), BuildFault>
+    ensures { Tells (λ r. (seen_direction r.0, r.1.now)) result (direction_of tokens.now) }
+{
+    match tokens {
+        [Token::To(at), rest @ ..] => Ok((Direction::Up(*at), rest)),
+        [Token::DownTo(at), rest @ ..] => Ok((Direction::Down(*at), rest)),
+        _ => Err(BuildFault::NoSyntax),
+    }
+}
+
 /// The string with which the tokens begin, and the tokens after it.
 pub fn string_first(tokens: &[Token]) -> Option<(Argument, &[Token])>
     ensures { Gives (λ r. (seen_argument r.0, r.1.now)) result (string_of tokens.now) }
@@ -113,6 +125,7 @@ pub fn is_begun(tokens: &[Token]) -> bool
         [Token::If(_), ..] => true,
         [Token::While(_), ..] => true,
         [Token::For(_), ..] => true,
+        [Token::Do(_), ..] => true,
         [Token::Call(_), ..] => true,
         [Token::Return(_), ..] => true,
         [Token::Name(_, _), ..] => true,

@@ -27,7 +27,7 @@ fn atom(tokens: &[Token]) -> Option<(Atom, &[Token])>
 }
 
 /// `[ "-" ] atom`
-fn constant(tokens: &[Token]) -> Option<(Constant, &[Token])>
+pub fn constant(tokens: &[Token]) -> Option<(Constant, &[Token])>
     ensures { Gives (λ r. (seen_constant r.0, r.1.now)) result (constant_at tokens.now) }
 {
     match optional(PlainToken::Minus, tokens) {

@@ -10,6 +10,7 @@ use tal_tokens::{At, Token};
 pub enum PlainToken {
     And,
     Begin,
+    By,
     Do,
     Else,
     End,
@@ -19,7 +20,7 @@ pub enum PlainToken {
     Or,
     Proc,
     Then,
-    To,
+    Until,
     Assign,
     Equal,
     Minus,
@@ -40,6 +41,7 @@ fn place(mark: PlainToken, token: Token) -> Option<At>
     match (mark, token) {
         (PlainToken::And, Token::And(at)) => Some(at),
         (PlainToken::Begin, Token::Begin(at)) => Some(at),
+        (PlainToken::By, Token::By(at)) => Some(at),
         (PlainToken::Do, Token::Do(at)) => Some(at),
         (PlainToken::Else, Token::Else(at)) => Some(at),
         (PlainToken::End, Token::End(at)) => Some(at),
@@ -49,7 +51,7 @@ fn place(mark: PlainToken, token: Token) -> Option<At>
         (PlainToken::Or, Token::Or(at)) => Some(at),
         (PlainToken::Proc, Token::Proc(at)) => Some(at),
         (PlainToken::Then, Token::Then(at)) => Some(at),
-        (PlainToken::To, Token::To(at)) => Some(at),
+        (PlainToken::Until, Token::Until(at)) => Some(at),
         (PlainToken::Assign, Token::Assign(at)) => Some(at),
         (PlainToken::Equal, Token::Equal(at)) => Some(at),
         (PlainToken::Minus, Token::Minus(at)) => Some(at),

@@ -1,20 +1,22 @@
 ghost use Rattle.std.specs.Prelude.{◌≡◌};
-ghost use Rattle.tal_builder.specs.Outcome.{Tells};
-ghost use Rattle.tal_builder.specs.Parse.{row_at, block_by, otherwise_by, if_by, while_by, for_by, begun_by};
-ghost use Rattle.tal_builder.specs.Parse.{statement_at};
-ghost use Rattle.tal_syntax.specs.Seen.{seen_statement, seen_otherwise, seen_row};
+ghost use Rattle.tal_builder.specs.Outcome.{Gives, Tells};
+ghost use Rattle.tal_builder.specs.Parse.{row_at, block_by, otherwise_by, if_by, while_by, for_by, do_by};
+ghost use Rattle.tal_builder.specs.Parse.{begun_by, step_at, statement_at};
+ghost use Rattle.tal_syntax.specs.Seen.{seen_step, seen_statement, seen_otherwise, seen_row};
 
 use crate::expression::expr;
-use crate::first::{is_begun, name_first};
+use crate::first::{direction, is_begun, name_first};
+use crate::globals::constant;
 use crate::plain_token::{PlainToken, expect, optional};
 use crate::simple::{assignment, call, return_of};
 use crate::statement_parts::{
-    add_statement, block_of, for_head_of, for_of, if_of, nothing_of, test_of, while_of,
+    add_statement, block_of, do_of, for_head_of, for_of, if_of, nothing_of, test_of, until_of,
+    while_of,
 };
 use crate::stop::BuildFault;
 use gd_words::{Boxed, List};
 use std::alloc::Global;
-use tal_syntax::{Next, Otherwise, Statement};
+use tal_syntax::{Next, Otherwise, Statement, Step};
 use tal_tokens::{At, Token};
 
 /// A statement in which so many levels may be opened, its own among them.
@@ -63,13 +65,17 @@ fn begun(
 ) -> Result<(Boxed<Statement>, &[Token]), BuildFault>
     ensures { Tells (λ r. (seen_statement r.0, r.1.now)) result (begun_by (statement_at room) room tokens.now) }
 {
-    match tokens {
-        [Token::Begin(at), rest @ ..] => block(alloc, room, *at, rest),
-        [Token::If(at), rest @ ..] => if_then(alloc, room, *at, rest),
-        [Token::While(at), rest @ ..] => while_loop(alloc, room, *at, rest),
-        [Token::For(at), rest @ ..] => for_loop(alloc, room, *at, rest),
-        [Token::Call(at), rest @ ..] => call(alloc, room, *at, rest),
-        [Token::Return(at), rest @ ..] => return_of(alloc, room, *at, rest),
+    let Some((first, rest)) = tokens.split_first() else {
+        return assignment(alloc, room, tokens);
+    };
+    match *first {
+        Token::Begin(at) => block(alloc, room, at, rest),
+        Token::If(at) => if_then(alloc, room, at, rest),
+        Token::While(at) => while_loop(alloc, room, at, rest),
+        Token::For(at) => for_loop(alloc, room, at, rest),
+        Token::Do(at) => do_loop(alloc, room, at, rest),
+        Token::Call(at) => call(alloc, room, at, rest),
+        Token::Return(at) => return_of(alloc, room, at, rest),
         _ => assignment(alloc, room, tokens),
     }
 }
@@ -140,7 +146,20 @@ fn while_loop(
     Ok((statement, rest))
 }
 
-/// `name ":=" expr TO expr DO statement`, after FOR
+/// `[ BY constant ]`
+fn step(tokens: &[Token]) -> Option<(Step, &[Token])>
+    ensures { Gives (λ r. (seen_step r.0, r.1.now)) result (step_at tokens.now) }
+{
+    let Some((at, after)) = optional(PlainToken::By, tokens) else {
+        return Some((Step::One, tokens));
+    };
+    let Some((constant, rest)) = constant(after) else {
+        return None;
+    };
+    Some((Step::By(at, constant), rest))
+}
+
+/// `name ":=" expr ( TO | DOWNTO ) expr [ BY constant ] DO statement`, after FOR
 #[cycle(statement)]
 fn for_loop(
     alloc: Global,
@@ -155,11 +174,32 @@ fn for_loop(
     };
     let (set_at, after) = expect(PlainToken::Assign, after)?;
     let (from, after) = expr(alloc, room, after)?;
-    let (to_at, after) = expect(PlainToken::To, after)?;
+    let (direction, after) = direction(after)?;
     let (to, after) = expr(alloc, room, after)?;
+    let Some((step, after)) = step(after) else {
+        return Err(BuildFault::NoSyntax);
+    };
     let (do_at, after) = expect(PlainToken::Do, after)?;
     let (inner, rest) = statement(alloc, room, after)?;
-    let counted = for_head_of(alloc, head, named, set_at, from, to_at, to, do_at)?;
+    let counted = for_head_of(alloc, head, named, set_at, from, direction, to, step, do_at)?;
     let statement = for_of(alloc, counted, inner)?;
+    Ok((statement, rest))
+}
+
+/// `statement UNTIL expr`, after DO
+#[cycle(statement)]
+fn do_loop(
+    alloc: Global,
+    room: u8,
+    head: At,
+    tokens: &[Token],
+) -> Result<(Boxed<Statement>, &[Token]), BuildFault>
+    ensures { Tells (λ r. (seen_statement r.0, r.1.now)) result (do_by (statement_at room) room head tokens.now) }
+{
+    let (inner, after) = statement(alloc, room, tokens)?;
+    let (at, after) = expect(PlainToken::Until, after)?;
+    let (test, rest) = expr(alloc, room, after)?;
+    let until = until_of(alloc, head, at, test)?;
+    let statement = do_of(alloc, inner, until)?;
     Ok((statement, rest))
 }

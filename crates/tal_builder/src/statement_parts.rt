@@ -2,12 +2,13 @@
 
 ghost use Rattle.std.specs.Prelude.{◌≡◌, [], ◌∷◌, ◌++◌, IfOk, OnOk};
 ghost use Rattle.tal_syntax.specs.Grammar as g;
-ghost use Rattle.tal_syntax.specs.Seen.{seen_expr, seen_statement, seen_otherwise, seen_row};
+ghost use Rattle.tal_syntax.specs.Seen.{seen_expr, seen_direction, seen_step, seen_statement, seen_otherwise};
+ghost use Rattle.tal_syntax.specs.Seen.{seen_row};
 
 use crate::first::Named;
 use gd_words::{Boxed, List, NoMemory};
 use std::alloc::Global;
-use tal_syntax::{Expr, ForHead, Next, Otherwise, Statement, Test};
+use tal_syntax::{Direction, Expr, ForHead, Next, Otherwise, Statement, Step, Test, Until};
 use tal_tokens::At;
 
 /// The empty statement.
@@ -98,8 +99,9 @@ pub fn for_head_of(
     named: Named,
     set_at: At,
     from: Boxed<Expr>,
-    to_at: At,
+    direction: Direction,
     to: Boxed<Expr>,
+    step: Step,
     do_at: At,
 ) -> Result<Boxed<ForHead>, NoMemory>
     ensures { IfOk result (λ f. f ≡ record {
@@ -108,8 +110,9 @@ pub fn for_head_of(
       name = named.name;
       set_at = set_at;
       from = from;
-      to_at = to_at;
+      direction = direction;
       to = to;
+      step = step;
       do_at = do_at;
     }) }
 {
@@ -121,15 +124,16 @@ pub fn for_head_of(
         name: named.name,
         set_at,
         from,
-        to_at,
+        direction,
         to,
+        step,
         do_at,
     };
     let counted = Boxed::new(alloc, counted)?;
     Ok(counted)
 }
 
-/// `FOR name ":=" expr TO expr DO statement`
+/// `FOR name ":=" expr ( TO | DOWNTO ) expr [ BY constant ] DO statement`
 #[inline(never)]
 pub fn for_of(
     alloc: Global,
@@ -137,9 +141,39 @@ pub fn for_of(
     inner: Boxed<Statement>,
 ) -> Result<Boxed<Statement>, NoMemory>
     ensures { IfOk result (λ s. seen_statement s
-        ≡ g.for_do counted.head counted.at counted.name counted.set_at (seen_expr counted.from) counted.to_at
-        (seen_expr counted.to) counted.do_at (seen_statement inner)) }
+        ≡ g.for_do counted.head counted.at counted.name counted.set_at (seen_expr counted.from)
+        (seen_direction counted.direction) (seen_expr counted.to) (seen_step counted.step) counted.do_at
+        (seen_statement inner)) }
 {
     let statement = Boxed::new(alloc, Statement::For(counted, inner))?;
+    Ok(statement)
+}
+
+/// What stands around the statement inside a DO.
+#[inline(never)]
+pub fn until_of(
+    alloc: Global,
+    head: At,
+    at: At,
+    test: Boxed<Expr>,
+) -> Result<Boxed<Until>, NoMemory>
+    ensures { IfOk result (λ u. u ≡ record { head = head; at = at; test = test }) }
+{
+    let test = test.into_inner();
+    let until = Boxed::new(alloc, Until { head, at, test })?;
+    Ok(until)
+}
+
+/// `DO statement UNTIL expr`
+#[inline(never)]
+pub fn do_of(
+    alloc: Global,
+    inner: Boxed<Statement>,
+    until: Boxed<Until>,
+) -> Result<Boxed<Statement>, NoMemory>
+    ensures { IfOk result (λ s. seen_statement s
+        ≡ g.do_until until.head (seen_statement inner) until.at (seen_expr until.test)) }
+{
+    let statement = Boxed::new(alloc, Statement::DoUntil(inner, until))?;
     Ok(statement)
 }

@@ -106,7 +106,8 @@ module _ (s : Scope) where
     statement_files f (g.block begin first more end) = row_files (statement_files f first) more
     statement_files f (g.if_then head test then_at t o) = else_files (statement_files f t) o
     statement_files f (g.while_do head test do_at t) = statement_files f t
-    statement_files f (g.for_do head at name set_at from to_at to do_at t) = statement_files f t
+    statement_files f (g.for_do head at name set_at from direction to step do_at t) = statement_files f t
+    statement_files f (g.do_until head t at test) = statement_files f t
     statement_files f (g.call head at name a) = call_files s f (arguments_of a) (system_of name)
     statement_files f (g.return head a) = f
     statement_files f (g.assign target at e) = f

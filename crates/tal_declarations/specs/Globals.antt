@@ -108,11 +108,11 @@ extent_of names (g.bounded start low colon high close) =
     array_by (bounds_by (constant_value low (constant_meaning names low))
     (constant_value high (constant_meaning names high)))
 
--- at most 64 global names, 512 words, and 256 words an array
+-- at most 64 global names, 1,024 words, and 256 words an array
 abbrev pub item_limits : Declared → At → ℕ → List RuleFault
 item_limits d at words =
     if_so (nat_le 64 (length d.items)) (fault_at at (Limit 1))
-    ++ if_so (nat_lt 512 (d.words + words)) (fault_at at (Limit 2))
+    ++ if_so (nat_lt 1024 (d.words + words)) (fault_at at (Limit 2))
     ++ if_so (nat_lt 256 words) (fault_at at (Limit 3))
 
 abbrev pub item_faults : Declared → g.Item → List RuleFault
@@ -125,12 +125,12 @@ item_meaning shape.Simple before = m.Simple (min 64 before)
 item_meaning (shape.Array low high) before = m.Array (min 64 before)
 item_meaning (shape.File number) before = m.Simple (min 64 before)
 
--- with one more item. The words past the limit count as 513
+-- with one more item. The words past the limit count as 1025
 abbrev pub with_extent : Declared → List ℕ → Extent → Declared
 with_extent d name x = record {
   names = with_name d.names name (item_meaning x.shape (length d.items));
   items = d.items ++ record { name = name; shape = x.shape } ∷ [];
-  words = min 513 (d.words + x.words);
+  words = min 1025 (d.words + x.words);
 }
 
 abbrev pub with_item : Declared → g.Item → Declared

@@ -229,6 +229,7 @@ pub fn statement_files(
         }
         Statement::While(_, body) => statement_files(body.get(), scope, files),
         Statement::For(_, body) => statement_files(body.get(), scope, files),
+        Statement::DoUntil(body, _) => statement_files(body.get(), scope, files),
         Statement::Call(call) => {
             let call = call.get();
             call_files(scope, files, call.name, &call.arguments)

@@ -27,7 +27,7 @@ use tal_tree::Shape;
 const NAMES: usize = 64;
 
 /// The most words of all globals.
-const WORDS: u32 = 512;
+const WORDS: u32 = 1024;
 
 /// The most words of an array.
 const ARRAY: u32 = 256;
@@ -82,7 +82,7 @@ fn at_of_atom(atom: &Atom) -> At
 }
 
 /// The first token of a constant.
-fn at_of_constant(constant: &Constant) -> At
+pub fn at_of_constant(constant: &Constant) -> At
     ensures { result ≡ first_of_constant (seen_constant constant.now) }
 {
     match constant {

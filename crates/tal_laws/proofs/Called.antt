@@ -1,6 +1,8 @@
 -- The statements of a text without faults are regular.
-use Rattle.std.proofs.Common.{◌≡◌, ℕ, ◌+◌, arith, not, ◌==◌, ◌&&◌, ◌||◌, Bool, true, false, List, [], ◌∷◌, length}
-use Rattle.std.proofs.Common.{slice_get, Option, Some, None, refl, sym, ◌∙◌, eqb-true, is_some}
+use Rattle.std.proofs.Common.{◌≡◌, ℕ, ◌+◌, arith, ℤ, pos, ◌≤ℤ◌, not, ◌==◌, ◌&&◌, ◌||◌, Bool, true, false, List, [], ◌∷◌}
+use Rattle.std.proofs.Common.{length}
+use Rattle.std.proofs.Common.{slice_get, Option, Some, None, unwrap_or, refl, sym, ◌∙◌, eqb-true, is_some}
+use Rattle.std.proofs.lemmas.Int.{ints}
 use Rattle.std.proofs.lemmas.Bool.{not-false, or_parts}
 use Rattle.tal_tokens.specs.declared.token.At.{At}
 use Rattle.tal_syntax.specs.Grammar as g
@@ -11,9 +13,10 @@ use Rattle.tal_tree.specs.declared.statement.Statement.{Statement}
 use Rattle.tal_tree.specs.declared.statement.What.{What, What-F}
 use Rattle.tal_tree.specs.declared.statement.What.TheVariants as what
 use Rattle.tal_tree.specs.declared.statement.What.TheViews.{rolls-Assign, rolls-AssignCall, rolls-If, rolls-While}
-use Rattle.tal_tree.specs.declared.statement.What.TheViews.{rolls-For, rolls-Call, rolls-Return, rolls-ReadUpdate}
-use Rattle.tal_tree.specs.declared.statement.What.TheViews.{rolls-Reply, rolls-WriteRead, rolls-Checkpoint}
-use Rattle.tal_tree.specs.declared.statement.What.TheViews.{rolls-CheckMonitor, rolls-Open, rolls-Stop}
+use Rattle.tal_tree.specs.declared.statement.What.TheViews.{rolls-For, rolls-DoUntil, rolls-Call, rolls-Return}
+use Rattle.tal_tree.specs.declared.statement.What.TheViews.{rolls-ReadUpdate, rolls-Reply, rolls-WriteRead}
+use Rattle.tal_tree.specs.declared.statement.What.TheViews.{rolls-Checkpoint, rolls-CheckMonitor, rolls-Open}
+use Rattle.tal_tree.specs.declared.statement.What.TheViews.{rolls-Stop}
 use Rattle.tal_names.specs.declared.fault.Rule.TheVariants.{WrongKind}
 use Rattle.tal_names.specs.declared.meaning.Meaning.{Meaning}
 use Rattle.tal_names.specs.declared.meaning.Meaning.TheVariants as m
@@ -28,19 +31,23 @@ use Rattle.tal_rules.specs.Expressions.{spot_faults}
 use Rattle.tal_names.specs.Places.{first_of_spot, name_of_expr, arguments_of}
 use Rattle.tal_names.specs.Scopes.{meaning_of}
 use Rattle.tal_names.specs.Systems.{system_of}
-use Rattle.tal_rules.specs.Statements.{stepped, after, statement_faults, else_faults, row_faults, return_faults}
-use Rattle.tal_rules.specs.Statements.{right_by, right_named}
+use Rattle.tal_rules.specs.Statements.{stepped, inside_do, after, statement_faults, else_faults, row_faults}
+use Rattle.tal_rules.specs.Statements.{return_faults, right_by, right_named, is_below_one, step_faults}
 use Rattle.tal_rules.specs.Texts.{body_faults}
+use Rattle.tal_declarations.specs.Files.{named_in}
+use Rattle.tal_declarations.specs.Globals.{atom_of, constant_value, first_of_constant}
 use Rattle.tal_meaning.specs.Calls.{procedure_by, meaning_by, call_what, item_by, file_by, value_at, meaning_at}
 use Rattle.tal_meaning.specs.Calls.{variable_by, items_named, files_named, values_of, values_of_arguments, system_what}
 use Rattle.tal_meaning.specs.Expressions.{value_of_expr, cond_of_expr, target_of_spot}
 use Rattle.tal_meaning.specs.Programs.{body_statements}
-use Rattle.tal_meaning.specs.Statements.{answer_of, assign_by, statements_of, else_statements, row_statements}
+use Rattle.tal_meaning.specs.Statements.{answer_of, assign_by, is_down, step_of, statements_of, else_statements}
+use Rattle.tal_meaning.specs.Statements.{row_statements}
 use Rattle.tal_tree.specs.Named.{IsSpotThere, AllThere}
 use Rattle.tal_tree.specs.Regular.{IsCalled, IsRegularStatement}
 use Rattle.tal_faultless.proofs.Common.Faultless.{no_fault, split, first_nil, refuted}
 use Rattle.tal_faultless.proofs.Common.ArgumentCounts.{arguments_count, values_length}
 use Rattle.tal_laws.proofs.Everywhere.{Everywhere, everywhere_append, among_append, everywhere_one}
+use Rattle.tal_laws.proofs.Items.{bounds_ordered}
 use Rattle.tal_laws.proofs.Known.{HasRoom}
 use Rattle.tal_laws.proofs.Meant.{AreThere}
 use Rattle.tal_laws.proofs.Mentioned.{mentioned}
@@ -242,6 +249,17 @@ module _ (program : Program) (locals : ℕ) (s : Scope) (meant : AreThere progra
   answered head g.no_answer fine = sym (refuted s.gives head WrongKind fine)
   answered head (g.answer e) fine = sym (not-false s.gives (refuted (not s.gives) head WrongKind (split fine).0))
 
+  -- a FOR without faults counts by 1 or more
+  at_least_one : (value : Option ℤ) → is_below_one value ≡ false → pos 1 ≤ℤ unwrap_or value (pos 1)
+  at_least_one None fine = omega (arith, ints)
+  at_least_one (Some value) fine = bounds_ordered (pos 1) value fine
+
+  stepping : (step : g.Step) → step_faults s step ≡ [] → pos 1 ≤ℤ step_of s step
+  stepping g.step_one fine = omega (arith, ints)
+  stepping (g.step_by at c) fine =
+      let value = constant_value c (named_in s (atom_of c)) in
+      at_least_one value (refuted (is_below_one value) (first_of_constant c) WrongKind (split fine).1)
+
   mutual
     statement_right : (w : Walk) (x : g.Statement) → statement_faults s w x ≡ [] → AreRight (statements_of s w x)
     statement_right w g.nothing fine = λ x none. absurd none
@@ -266,22 +284,30 @@ module _ (program : Program) (locals : ℕ) (s : Scope) (meant : AreThere progra
         (What-F.While (cond_of_expr s test) xs) (rolls-While (cond_of_expr s test) xs)
         (test_expr program locals s meant test)
         (statement_right (stepped w) t parts.1)
-    statement_right w (g.for_do head at name set_at from to_at to do_at t) fine =
+    statement_right w (g.for_do head at name set_at from direction to step do_at t) fine =
         let parts = split fine in
         let heads = split parts.0 in
         let xs = statements_of s (stepped (stepped w)) t in
         let last = (after s (stepped (stepped w)) t).number in
         let variable = variable_by (meaning_of s name) in
-        let front = split heads.0 in
+        let back = split heads.0 in
+        let front = split back.0 in
         let named_fine = split front.0 in
         everywhere_one IsRight w.number head.place.line
-        (what.For variable (value_of_expr s from) (value_of_expr s to) xs last)
-        (What-F.For variable (value_of_expr s from) (value_of_expr s to) xs last)
-        (rolls-For variable (value_of_expr s from) (value_of_expr s to) xs last) (
+        (what.For variable (value_of_expr s from) (value_of_expr s to) (is_down direction) (step_of s step) xs last)
+        (What-F.For variable (value_of_expr s from) (value_of_expr s to) (is_down direction) (step_of s step) xs last)
+        (rolls-For variable (value_of_expr s from) (value_of_expr s to) (is_down direction) (step_of s step) xs last) (
           variable_named program locals s meant at name (meaning_of s name) refl named_fine.0,
           (named_expr program locals s meant from, named_expr program locals s meant to),
+          stepping step back.1,
         )
         (statement_right (stepped (stepped w)) t heads.1)
+    statement_right w (g.do_until head t at test) fine =
+        let parts = split fine in
+        let xs = statements_of s (inside_do w) t in
+        everywhere_one IsRight (after s (inside_do w) t).number at.place.line (what.DoUntil xs (cond_of_expr s test))
+        (What-F.DoUntil xs (cond_of_expr s test)) (rolls-DoUntil xs (cond_of_expr s test))
+        (test_expr program locals s meant test) (statement_right (inside_do w) t parts.0)
     statement_right w (g.call head at name a) fine =
         let parts = split fine in
         called_right w.number head.place.line w at name (arguments_of a) (system_of name) parts.1

@@ -13,12 +13,12 @@ use Rattle.tal_rules.specs.declared.walk.Walk.{Walk}
 use Rattle.tal_rules.specs.tal_declarations.specs.Globals.{with_lines, nothing_declared}
 use Rattle.tal_names.specs.Names.{Declarations}
 use Rattle.tal_names.specs.Scopes.{meaning_of}
-use Rattle.tal_rules.specs.Statements.{stepped, after}
+use Rattle.tal_rules.specs.Statements.{stepped, inside_do, after}
 use Rattle.tal_rules.specs.Texts.{headed_text, files_by}
 use Rattle.tal_meaning.specs.Calls.{variable_by}
 use Rattle.tal_meaning.specs.Expressions.{value_of_expr, cond_of_expr}
 use Rattle.tal_meaning.specs.Programs.{texts_of, program_by, tree_of}
-use Rattle.tal_meaning.specs.Statements.{one, statements_of, else_statements, row_statements}
+use Rattle.tal_meaning.specs.Statements.{one, is_down, step_of, statements_of, else_statements, row_statements}
 
 module _ (s : Scope) (w inner : Walk) where
   pub block-statements : (begin end : At) (t : g.Statement) (more : g.Row) (all mid new : List Statement)
@@ -42,18 +42,29 @@ module _ (s : Scope) (w inner : Walk) where
       (what.If (cond_of_expr s test) (statements_of s (stepped w) t) l))
       (h ∙ ap (λ (x : Walk). else_statements s x o) e)
 
-  pub for-statements : (head at set_at to_at do_at : At) (name : List ℕ) (from to : g.Expr) (t : g.Statement)
+  pub for-statements : (head at set_at do_at : At) (name : List ℕ) (from : g.Expr) (direction : g.Direction)
+      (to : g.Expr) (step : g.Step) (t : g.Statement)
       (all body new : List Statement) → inner ≡ after s (stepped (stepped w)) t
       → body ≡ statements_of s (stepped (stepped w)) t
       → new ≡ all ++ one w head (what.For (variable_by (meaning_of s name)) (value_of_expr s from) (value_of_expr s to)
-      body inner.number)
-      → new ≡ all ++ statements_of s w (g.for_do head at name set_at from to_at to do_at t)
-  for-statements head at set_at to_at do_at name from to t all body new e f h =
+      (is_down direction) (step_of s step) body inner.number)
+      → new ≡ all ++ statements_of s w (g.for_do head at name set_at from direction to step do_at t)
+  for-statements head at set_at do_at name from direction to step t all body new e f h =
       h
       ∙ ap (λ (l : List Statement). all ++ one w head
-      (what.For (variable_by (meaning_of s name)) (value_of_expr s from) (value_of_expr s to) l inner.number)) f
+      (what.For (variable_by (meaning_of s name)) (value_of_expr s from) (value_of_expr s to) (is_down direction)
+      (step_of s step) l inner.number)) f
       ∙ ap (λ (x : Walk). all ++ one w head (what.For (variable_by (meaning_of s name)) (value_of_expr s from)
-      (value_of_expr s to) (statements_of s (stepped (stepped w)) t) x.number)) e
+      (value_of_expr s to) (is_down direction) (step_of s step) (statements_of s (stepped (stepped w)) t) x.number)) e
+
+  pub do-statements : (head at : At) (t : g.Statement) (test : g.Expr) (all body new : List Statement)
+      → inner ≡ after s (inside_do w) t → body ≡ statements_of s (inside_do w) t
+      → new ≡ all ++ one inner at (what.DoUntil body (cond_of_expr s test))
+      → new ≡ all ++ statements_of s w (g.do_until head t at test)
+  do-statements head at t test all body new e f h =
+      h
+      ∙ ap (λ (l : List Statement). all ++ one inner at (what.DoUntil l (cond_of_expr s test))) f
+      ∙ ap (λ (x : Walk). all ++ one x at (what.DoUntil (statements_of s (inside_do w) t) (cond_of_expr s test))) e
 
 pub texts_append : (first second : List Named) → texts_of (first ++ second) ≡ texts_of first ++ texts_of second
 texts_append [] second = refl

@@ -1,5 +1,5 @@
 -- The numbered statements that the statements of a text without faults stand for.
-use Rattle.std.specs.Prelude.{List, [], ◌∷◌, ◌++◌, Option, Some, None}
+use Rattle.std.specs.Prelude.{ℤ, pos, Bool, true, false, List, [], ◌∷◌, ◌++◌, Option, Some, None, unwrap_or}
 use Rattle.tal_tokens.specs.declared.token.At.{At}
 use Rattle.tal_syntax.specs.Grammar as g
 use Rattle.tal_tree.specs.declared.expression.Expr.{Expr}
@@ -13,11 +13,13 @@ use Rattle.tal_rules.specs.declared.walk.Walk.{Walk}
 use Rattle.tal_names.specs.Systems.{system_of}
 use Rattle.tal_names.specs.Places.{first_of_spot, name_of_expr, arguments_of}
 use Rattle.tal_names.specs.Scopes.{meaning_of}
-use Rattle.tal_rules.specs.Statements.{stepped, after}
+use Rattle.tal_rules.specs.tal_declarations.specs.Files.{named_in}
+use Rattle.tal_rules.specs.tal_declarations.specs.Globals.{atom_of, constant_value}
+use Rattle.tal_rules.specs.Statements.{stepped, inside_do, after}
 use Rattle.tal_meaning.specs.Calls.{values_of, procedure_by, variable_by, call_what, meaning_by}
 use Rattle.tal_meaning.specs.Expressions.{value_of_expr, cond_of_expr, target_of_spot}
 
--- one statement, on the line of its first token
+-- one statement, on the line of the token that tells its place
 abbrev pub one : Walk → At → What → List Statement
 one w at what = record { number = w.number; line = at.place.line; what = what } ∷ []
 
@@ -31,6 +33,17 @@ abbrev pub assign_by : Scope → g.Spot → g.Expr → Option Meaning → What
 assign_by s target e (Some (m.Procedure number gives parameters)) = what.AssignCall (target_of_spot s target) number []
 assign_by s target e _ = what.Assign (target_of_spot s target) (value_of_expr s e)
 
+-- whether a FOR counts down
+abbrev pub is_down : g.Direction → Bool
+is_down (g.up at) = false
+is_down (g.down at) = true
+
+-- what a FOR adds or takes away; a constant that isn't a word plays no part
+abbrev pub step_of : Scope → g.Step → ℤ
+step_of s g.step_one = pos 1
+step_of s (g.step_by at c) = unwrap_or (constant_value c (named_in s (atom_of c))) (pos 1)
+
+-- a DO stands on the line of its UNTIL, with the number after those of its body
 module _ (s : Scope) where
   abbrev mutual
     pub statements_of : Walk → g.Statement → List Statement
@@ -41,9 +54,12 @@ module _ (s : Scope) where
         (else_statements (after s (stepped w) t) o))
     statements_of w (g.while_do head test do_at t) =
         one w head (what.While (cond_of_expr s test) (statements_of (stepped w) t))
-    statements_of w (g.for_do head at name set_at from to_at to do_at t) =
+    statements_of w (g.for_do head at name set_at from direction to step do_at t) =
         one w head (what.For (variable_by (meaning_of s name)) (value_of_expr s from) (value_of_expr s to)
-        (statements_of (stepped (stepped w)) t) (after s (stepped (stepped w)) t).number)
+        (is_down direction) (step_of s step) (statements_of (stepped (stepped w)) t)
+        (after s (stepped (stepped w)) t).number)
+    statements_of w (g.do_until head t at test) =
+        one (after s (inside_do w) t) at (what.DoUntil (statements_of (inside_do w) t) (cond_of_expr s test))
     statements_of w (g.call head at name a) = one w head (call_what s name (arguments_of a) (system_of name))
     statements_of w (g.return head a) = one w head (what.Return (answer_of s a))
     statements_of w (g.assign target at e) =

@@ -2,15 +2,15 @@ ghost use Rattle.std.specs.Prelude.{◌≡◌, [], ◌++◌, ◌∷◌, None, On
 ghost use Rattle.tal_names.specs.Systems.{system_of};
 ghost use Rattle.tal_names.specs.Places.{arguments_of, first_of_spot, name_of_expr};
 ghost use Rattle.tal_names.specs.Scopes.{meaning_of};
-ghost use Rattle.tal_rules.specs.Statements.{stepped, after_call, after, after_else, after_row};
+ghost use Rattle.tal_rules.specs.Statements.{stepped, inside_do, after_call, after, after_else, after_row};
 ghost use Rattle.tal_syntax.specs.Grammar as g;
 ghost use Rattle.tal_syntax.specs.Seen.{seen_spot, seen_expr, seen_answer, seen_arguments, seen_values, seen_statement};
-ghost use Rattle.tal_syntax.specs.Seen.{seen_otherwise, seen_row};
+ghost use Rattle.tal_syntax.specs.Seen.{seen_direction, seen_step, seen_otherwise, seen_row};
 ghost use Rattle.tal_tree.specs.declared.statement.What.TheVariants as what;
 ghost use Rattle.tal_meaning.specs.Calls.{values_of, procedure_by, variable_by, call_what, meaning_by};
 ghost use Rattle.tal_meaning.specs.Expressions.{read_by, value_of_expr, cond_of_expr, target_of_spot};
-ghost use Rattle.tal_meaning.specs.Statements.{one, answer_of, assign_by, statements_of, else_statements};
-ghost use Rattle.tal_meaning.specs.Statements.{row_statements};
+ghost use Rattle.tal_meaning.specs.Statements.{one, answer_of, assign_by, is_down, step_of, statements_of};
+ghost use Rattle.tal_meaning.specs.Statements.{else_statements, row_statements};
 
 use crate::call::{call_what, procedure_by, push_values, variable_by};
 use crate::expression::{cond_of_expr, read_by, target_of_spot, value_of_expr};
@@ -21,16 +21,18 @@ use tal_names::lookup::meaning_of;
 use tal_names::meaning::Meaning;
 use tal_names::scope::Scope;
 use tal_names::system::system_of;
-use tal_rules::statement::{after_call, stepped};
+use tal_rules::statement::{after_call, inside_do, stepped};
+use tal_rules::tal_declarations::files::named_in;
+use tal_rules::tal_declarations::globals::{atom_of, constant_value};
 use tal_rules::walk::Walk;
 use tal_syntax::{
-    Answer, Assign, AssignCall, Call, Expr, ForHead, Next, NextValue, Otherwise, Return, Spot,
-    Statement, Test,
+    Answer, Assign, AssignCall, Call, Direction, Expr, ForHead, Next, NextValue, Otherwise, Return,
+    Spot, Statement, Step, Test, Until,
 };
 use tal_tokens::At;
 use tal_tree::What;
 
-/// Puts one statement, on the line of its first token, after those before.
+/// Puts one statement, on the line of a token, after those before.
 fn push_one(
     all: &mut List<tal_tree::Statement>,
     walk: Walk,
@@ -248,6 +250,28 @@ fn push_while(
     push_one(all, walk, head, What::While { test, body })
 }
 
+/// Whether a FOR counts down.
+fn is_down(direction: Direction) -> bool
+    ensures { result ≡ is_down (seen_direction direction) }
+{
+    match direction {
+        Direction::Up(_) => false,
+        Direction::Down(_) => true,
+    }
+}
+
+/// What a FOR adds or takes away.
+fn step_of(scope: &Scope, step: &Step) -> i16
+    ensures { result ≡ step_of scope.now (seen_step step.now) }
+{
+    match step {
+        Step::One => 1,
+        Step::By(_, constant) => {
+            constant_value(constant, named_in(scope, atom_of(constant))).unwrap_or(1)
+        }
+    }
+}
+
 fn push_for(
     alloc: Global,
     scope: &Scope,
@@ -259,8 +283,8 @@ fn push_for(
 ) -> Result<(), NoMemory>
     ensures { OnOk result (all.new ≡ all.old
         ++ one walk head.now.head (what.For (variable_by (meaning_of scope.now head.now.name))
-        (value_of_expr scope.now (seen_expr head.now.from)) (value_of_expr scope.now (seen_expr head.now.to)) body
-        last)) }
+        (value_of_expr scope.now (seen_expr head.now.from)) (value_of_expr scope.now (seen_expr head.now.to))
+        (is_down (seen_direction head.now.direction)) (step_of scope.now (seen_step head.now.step)) body last)) }
 {
     let from = value_of_expr(&head.from, alloc, scope)?;
     let to = value_of_expr(&head.to, alloc, scope)?;
@@ -268,10 +292,28 @@ fn push_for(
         variable: variable_by(meaning_of(scope, head.name)),
         from,
         to,
+        down: is_down(head.direction),
+        step: step_of(scope, &head.step),
         body,
         last,
     };
     push_one(all, walk, head.head, what)
+}
+
+/// Puts a DO whose body ends before `walk`.
+fn push_do(
+    alloc: Global,
+    scope: &Scope,
+    walk: Walk,
+    until: &Until,
+    body: List<tal_tree::Statement>,
+    all: &mut List<tal_tree::Statement>,
+) -> Result<(), NoMemory>
+    ensures { OnOk result (all.new ≡ all.old
+        ++ one walk until.now.at (what.DoUntil body (cond_of_expr scope.now (seen_expr until.now.test)))) }
+{
+    let test = cond_of_expr(&until.test, alloc, scope)?;
+    push_one(all, walk, until.at, What::DoUntil { body, test })
 }
 
 /// Puts what a statement stands for after what those before do, and answers what stands before the next one.
@@ -313,6 +355,12 @@ pub fn push_statement(
             let inside = stepped(stepped(walk));
             let last = push_statement(body.get(), alloc, scope, inside, &mut inner)?;
             push_for(alloc, scope, walk, head.get(), inner, last.number, all)?;
+            Ok(stepped(last))
+        }
+        Statement::DoUntil(body, until) => {
+            let mut inner = List::new(alloc);
+            let last = push_statement(body.get(), alloc, scope, inside_do(walk), &mut inner)?;
+            push_do(alloc, scope, last, until.get(), inner, all)?;
             Ok(stepped(last))
         }
         Statement::Call(call) => push_call(alloc, scope, walk, call.get(), all),

@@ -19,8 +19,9 @@ put (g.if_then head test then_at s g.no_else) at t = chosen (g.is_open s) head t
 put (g.if_then head test then_at s (g.otherwise else_at u)) at t =
     g.if_then head test then_at s (g.otherwise else_at (put u at t))
 put (g.while_do head test do_at s) at t = g.while_do head test do_at (put s at t)
-put (g.for_do head name_at name set_at from to_at to do_at s) at t =
-    g.for_do head name_at name set_at from to_at to do_at (put s at t)
+put (g.for_do head name_at name set_at from direction to step do_at s) at t =
+    g.for_do head name_at name set_at from direction to step do_at (put s at t)
+put (g.do_until head s until_at test) at t = g.do_until head s until_at test
 put (g.call head name_at name a) at t = g.call head name_at name a
 put (g.return head a) at t = g.return head a
 put (g.assign target set_at e) at t = g.assign target set_at e
@@ -48,9 +49,11 @@ put-tokens (g.if_then head test then_at s (g.otherwise else_at u)) at t ks h =
     (put-tokens u at t ks h)
 put-tokens (g.while_do head test do_at s) at t ks h =
     ap (λ ls. tok.While head ∷ g.of_expr test (tok.Do do_at ∷ ls)) (put-tokens s at t ks h)
-put-tokens (g.for_do head name_at name set_at from to_at to do_at s) at t ks h =
+put-tokens (g.for_do head name_at name set_at from direction to step do_at s) at t ks h =
     ap (λ ls. tok.For head ∷ tok.Name name_at name ∷ tok.Assign set_at
-    ∷ g.of_expr from (tok.To to_at ∷ g.of_expr to (tok.Do do_at ∷ ls))) (put-tokens s at t ks h)
+    ∷ g.of_expr from (g.of_direction direction ∷ g.of_expr to (g.of_step step (tok.Do do_at ∷ ls))))
+    (put-tokens s at t ks h)
+put-tokens (g.do_until head s until_at test) at t ks h = absurd (true≢false (sym h))
 put-tokens (g.call head name_at name a) at t ks h = absurd (true≢false (sym h))
 put-tokens (g.return head a) at t ks h = absurd (true≢false (sym h))
 put-tokens (g.assign target set_at e) at t ks h = absurd (true≢false (sym h))
@@ -71,7 +74,8 @@ put-nearest (g.if_then head test then_at s g.no_else) at t n m =
 put-nearest (g.if_then head test then_at s (g.otherwise else_at u)) at t n m =
     (n.0, (n.1.0, put-nearest u at t n.1.1 m))
 put-nearest (g.while_do head test do_at s) at t n m = put-nearest s at t n m
-put-nearest (g.for_do head name_at name set_at from to_at to do_at s) at t n m = put-nearest s at t n m
+put-nearest (g.for_do head name_at name set_at from direction to step do_at s) at t n m = put-nearest s at t n m
+put-nearest (g.do_until head s until_at test) at t n m = n
 put-nearest (g.call head name_at name a) at t n m = tt
 put-nearest (g.return head a) at t n m = tt
 put-nearest (g.assign target set_at e) at t n m = tt

@@ -12,7 +12,7 @@ use Rattle.tal_recogniser.specs.DeclarationTable.{main_step, locals_step}
 use Rattle.tal_recogniser.specs.Machine.{marks, over, trace}
 use Rattle.tal_recogniser.proofs.Steps.{Leaves, gives_way}
 
-complete-constant : (c : g.Constant) (ss : Stack) (ks : List Token)
+pub complete-constant : (c : g.Constant) (ss : Stack) (ks : List Token)
     → trace (sym.Constant ∷ ss) (g.of_constant c ks) ≡ over (nest_constant (marks ss) c) (trace ss ks)
 complete-constant (g.positive (g.digits at n)) ss ks = refl
 complete-constant (g.positive (g.known at name)) ss ks = refl

@@ -5,19 +5,41 @@ use Rattle.tal_tokens.specs.declared.token.At.{At}
 use Rattle.tal_tokens.specs.declared.token.Token.{Token}
 use Rattle.tal_tokens.specs.declared.token.Token.TheVariants as tok
 use Rattle.tal_syntax.specs.Grammar as g
-use Rattle.tal_syntax.specs.Nesting.{nest_expr, nest_index, nest_arguments, nest_values, nest_answer, nest_statement}
-use Rattle.tal_syntax.specs.Nesting.{nest_otherwise, nest_row}
+use Rattle.tal_syntax.specs.Nesting.{nest_expr, nest_index, nest_arguments, nest_values, nest_answer, nest_step}
+use Rattle.tal_syntax.specs.Nesting.{nest_statement, nest_otherwise, nest_row}
 use Rattle.tal_recogniser.specs.declared.symbol.Symbol.TheVariants as sym
 use Rattle.tal_recogniser.specs.ExpressionTable.{Stack}
-use Rattle.tal_recogniser.specs.StatementTable.{statement_step, else_step}
+use Rattle.tal_recogniser.specs.StatementTable.{statement_step, else_step, step_step}
 use Rattle.tal_recogniser.specs.Machine.{marks, over, trace}
 use Rattle.tal_recogniser.proofs.Steps.{Leaves, LeavesOpen, QuitsExpr, QuitsStatement, QuitsRow, gives_way, unmarked}
+use Rattle.tal_recogniser.proofs.CompleteDeclarations.{complete-constant}
 use Rattle.tal_recogniser.proofs.CompleteExpressions.{complete-expr, complete-index}
 use Rattle.tal_recogniser.proofs.CompleteArguments.{complete-right, complete-answer, complete-arguments}
 use Rattle.tal_recogniser.proofs.CompleteArguments.{complete-values, quits-values}
 
 pub quits-end : (at : At) (ks : List Token) → QuitsRow (tok.End at ∷ ks)
 quits-end at ks = (((((((((refl, refl), refl), refl), refl), refl), refl), refl), (refl, refl)), (refl, refl))
+
+quits-until : (at : At) (ks : List Token) → QuitsStatement (tok.Until at ∷ ks)
+quits-until at ks = ((((((((refl, refl), refl), refl), refl), refl), refl), refl), (refl, refl))
+
+quits-step : (s : g.Step) (at : At) (ks : List Token) → QuitsExpr (g.of_step s (tok.Do at ∷ ks))
+quits-step g.step_one at ks = (((((refl, refl), refl), refl), refl), refl)
+quits-step (g.step_by by c) at ks = (((((refl, refl), refl), refl), refl), refl)
+
+complete-step : (s : g.Step) (ss : Stack) (ks : List Token) → Leaves step_step ks
+    → trace (sym.StepTail ∷ ss) (g.of_step s ks) ≡ over (nest_step (marks ss) s) (trace ss ks)
+complete-step g.step_one ss ks q = gives_way sym.StepTail ss ks q refl
+complete-step (g.step_by at c) ss ks q = ap (over (λ ls. marks ss ∷ ls)) (complete-constant c ss ks)
+
+complete-direction : (d : g.Direction) (ss : Stack) (ks : List Token)
+    → trace (sym.Direction ∷ ss) (g.of_direction d ∷ ks) ≡ over (λ ls. marks ss ∷ ls) (trace ss ks)
+complete-direction (g.up at) ss ks = refl
+complete-direction (g.down at) ss ks = refl
+
+quits-direction : (d : g.Direction) (ks : List Token) → QuitsExpr (g.of_direction d ∷ ks)
+quits-direction (g.up at) ks = (((((refl, refl), refl), refl), refl), refl)
+quits-direction (g.down at) ks = (((((refl, refl), refl), refl), refl), refl)
 
 quits-otherwise : (o : g.Otherwise) (ks : List Token) → QuitsStatement ks → QuitsStatement (g.of_otherwise o ks)
 quits-otherwise g.no_else ks q = q
@@ -78,18 +100,29 @@ mutual
       (((((refl, refl), refl), refl), refl), refl)
       ∙ ap (over (λ ls. nest_expr m test (m ∷ ls))) (complete-statement s (sym.LevelEnd ∷ ss) ks n q o))
       ∙ ap (over (λ ls. m ∷ nest_expr m test (m ∷ nest_statement m s ls))) (unmarked statement_step ss ks q.0.1)
-  complete-statement (g.for_do head at name set_at from to_at to do_at s) ss ks n q o =
+  complete-statement (g.for_do head at name set_at from direction to step do_at s) ss ks n q o =
       let m : ℕ = suc (marks ss) in
+      let body : List Token = tok.Do do_at ∷ g.of_statement s ks in
+      let last : Stack = sym.WantDo ∷ sym.Statement ∷ sym.LevelEnd ∷ ss in
+      let limit : Stack = sym.Neg ∷ sym.AndTail ∷ sym.OrTail ∷ sym.StepTail ∷ last in
       ap (over (λ ls. m ∷ m ∷ m ∷ ls))
-      (complete-expr from (sym.WantTo ∷ sym.Neg ∷ sym.AndTail ∷ sym.OrTail ∷ sym.WantDo ∷ sym.Statement ∷ sym.LevelEnd
-      ∷ ss) (tok.To to_at ∷ g.of_expr to (tok.Do do_at ∷ g.of_statement s ks))
-      (((((refl, refl), refl), refl), refl), refl)
-      ∙ ap (over (λ ls. nest_expr m from (m ∷ ls)))
-      (complete-expr to (sym.WantDo ∷ sym.Statement ∷ sym.LevelEnd ∷ ss) (tok.Do do_at ∷ g.of_statement s ks)
-      (((((refl, refl), refl), refl), refl), refl)
-      ∙ ap (over (λ ls. nest_expr m to (m ∷ ls))) (complete-statement s (sym.LevelEnd ∷ ss) ks n q o)))
-      ∙ ap (over (λ ls. m ∷ m ∷ m ∷ nest_expr m from (m ∷ nest_expr m to (m ∷ nest_statement m s ls))))
-      (unmarked statement_step ss ks q.0.1)
+      (complete-expr from (sym.Direction ∷ limit) (g.of_direction direction ∷ g.of_expr to (g.of_step step body))
+      (quits-direction direction (g.of_expr to (g.of_step step body)))
+      ∙ ap (over (nest_expr m from)) (complete-direction direction limit (g.of_expr to (g.of_step step body))
+      ∙ ap (over (λ ls. m ∷ ls))
+      (complete-expr to (sym.StepTail ∷ last) (g.of_step step body) (quits-step step do_at (g.of_statement s ks))
+      ∙ ap (over (nest_expr m to)) (complete-step step last body refl
+      ∙ ap (over (λ ls. nest_step m step (m ∷ ls))) (complete-statement s (sym.LevelEnd ∷ ss) ks n q o)))))
+      ∙ ap (over (λ ls. m ∷ m ∷ m ∷ nest_expr m from
+      (m ∷ nest_expr m to (nest_step m step (m ∷ nest_statement m s ls))))) (unmarked statement_step ss ks q.0.1)
+  complete-statement (g.do_until head s at test) ss ks n q o =
+      let m : ℕ = suc (marks ss) in
+      ap (over (λ ls. m ∷ ls))
+      (complete-statement s (sym.WantUntil ∷ sym.Neg ∷ sym.AndTail ∷ sym.OrTail ∷ sym.LevelEnd ∷ ss)
+      (tok.Until at ∷ g.of_expr test ks) n (quits-until at (g.of_expr test ks))
+      (opened (g.is_open s) (tok.Until at ∷ g.of_expr test ks) refl)
+      ∙ ap (over (λ ls. nest_statement m s (m ∷ ls))) (complete-expr test (sym.LevelEnd ∷ ss) ks q.0.0.0))
+      ∙ ap (over (λ ls. m ∷ nest_statement m s (m ∷ nest_expr m test ls))) (unmarked statement_step ss ks q.0.1)
   complete-statement (g.call head at name a) ss ks n q o =
       let m : ℕ = suc (marks ss) in
       ap (over (λ ls. m ∷ m ∷ ls)) (complete-arguments a (sym.LevelEnd ∷ ss) ks q.1.0)

@@ -10,11 +10,11 @@ use Rattle.tal_recogniser.proofs.SoundExpressions.{sound-neg, sound-or, sound-an
 use Rattle.tal_recogniser.proofs.SoundExpressions.{sound-factor, sound-index}
 use Rattle.tal_recogniser.proofs.SoundStatements.{sound-statement, sound-row, sound-else, sound-right, sound-right-tail}
 use Rattle.tal_recogniser.proofs.SoundStatements.{sound-answer, sound-argument, sound-arguments, sound-further}
-use Rattle.tal_recogniser.proofs.SoundStatements.{sound-values}
+use Rattle.tal_recogniser.proofs.SoundStatements.{sound-values, sound-direction, sound-step-tail}
 use Rattle.tal_recogniser.proofs.SoundDeclarations.{sound-lines, sound-after-int, sound-procedures, sound-bounds}
 use Rattle.tal_recogniser.proofs.SoundDeclarations.{sound-items, sound-constant, sound-atom, sound-literals}
 use Rattle.tal_recogniser.proofs.SoundDeclarations.{sound-parameters, sound-names, sound-main, sound-locals}
-use Rattle.tal_recogniser.proofs.SoundWanted.{sound-name, sound-begin, sound-end, sound-then, sound-do, sound-to}
+use Rattle.tal_recogniser.proofs.SoundWanted.{sound-name, sound-begin, sound-end, sound-then, sound-do, sound-until}
 use Rattle.tal_recogniser.proofs.SoundWanted.{sound-proc, sound-assign, sound-equal, sound-close, sound-close-index}
 use Rattle.tal_recogniser.proofs.SoundWanted.{sound-semicolon, sound-colon, sound-finish}
 
@@ -31,6 +31,8 @@ sound-step sym.IndexTail k ss = sound-index k ss
 sound-step sym.Statement k ss = sound-statement k ss
 sound-step sym.RowTail k ss = sound-row k ss
 sound-step sym.ElseTail k ss = sound-else k ss
+sound-step sym.Direction k ss = sound-direction k ss
+sound-step sym.StepTail k ss = sound-step-tail k ss
 sound-step sym.Right k ss = sound-right k ss
 sound-step sym.RightTail k ss = sound-right-tail k ss
 sound-step sym.Answer k ss = sound-answer k ss
@@ -55,7 +57,7 @@ sound-step sym.WantBegin k ss = sound-begin k ss
 sound-step sym.WantEnd k ss = sound-end k ss
 sound-step sym.WantThen k ss = sound-then k ss
 sound-step sym.WantDo k ss = sound-do k ss
-sound-step sym.WantTo k ss = sound-to k ss
+sound-step sym.WantUntil k ss = sound-until k ss
 sound-step sym.WantProc k ss = sound-proc k ss
 sound-step sym.WantAssign k ss = sound-assign k ss
 sound-step sym.WantEqual k ss = sound-equal k ss

@@ -7,6 +7,7 @@ use Rattle.tal_recogniser.specs.declared.symbol.Symbol.TheVariants as sym
 use Rattle.tal_recogniser.specs.ExpressionTable.{Stack, expr_on}
 use Rattle.tal_recogniser.specs.StatementTable.{argument_step, further_step, arguments_step, values_step, answer_step}
 use Rattle.tal_recogniser.specs.StatementTable.{right_step, right_tail_step, statement_step, else_step, row_step}
+use Rattle.tal_recogniser.specs.StatementTable.{direction_step, step_step}
 use Rattle.tal_recogniser.proofs.Things.{Made, Steps, Things, of_things, shown, called, listed, going}
 use Rattle.tal_recogniser.proofs.Attached.{attached}
 use Rattle.tal_recogniser.proofs.SoundExpressions.{sound-neg}
@@ -234,11 +235,18 @@ sound-statement (tok.For at) ss = (
       (
         g.for_do at x.0.0 x.0.1 x.1.0 (g.expr (g.both x.1.1.0 x.1.1.1.0) x.1.1.1.1.0) x.1.1.1.1.1.0
             (g.expr (g.both x.1.1.1.1.1.1.0 x.1.1.1.1.1.1.1.0) x.1.1.1.1.1.1.1.1.0) x.1.1.1.1.1.1.1.1.1.0
-            x.1.1.1.1.1.1.1.1.1.1.0.0,
-        x.1.1.1.1.1.1.1.1.1.1.0.1,
+            x.1.1.1.1.1.1.1.1.1.1.0 x.1.1.1.1.1.1.1.1.1.1.1.0.0,
+        x.1.1.1.1.1.1.1.1.1.1.1.0.1,
       ),
-      x.1.1.1.1.1.1.1.1.1.1.1.1,
+      x.1.1.1.1.1.1.1.1.1.1.1.1.1,
     ),
+    refl,
+  ),
+)
+sound-statement (tok.Do at) ss = (
+  tt,
+  λ x. (
+    ((g.do_until at x.0.0 x.1.0 (g.expr (g.both x.1.1.0 x.1.1.1.0) x.1.1.1.1.0), x.0.1), x.1.1.1.1.1.1),
     refl,
   ),
 )
@@ -246,6 +254,15 @@ sound-statement (tok.Call at) ss = (tt, λ x. (((g.call at x.0.0 x.0.1 x.1.0, tt
 sound-statement (tok.Return at) ss = (tt, λ x. (((g.return at x.0, tt), x.1.1), refl))
 sound-statement (tok.Name at name) ss = (tt, assigned at name ss)
 sound-statement _ ss = tt
+
+pub sound-direction : (k : Token) (ss : Stack) → Steps sym.Direction k ss (direction_step k)
+sound-direction (tok.To at) ss = (tt, λ x. ((g.up at, x), refl))
+sound-direction (tok.DownTo at) ss = (tt, λ x. ((g.down at, x), refl))
+sound-direction _ ss = tt
+
+pub sound-step-tail : (k : Token) (ss : Stack) → Steps sym.StepTail k ss (step_step k)
+sound-step-tail (tok.By at) ss = (tt, λ x. ((g.step_by at x.0, x.1), refl))
+sound-step-tail _ ss = tt
 
 pub sound-else : (k : Token) (ss : Stack) → Steps sym.ElseTail k ss (else_step k)
 sound-else (tok.Else at) ss = (tt, λ x. (((g.otherwise at x.0.0, x.0.1), x.1), refl))

@@ -4,8 +4,9 @@ use Rattle.tal_tokens.specs.declared.token.Token.{Token}
 use Rattle.tal_tokens.specs.declared.token.Token.TheVariants as tok
 use Rattle.tal_recogniser.specs.declared.symbol.Symbol.TheVariants as sym
 use Rattle.tal_recogniser.specs.ExpressionTable.{Stack}
-use Rattle.tal_recogniser.specs.WantedTable.{name_step, begin_step, end_step, then_step, do_step, to_step, proc_step}
-use Rattle.tal_recogniser.specs.WantedTable.{assign_step, equal_step, close_step, close_index_step, semicolon_step}
+use Rattle.tal_recogniser.specs.WantedTable.{name_step, begin_step, end_step, then_step, do_step, until_step}
+use Rattle.tal_recogniser.specs.WantedTable.{proc_step, assign_step, equal_step, close_step, close_index_step}
+use Rattle.tal_recogniser.specs.WantedTable.{semicolon_step}
 use Rattle.tal_recogniser.specs.WantedTable.{colon_step, finish_step}
 use Rattle.tal_recogniser.proofs.Things.{Steps}
 
@@ -29,9 +30,9 @@ pub sound-do : (k : Token) (ss : Stack) → Steps sym.WantDo k ss (do_step k)
 sound-do (tok.Do at) ss = (tt, λ x. ((at, x), refl))
 sound-do _ ss = tt
 
-pub sound-to : (k : Token) (ss : Stack) → Steps sym.WantTo k ss (to_step k)
-sound-to (tok.To at) ss = (tt, λ x. ((at, x), refl))
-sound-to _ ss = tt
+pub sound-until : (k : Token) (ss : Stack) → Steps sym.WantUntil k ss (until_step k)
+sound-until (tok.Until at) ss = (tt, λ x. ((at, x), refl))
+sound-until _ ss = tt
 
 pub sound-proc : (k : Token) (ss : Stack) → Steps sym.WantProc k ss (proc_step k)
 sound-proc (tok.Proc at) ss = (tt, λ x. ((at, x), refl))

@@ -7,6 +7,7 @@ use Rattle.tal_recogniser.specs.ExpressionTable.{Stack, factor_step, index_step,
 use Rattle.tal_recogniser.specs.ExpressionTable.{neg_step, and_step, or_step}
 use Rattle.tal_recogniser.specs.StatementTable.{argument_step, further_step, arguments_step, values_step, answer_step}
 use Rattle.tal_recogniser.specs.StatementTable.{right_step, right_tail_step, statement_step, else_step, row_step}
+use Rattle.tal_recogniser.specs.StatementTable.{direction_step, step_step}
 use Rattle.tal_recogniser.specs.DeclarationTable.{lines_step, after_int_step, procedures_step, bounds_step, items_step}
 use Rattle.tal_recogniser.specs.DeclarationTable.{atom_step, constant_step, literals_step, parameters_step, names_step}
 use Rattle.tal_recogniser.specs.DeclarationTable.{main_step, locals_step}
@@ -26,6 +27,8 @@ step sym.IndexTail k = index_step k
 step sym.Statement k = statement_step k
 step sym.RowTail k = row_step k
 step sym.ElseTail k = else_step k
+step sym.Direction k = direction_step k
+step sym.StepTail k = step_step k
 step sym.Right k = right_step k
 step sym.RightTail k = right_tail_step k
 step sym.Answer k = answer_step k
@@ -59,6 +62,7 @@ vanishes sym.IndexTail = true
 vanishes sym.Statement = true
 vanishes sym.RowTail = true
 vanishes sym.ElseTail = true
+vanishes sym.StepTail = true
 vanishes sym.RightTail = true
 vanishes sym.Answer = true
 vanishes sym.ArgumentsTail = true

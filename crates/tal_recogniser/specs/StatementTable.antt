@@ -61,11 +61,21 @@ statement_step (tok.If at) = Some (expr_on (sym.WantThen ∷ sym.Statement ∷ s
 statement_step (tok.While at) = Some (expr_on (sym.WantDo ∷ sym.Statement ∷ sym.LevelEnd ∷ []))
 statement_step (tok.For at) =
     Some (sym.WantName ∷ sym.WantAssign ∷ expr_on
-    (sym.WantTo ∷ expr_on (sym.WantDo ∷ sym.Statement ∷ sym.LevelEnd ∷ [])))
+    (sym.Direction ∷ expr_on (sym.StepTail ∷ sym.WantDo ∷ sym.Statement ∷ sym.LevelEnd ∷ [])))
+statement_step (tok.Do at) = Some (sym.Statement ∷ sym.WantUntil ∷ expr_on (sym.LevelEnd ∷ []))
 statement_step (tok.Call at) = Some (sym.WantName ∷ sym.ArgumentsTail ∷ sym.LevelEnd ∷ [])
 statement_step (tok.Return at) = Some (sym.Answer ∷ sym.LevelEnd ∷ [])
 statement_step (tok.Name at name) = Some (sym.IndexTail ∷ sym.WantAssign ∷ sym.Right ∷ sym.LevelEnd ∷ [])
 statement_step _ = None
+
+abbrev pub direction_step : Token → Option Stack
+direction_step (tok.To at) = Some []
+direction_step (tok.DownTo at) = Some []
+direction_step _ = None
+
+abbrev pub step_step : Token → Option Stack
+step_step (tok.By at) = Some (sym.Constant ∷ [])
+step_step _ = None
 
 -- the ELSE of the nearest IF, which stands on top
 abbrev pub else_step : Token → Option Stack

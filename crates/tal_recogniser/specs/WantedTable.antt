@@ -26,9 +26,9 @@ abbrev pub do_step : Token → Option Stack
 do_step (tok.Do at) = Some []
 do_step _ = None
 
-abbrev pub to_step : Token → Option Stack
-to_step (tok.To at) = Some []
-to_step _ = None
+abbrev pub until_step : Token → Option Stack
+until_step (tok.Until at) = Some []
+until_step _ = None
 
 abbrev pub proc_step : Token → Option Stack
 proc_step (tok.Proc at) = Some []
@@ -68,7 +68,7 @@ wanted_step sym.WantBegin k = begin_step k
 wanted_step sym.WantEnd k = end_step k
 wanted_step sym.WantThen k = then_step k
 wanted_step sym.WantDo k = do_step k
-wanted_step sym.WantTo k = to_step k
+wanted_step sym.WantUntil k = until_step k
 wanted_step sym.WantProc k = proc_step k
 wanted_step sym.WantAssign k = assign_step k
 wanted_step sym.WantEqual k = equal_step k

@@ -1,7 +1,7 @@
 ghost use Rattle.std.specs.Prelude.{◌≡◌, MatchOption, Some, None};
 ghost use Rattle.tal_recogniser.specs.StatementTable.{argument_step, further_step, arguments_step, values_step};
 ghost use Rattle.tal_recogniser.specs.StatementTable.{answer_step, right_step, right_tail_step, statement_step};
-ghost use Rattle.tal_recogniser.specs.StatementTable.{else_step, row_step};
+ghost use Rattle.tal_recogniser.specs.StatementTable.{else_step, row_step, direction_step, step_step};
 
 use crate::symbol::Symbol;
 use tal_tokens::Token;
@@ -17,19 +17,30 @@ const IF_ROW: &[Symbol] = &[
     Symbol::LevelEnd,
 ];
 
-/// `name ":=" expr TO expr DO statement`
+/// `name ":=" expr ( TO | DOWNTO ) expr [ BY constant ] DO statement`
 const FOR_ROW: &[Symbol] = &[
     Symbol::WantName,
     Symbol::WantAssign,
     Symbol::Neg,
     Symbol::AndTail,
     Symbol::OrTail,
-    Symbol::WantTo,
+    Symbol::Direction,
     Symbol::Neg,
     Symbol::AndTail,
     Symbol::OrTail,
+    Symbol::StepTail,
     Symbol::WantDo,
     Symbol::Statement,
+    Symbol::LevelEnd,
+];
+
+/// `statement UNTIL expr`
+const DO_ROW: &[Symbol] = &[
+    Symbol::Statement,
+    Symbol::WantUntil,
+    Symbol::Neg,
+    Symbol::AndTail,
+    Symbol::OrTail,
     Symbol::LevelEnd,
 ];
 
@@ -221,6 +232,7 @@ pub fn statement_row(token: &Token) -> Option<&'static [Symbol]>
             Symbol::LevelEnd,
         ]),
         Token::For(_) => Some(FOR_ROW),
+        Token::Do(_) => Some(DO_ROW),
         Token::Call(_) => Some(&[Symbol::WantName, Symbol::ArgumentsTail, Symbol::LevelEnd]),
         Token::Return(_) => Some(&[Symbol::Answer, Symbol::LevelEnd]),
         Token::Name(_, _) => Some(&[
@@ -229,6 +241,26 @@ pub fn statement_row(token: &Token) -> Option<&'static [Symbol]>
             Symbol::Right,
             Symbol::LevelEnd,
         ]),
+        _ => None,
+    }
+}
+
+/// What is to come after the first token of `TO | DOWNTO`.
+pub fn direction_row(token: &Token) -> Option<&'static [Symbol]>
+    ensures { MatchOption result (direction_step token.now ≡ None) (λ r. direction_step token.now ≡ Some r.now) }
+{
+    match token {
+        Token::To(_) | Token::DownTo(_) => Some(&[]),
+        _ => None,
+    }
+}
+
+/// What is to come after the first token of `[ BY constant ]`.
+pub fn step_row(token: &Token) -> Option<&'static [Symbol]>
+    ensures { MatchOption result (step_step token.now ≡ None) (λ r. step_step token.now ≡ Some r.now) }
+{
+    match token {
+        Token::By(_) => Some(&[Symbol::Constant]),
         _ => None,
     }
 }

@@ -9,8 +9,8 @@ use crate::expression_table::{
     and_row, factor_row, index_row, neg_row, or_row, rel_row, term_row, times_row,
 };
 use crate::statement_table::{
-    answer_row, argument_row, arguments_row, else_row, further_row, right_row, right_tail_row,
-    row_row, statement_row, values_row,
+    answer_row, argument_row, arguments_row, direction_row, else_row, further_row, right_row,
+    right_tail_row, row_row, statement_row, step_row, values_row,
 };
 use crate::symbol::Symbol;
 use crate::wanted_table::wanted_row;
@@ -33,6 +33,8 @@ pub fn row(symbol: Symbol, token: &Token) -> Option<&'static [Symbol]>
         Symbol::Statement => statement_row(token),
         Symbol::RowTail => row_row(token),
         Symbol::ElseTail => else_row(token),
+        Symbol::Direction => direction_row(token),
+        Symbol::StepTail => step_row(token),
         Symbol::Right => right_row(token),
         Symbol::RightTail => right_tail_row(token),
         Symbol::Answer => answer_row(token),
@@ -72,6 +74,7 @@ pub fn vanishes(symbol: Symbol) -> bool
             | Symbol::Statement
             | Symbol::RowTail
             | Symbol::ElseTail
+            | Symbol::StepTail
             | Symbol::RightTail
             | Symbol::Answer
             | Symbol::ArgumentsTail

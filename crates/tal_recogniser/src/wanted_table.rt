@@ -1,5 +1,5 @@
 ghost use Rattle.std.specs.Prelude.{◌≡◌, MatchOption, Some, None};
-ghost use Rattle.tal_recogniser.specs.WantedTable.{name_step, begin_step, end_step, then_step, do_step, to_step};
+ghost use Rattle.tal_recogniser.specs.WantedTable.{name_step, begin_step, end_step, then_step, do_step, until_step};
 ghost use Rattle.tal_recogniser.specs.WantedTable.{proc_step, assign_step, equal_step, close_step, close_index_step};
 ghost use Rattle.tal_recogniser.specs.WantedTable.{semicolon_step, colon_step, finish_step, wanted_step};
 
@@ -51,11 +51,11 @@ fn do_row(token: &Token) -> Option<&'static [Symbol]>
     }
 }
 
-fn to_row(token: &Token) -> Option<&'static [Symbol]>
-    ensures { MatchOption result (to_step token.now ≡ None) (λ r. to_step token.now ≡ Some r.now) }
+fn until_row(token: &Token) -> Option<&'static [Symbol]>
+    ensures { MatchOption result (until_step token.now ≡ None) (λ r. until_step token.now ≡ Some r.now) }
 {
     match token {
-        Token::To(_) => Some(&[]),
+        Token::Until(_) => Some(&[]),
         _ => None,
     }
 }
@@ -143,7 +143,7 @@ pub fn wanted_row(symbol: Symbol, token: &Token) -> Option<&'static [Symbol]>
         Symbol::WantEnd => end_row(token),
         Symbol::WantThen => then_row(token),
         Symbol::WantDo => do_row(token),
-        Symbol::WantTo => to_row(token),
+        Symbol::WantUntil => until_row(token),
         Symbol::WantProc => proc_row(token),
         Symbol::WantAssign => assign_row(token),
         Symbol::WantEqual => equal_row(token),

@@ -6,7 +6,8 @@ use Rattle.tal_names.specs.declared.fault.RuleFault.{RuleFault}
 use Rattle.tal_names.specs.declared.scope.Scope.{Scope}
 use Rattle.tal_rules.specs.declared.walk.Walk.{Walk}
 use Rattle.tal_names.specs.Faults.{least}
-use Rattle.tal_rules.specs.Statements.{stepped, number_faults, test_faults, for_head_faults, after, after_else}
+use Rattle.tal_rules.specs.Statements.{stepped, inside_do, number_faults, test_faults, for_head_faults, after}
+use Rattle.tal_rules.specs.Statements.{after_else}
 use Rattle.tal_rules.specs.Statements.{after_row, statement_faults, else_faults, row_faults}
 use Rattle.tal_names.proofs.Parts.{least-append, two_parts, three_parts}
 
@@ -44,15 +45,23 @@ module _ (s : Scope) (w inner : Walk) where
       ap (λ (l : Option RuleFault). least l (statement_faults s (stepped w) t)) f
       ∙ two_parts so_far (test_faults s w head test) (statement_faults s (stepped w) t)
 
-  pub for-least : (head at set_at to_at do_at : At) (name : List ℕ) (from to : g.Expr) (t : g.Statement)
-      (so_far headed judged : Option RuleFault)
-      → inner ≡ after s (stepped (stepped w)) t → headed ≡ least so_far (for_head_faults s at name from to)
+  pub for-least : (head at set_at do_at : At) (name : List ℕ) (from : g.Expr) (direction : g.Direction) (to : g.Expr)
+      (step : g.Step) (t : g.Statement) (so_far headed judged : Option RuleFault)
+      → inner ≡ after s (stepped (stepped w)) t → headed ≡ least so_far (for_head_faults s at name from to step)
       → judged ≡ least headed (statement_faults s (stepped (stepped w)) t)
       → least judged (number_faults inner.number head)
-      ≡ least so_far (statement_faults s w (g.for_do head at name set_at from to_at to do_at t))
-  for-least head at set_at to_at do_at name from to t so_far headed judged e f h =
+      ≡ least so_far (statement_faults s w (g.for_do head at name set_at from direction to step do_at t))
+  for-least head at set_at do_at name from direction to step t so_far headed judged e f h =
       ap (λ (x : Walk). least judged (number_faults x.number head)) e
       ∙ ap (λ (l : Option RuleFault). least l (number_faults (after s (stepped (stepped w)) t).number head))
       (h ∙ ap (λ (l : Option RuleFault). least l (statement_faults s (stepped (stepped w)) t)) f)
-      ∙ three_parts so_far (for_head_faults s at name from to) (statement_faults s (stepped (stepped w)) t)
+      ∙ three_parts so_far (for_head_faults s at name from to step) (statement_faults s (stepped (stepped w)) t)
       (number_faults (after s (stepped (stepped w)) t).number head)
+
+  pub do-least : (head at : At) (t : g.Statement) (test : g.Expr) (so_far judged : Option RuleFault)
+      → inner ≡ after s (inside_do w) t → judged ≡ least so_far (statement_faults s (inside_do w) t)
+      → least judged (test_faults s inner head test) ≡ least so_far (statement_faults s w (g.do_until head t at test))
+  do-least head at t test so_far judged e f =
+      ap (λ (x : Walk). least judged (test_faults s x head test)) e
+      ∙ ap (λ (l : Option RuleFault). least l (test_faults s (after s (inside_do w) t) head test)) f
+      ∙ two_parts so_far (statement_faults s (inside_do w) t) (test_faults s (after s (inside_do w) t) head test)

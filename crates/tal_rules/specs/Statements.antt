@@ -1,6 +1,6 @@
 -- The numbers of statements, the prologue of the main procedure, and the faults of statements.
-use Rattle.std.specs.Prelude.{ℕ, ◌+◌, ◌||◌, not, nat_lt, true, List, [], ◌++◌, slice_get, Option, Some, None}
-use Rattle.std.specs.Prelude.{if◌then◌else◌}
+use Rattle.std.specs.Prelude.{ℕ, ◌+◌, ◌||◌, not, nat_lt, ℤ, pos, int_lt, Bool, true, false, List, [], ◌++◌, slice_get}
+use Rattle.std.specs.Prelude.{Option, Some, None, if◌then◌else◌}
 use Rattle.tal_tokens.specs.declared.token.At.{At}
 use Rattle.tal_syntax.specs.Grammar as g
 use Rattle.tal_names.specs.declared.fault.Rule.TheVariants.{WrongKind, Limit}
@@ -16,6 +16,8 @@ use Rattle.tal_rules.specs.declared.walk.Stage.TheVariants as stage
 use Rattle.tal_rules.specs.declared.walk.Walk.{Walk}
 use Rattle.tal_names.specs.declared.system.System.{System}
 use Rattle.tal_names.specs.declared.system.System.TheVariants as system
+use Rattle.tal_declarations.specs.Files.{named_in}
+use Rattle.tal_declarations.specs.Globals.{atom_of, constant_value, constant_faults, first_of_constant}
 use Rattle.tal_rules.specs.Calls.{called_faults, call_faults, values_faults, values_count, opens_receive}
 use Rattle.tal_rules.specs.Expressions.{expr_faults, value_faults, spot_faults}
 use Rattle.tal_names.specs.Faults.{fault_at, if_so}
@@ -49,6 +51,10 @@ next_file n = if nat_lt 8 n then n else n + 1
 -- what stands before the statement that follows one with a number
 abbrev pub stepped : Walk → Walk
 stepped w = record w { number = next_number w.number; stage = stage_after w.stage }
+
+-- what stands before the statement inside a DO, which has no number there
+abbrev pub inside_do : Walk → Walk
+inside_do w = record w { stage = stage_after w.stage }
 
 abbrev pub after_call : Walk → List g.Argument → Option System → Walk
 after_call w arguments (Some system.CheckMonitor) =
@@ -110,19 +116,32 @@ assign_call_faults s w target at name first more =
 abbrev pub test_faults : Scope → Walk → At → g.Expr → List RuleFault
 test_faults s w head test = number_faults w.number head ++ expr_faults s Condition test
 
-abbrev pub for_head_faults : Scope → At → List ℕ → g.Expr → g.Expr → List RuleFault
-for_head_faults s at name from to = name_faults s need.Variable at name ++ value_faults s from ++ value_faults s to
+-- what a FOR adds or takes away is at least 1
+abbrev pub is_below_one : Option ℤ → Bool
+is_below_one None = false
+is_below_one (Some value) = int_lt value (pos 1)
+
+abbrev pub step_faults : Scope → g.Step → List RuleFault
+step_faults s g.step_one = []
+step_faults s (g.step_by at c) =
+    constant_faults c (named_in s (atom_of c))
+    ++ if_so (is_below_one (constant_value c (named_in s (atom_of c)))) (fault_at (first_of_constant c) WrongKind)
+
+abbrev pub for_head_faults : Scope → At → List ℕ → g.Expr → g.Expr → g.Step → List RuleFault
+for_head_faults s at name from to step =
+    name_faults s need.Variable at name ++ value_faults s from ++ value_faults s to ++ step_faults s step
 
 module _ (s : Scope) where
-  -- what stands before the statement that follows. FOR has a number, its test has the next, and the assignment that
-  -- adds to its variable has one after its body
+  -- what stands before the statement that follows. FOR has a number, its test has the next, and its last assignment has
+  -- one after its body. DO has a number after its body
   abbrev mutual
     pub after : Walk → g.Statement → Walk
     after w g.nothing = w
     after w (g.block begin first more end) = after_row (after w first) more
     after w (g.if_then head test then_at t o) = after_else (after (stepped w) t) o
     after w (g.while_do head test do_at t) = after (stepped w) t
-    after w (g.for_do head at name set_at from to_at to do_at t) = stepped (after (stepped (stepped w)) t)
+    after w (g.for_do head at name set_at from direction to step do_at t) = stepped (after (stepped (stepped w)) t)
+    after w (g.do_until head t at test) = stepped (after (inside_do w) t)
     after w (g.call head at name a) = after_call w (arguments_of a) (system_of name)
     after w (g.return head a) = stepped w
     after w (g.assign target at e) = stepped w
@@ -136,7 +155,8 @@ module _ (s : Scope) where
     after_row w g.no_row = w
     after_row w (g.more_row semicolon t rest) = after_row (after w t) rest
 
-  -- the faults of a statement. Each number of a FOR is past the limit where its last one is
+  -- the faults of a statement. Each number of a FOR is past the limit where its last one is, and a DO's number stands
+  -- for it from its first token on
   abbrev mutual
     pub statement_faults : Walk → g.Statement → List RuleFault
     statement_faults w g.nothing = []
@@ -144,9 +164,11 @@ module _ (s : Scope) where
     statement_faults w (g.if_then head test then_at t o) =
         test_faults s w head test ++ statement_faults (stepped w) t ++ else_faults (after (stepped w) t) o
     statement_faults w (g.while_do head test do_at t) = test_faults s w head test ++ statement_faults (stepped w) t
-    statement_faults w (g.for_do head at name set_at from to_at to do_at t) =
-        for_head_faults s at name from to ++ statement_faults (stepped (stepped w)) t
+    statement_faults w (g.for_do head at name set_at from direction to step do_at t) =
+        for_head_faults s at name from to step ++ statement_faults (stepped (stepped w)) t
         ++ number_faults (after (stepped (stepped w)) t).number head
+    statement_faults w (g.do_until head t at test) =
+        statement_faults (inside_do w) t ++ test_faults s (after (inside_do w) t) head test
     statement_faults w (g.call head at name a) = call_statement_faults s w head at name (arguments_of a)
     statement_faults w (g.return head a) = return_statement_faults s w head a
     statement_faults w (g.assign target at e) = assign_faults s w target e

@@ -7,19 +7,22 @@ ghost use Rattle.tal_names.specs.Systems.{system_of};
 ghost use Rattle.tal_names.specs.declared.meaning.Need.TheVariants.{Readable};
 ghost use Rattle.tal_names.specs.Places.{arguments_of, first_of_spot};
 ghost use Rattle.tal_rules.specs.Statements.{next_number, stage_after, stage_after_monitor, stage_after_open};
-ghost use Rattle.tal_rules.specs.Statements.{next_file, stepped, after_call, number_faults, return_faults, right_by};
-ghost use Rattle.tal_rules.specs.Statements.{right_faults, call_statement_faults, return_statement_faults};
-ghost use Rattle.tal_rules.specs.Statements.{assign_faults, assign_call_faults, for_head_faults, test_faults, after};
-ghost use Rattle.tal_rules.specs.Statements.{after_else, after_row, statement_faults, else_faults, row_faults};
+ghost use Rattle.tal_rules.specs.Statements.{next_file, stepped, inside_do, after_call, number_faults, return_faults};
+ghost use Rattle.tal_rules.specs.Statements.{right_by, right_faults, call_statement_faults, return_statement_faults};
+ghost use Rattle.tal_rules.specs.Statements.{assign_faults, assign_call_faults, is_below_one, step_faults};
+ghost use Rattle.tal_rules.specs.Statements.{for_head_faults, test_faults, after, after_else, after_row};
+ghost use Rattle.tal_rules.specs.Statements.{statement_faults, else_faults, row_faults};
 ghost use Rattle.tal_syntax.specs.Grammar as g;
 ghost use Rattle.tal_syntax.specs.Seen.{seen_spot, seen_expr, seen_arguments, seen_values, seen_answer, seen_statement};
-ghost use Rattle.tal_syntax.specs.Seen.{seen_otherwise, seen_row};
+ghost use Rattle.tal_syntax.specs.Seen.{seen_step, seen_otherwise, seen_row};
 
 use crate::call::{judge_call, judge_called, judge_values, opens_receive};
 use crate::expression::{judge_expr, judge_spot, judge_value};
 use crate::walk::{Stage, Walk};
 use gd_words::NoMemory;
 use std::alloc::Global;
+use tal_declarations::files::named_in;
+use tal_declarations::globals::{at_of_constant, atom_of, constant_value, judge_constant};
 use tal_names::alone::{argument, name_of_expr};
 use tal_names::fault::{Rule, RuleFault};
 use tal_names::least::with_fault_if;
@@ -29,7 +32,7 @@ use tal_names::scope::Scope;
 use tal_names::system::{System, system_of};
 use tal_syntax::{
     Answer, Arguments, Assign, AssignCall, Call, Expr, ForHead, Next, NextValue, Otherwise, Return,
-    Statement, Test,
+    Statement, Step, Test, Until,
 };
 use tal_tokens::At;
 
@@ -98,6 +101,18 @@ pub fn stepped(walk: Walk) -> Walk
 {
     Walk {
         number: next_number(walk.number),
+        stage: stage_after(walk.stage),
+        files: walk.files,
+        receive: walk.receive,
+    }
+}
+
+/// What stands before the statement inside a DO.
+pub fn inside_do(walk: Walk) -> Walk
+    ensures { result ≡ inside_do walk }
+{
+    Walk {
+        number: walk.number,
         stage: stage_after(walk.stage),
         files: walk.files,
         receive: walk.receive,
@@ -284,14 +299,54 @@ fn judge_test(
     judge_expr(&test.test, scope, Wanted::Condition, so_far)
 }
 
+/// Judges the test of a DO whose body ends before `walk`.
+#[tactic(auto, using(crate::proofs::Parts::parts))]
+fn judge_until(
+    scope: &Scope,
+    walk: Walk,
+    until: &Until,
+    so_far: Option<RuleFault>,
+) -> Option<RuleFault>
+    ensures { result ≡ least so_far (test_faults scope.now walk until.now.head (seen_expr until.now.test)) }
+{
+    let so_far = judge_number(walk.number, until.head, so_far);
+    judge_expr(&until.test, scope, Wanted::Condition, so_far)
+}
+
+fn is_below_one(value: Option<i16>) -> bool
+    ensures { result ≡ is_below_one value }
+{
+    match value {
+        None => false,
+        Some(value) => value < 1,
+    }
+}
+
+/// Judges what a FOR adds or takes away.
+#[tactic(auto, using(crate::proofs::Parts::parts))]
+fn judge_step(scope: &Scope, step: &Step, so_far: Option<RuleFault>) -> Option<RuleFault>
+    ensures { result ≡ least so_far (step_faults scope.now (seen_step step.now)) }
+{
+    match step {
+        Step::One => so_far,
+        Step::By(_, constant) => {
+            let named = named_in(scope, atom_of(constant));
+            let so_far = judge_constant(constant, named, so_far);
+            let below = is_below_one(constant_value(constant, named));
+            with_fault_if(so_far, below, at_of_constant(constant), Rule::WrongKind)
+        }
+    }
+}
+
 #[tactic(auto, using(crate::proofs::Parts::parts))]
 fn judge_for_head(scope: &Scope, head: &ForHead, so_far: Option<RuleFault>) -> Option<RuleFault>
     ensures { result ≡ least so_far (for_head_faults scope.now head.now.at head.now.name (seen_expr head.now.from)
-        (seen_expr head.now.to)) }
+        (seen_expr head.now.to) (seen_step head.now.step)) }
 {
     let so_far = judge_name(scope, Need::Variable, head.at, head.name, so_far);
     let so_far = judge_value(&head.from, scope, so_far);
-    judge_value(&head.to, scope, so_far)
+    let so_far = judge_value(&head.to, scope, so_far);
+    judge_step(scope, &head.step, so_far)
 }
 
 /// Judges a statement.
@@ -333,6 +388,13 @@ pub fn judge_statement(
             Ok(Judged {
                 walk: stepped(judged.walk),
                 least: judge_number(judged.walk.number, head.head, judged.least),
+            })
+        }
+        Statement::DoUntil(body, until) => {
+            let judged = judge_statement(body.get(), alloc, scope, inside_do(walk), so_far)?;
+            Ok(Judged {
+                walk: stepped(judged.walk),
+                least: judge_until(scope, judged.walk, until.get(), judged.least),
             })
         }
         Statement::Call(call) => judge_call_statement(alloc, scope, walk, call.get(), so_far),

@@ -6,7 +6,7 @@ use Rattle.tal_syntax.specs.Grammar as g
 use Rattle.tal_syntax.specs.Seen.{seen_expr, seen_next_boths, seen_ors, link_ors, seen_both, seen_next_negs, seen_ands}
 use Rattle.tal_syntax.specs.Seen.{seen_neg, seen_sum, seen_next_terms, seen_terms, link_terms, seen_sign, seen_product}
 use Rattle.tal_syntax.specs.Seen.{seen_next_factors, seen_factors, seen_scale, seen_factor, seen_index, seen_statement}
-use Rattle.tal_syntax.specs.Seen.{seen_otherwise, seen_nexts, seen_row}
+use Rattle.tal_syntax.specs.Seen.{seen_direction, seen_step, seen_otherwise, seen_nexts, seen_row}
 use Rattle.tal_syntax.specs.declared.expression.Expr.{Expr, roll-Expr, out-Expr, roll-out-Expr}
 use Rattle.tal_syntax.specs.declared.expression.NextBoth.{NextBoth, NextBoth', roll-NextBoth, out-NextBoth}
 use Rattle.tal_syntax.specs.declared.expression.Both.{Both, roll-Both, out-Both, roll-out-Both}
@@ -21,8 +21,9 @@ use Rattle.tal_syntax.specs.declared.expression.Index.{Element}
 use Rattle.tal_syntax.specs.declared.expression.Sign.{Sign}
 use Rattle.tal_syntax.specs.declared.statement.Test.{Test}
 use Rattle.tal_syntax.specs.declared.statement.ForHead.{ForHead}
+use Rattle.tal_syntax.specs.declared.statement.Until.{Until}
 use Rattle.tal_syntax.specs.declared.statement.Next.{Next}
-use Rattle.tal_syntax.specs.declared.statement.Statement.{Statement, Block, If, While, For}
+use Rattle.tal_syntax.specs.declared.statement.Statement.{Statement, Block, If, While, For, DoUntil}
 use Rattle.tal_syntax.specs.declared.statement.Otherwise.{Otherwise, Else}
 use Rattle.tal_syntax.specs.declared.statement.Otherwise.TheBlock.{shape-the_row-Statement-0}
 use Rattle.tal_syntax.specs.declared.statement.Otherwise.TheBlock.{hidden-the_row-Statement-0, shape-the_row-Next-1}
@@ -153,14 +154,19 @@ unfolding shape-the_row-Statement-0 hidden-the_row-Statement-0 hidden
 seen-while t s = refl
 
 pub seen-for : (f : ForHead) (s : Statement)
-    → seen_statement (For f s) ≡ g.for_do f.head f.at f.name f.set_at (seen_expr f.from) f.to_at (seen_expr f.to)
-    f.do_at (seen_statement s)
+    → seen_statement (For f s) ≡ g.for_do f.head f.at f.name f.set_at (seen_expr f.from) (seen_direction f.direction)
+    (seen_expr f.to) (seen_step f.step) f.do_at (seen_statement s)
 unfolding shape-the_row-Statement-0 hidden-the_row-Statement-0 hidden
 seen-for f s = refl
+
+pub seen-do : (s : Statement) (u : Until)
+    → seen_statement (DoUntil s u) ≡ g.do_until u.head (seen_statement s) u.at (seen_expr u.test)
+unfolding shape-the_row-Statement-0 hidden-the_row-Statement-0 hidden
+seen-do s u = refl
 
 pub seen-else : (at : At) (s : Statement) → seen_otherwise (Else at s) ≡ g.otherwise at (seen_statement s)
 unfolding shape-the_row-Statement-0 hidden-the_row-Statement-0 hidden
 seen-else at s = refl
 
 -- what is built of statements
-pub ruleset seen_statements = (seen-block, seen-if, seen-while, seen-for, seen-else)
+pub ruleset seen_statements = (seen-block, seen-if, seen-while, seen-for, seen-do, seen-else)

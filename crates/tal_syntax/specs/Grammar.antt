@@ -26,7 +26,9 @@ pub use Statements.{Argument, value, receive, process, quoted, of_argument, Furt
 pub use Statements.{of_further, Arguments, unlisted}
 pub use Statements.{listed, of_arguments, Values, no_values, more_values, of_values, Answer, no_answer, answer}
 pub use Statements.{of_answer, Statement, nothing}
-pub use Statements.{block, if_then, while_do, for_do, call, return, assign, assign_call, Otherwise, no_else, otherwise}
+pub use Statements.{Direction, up, down, of_direction, Step, step_one, step_by, of_step}
+pub use Statements.{block, if_then, while_do, for_do, do_until, call, return, assign, assign_call, Otherwise, no_else}
+pub use Statements.{otherwise}
 pub use Statements.{Row}
 pub use Statements.{no_row, more_row, of_statement, of_otherwise, of_row, is_open, is_open_else, IsNearest}
 pub use Statements.{IsNearestElse, IsNearestRow}

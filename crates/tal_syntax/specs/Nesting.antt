@@ -12,5 +12,5 @@ pub use Expressions.{nest_expr, nest_ors, nest_both, nest_ands, nest_neg, nest_c
 pub use Expressions.{nest_product, nest_factors, nest_factor, nest_spot}
 pub use Expressions.{nest_index}
 pub use Statements.{nest_argument, nest_further, nest_arguments, nest_values, nest_answer, nest_statement}
-pub use Statements.{nest_otherwise, nest_row}
+pub use Statements.{nest_step, nest_otherwise, nest_row}
 pub use Texts.{nest_procedure, nest_procedures, nest_text}

@@ -15,6 +15,14 @@ pub use Expressions.{seen_compared, seen_sum, seen_next_terms, seen_product, see
 pub use Expressions.{seen_boxed_factor, seen_index, seen_boxed_expr, seen_spot, link_ors, seen_ors}
 pub use Expressions.{link_ands, seen_ands, link_terms, seen_terms, link_factors, seen_factors}
 pub use Statements.{seen_argument, link_further, seen_further, seen_arguments, link_values, seen_values, seen_answer}
-pub use Statements.{seen_statement, seen_otherwise, seen_boxed_statement, seen_nexts, link_row}
+pub use Statements.{
+  seen_direction,
+  seen_step,
+  seen_statement,
+  seen_otherwise,
+  seen_boxed_statement,
+  seen_nexts,
+  link_row,
+}
 pub use Statements.{seen_row}
 pub use Texts.{seen_procedure, link_procedures, seen_procedures, seen_text}

@@ -20,8 +20,8 @@ pub use expression::{
     Sign, Spot, Sum, Term,
 };
 pub use statement::{
-    Answer, Argument, ArgumentList, Arguments, Assign, AssignCall, Call, ForHead, Next,
-    NextArgument, NextValue, Otherwise, Return, Statement, Test,
+    Answer, Argument, ArgumentList, Arguments, Assign, AssignCall, Call, Direction, ForHead, Next,
+    NextArgument, NextValue, Otherwise, Return, Statement, Step, Test, Until,
 };
 pub use tal_tokens;
 pub use tal_tokens::{gd_words, tal_tree};

@@ -1,3 +1,4 @@
+use crate::declaration::Constant;
 use crate::expression::{Expr, Spot};
 use tal_tokens::At;
 use tal_tokens::gd_words::{Boxed, Ident, List, Name};
@@ -93,7 +94,21 @@ pub struct Test {
     pub end: At,
 }
 
-/// `FOR name ":=" expr TO expr DO`
+/// `TO | DOWNTO`
+#[derive(Clone, Copy)]
+pub enum Direction {
+    Up(At),
+    Down(At),
+}
+
+/// `[ BY constant ]`
+#[derive(Clone, Copy)]
+pub enum Step {
+    One,
+    By(At, Constant),
+}
+
+/// `FOR name ":=" expr direction expr step DO`
 #[derive(Drop)]
 pub struct ForHead {
     pub head: At,
@@ -101,9 +116,18 @@ pub struct ForHead {
     pub name: Ident,
     pub set_at: At,
     pub from: Expr,
-    pub to_at: At,
+    pub direction: Direction,
     pub to: Expr,
+    pub step: Step,
     pub do_at: At,
+}
+
+/// What stands around the statement of `DO statement UNTIL expr`
+#[derive(Drop)]
+pub struct Until {
+    pub head: At,
+    pub at: At,
+    pub test: Expr,
 }
 
 /// A statement. What isn't another statement stands in memory of its own, so that a row of statements stays small.
@@ -115,6 +139,7 @@ pub enum Statement {
     If(Boxed<Test>, Boxed<Statement>, Otherwise),
     While(Boxed<Test>, Boxed<Statement>),
     For(Boxed<ForHead>, Boxed<Statement>),
+    DoUntil(Boxed<Statement>, Boxed<Until>),
     Call(Boxed<Call>),
     Return(Boxed<Return>),
     Assign(Boxed<Assign>),

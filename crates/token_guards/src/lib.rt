@@ -1,8 +1,9 @@
-//! Guards of the spelling of program texts: what telling texts are cut into, and the faults at which they are cut off.
-//! A wrong definition is refused here.
+//! Guards of the spelling of program texts: what telling texts are cut into, and the faults at which they are cut off;
+//! and of loops, whose tokens the grammar has and the rules judge. A wrong definition is refused here.
 //!
-//! Below stands `tal_tokens`, whose definition is guarded; nothing stands above.
+//! Below stand `tal_tokens`, `tal_syntax` and `tal_rules`, whose definitions are guarded; nothing stands above.
 #![tactic(auto)]
 
 pub mod faults;
+pub mod loops;
 pub mod tokens;

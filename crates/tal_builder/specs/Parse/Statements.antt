@@ -6,9 +6,10 @@ use Rattle.tal_tokens.specs.declared.token.Token.{Token}
 use Rattle.tal_tokens.specs.declared.token.Token.TheVariants as tok
 use Rattle.tal_syntax.specs.Grammar as g
 use Rattle.tal_builder.specs.declared.plain_token.PlainToken.TheVariants as mark
-use Rattle.tal_builder.specs.First.{name_of, is_begun}
+use Rattle.tal_builder.specs.First.{name_of, direction_of, is_begun}
 use Rattle.tal_builder.specs.PlainTokens.{plain_of}
 use Rattle.tal_builder.specs.Parse.Chains.{Found, rest_by, no_level}
+use Rattle.tal_builder.specs.Parse.Declarations.{constant_at}
 use Rattle.tal_builder.specs.Parse.Expressions.{expr_at}
 use Rattle.tal_builder.specs.Parse.Simple.{call_at, return_at, assign_at}
 
@@ -41,14 +42,27 @@ while_by inner n head ks =
     option_and_then (λ t. option_and_then (λ d. option_map (λ s. (g.while_do head t.0 d.0 s.0, s.1)) (inner d.1))
     (plain_of mark.Do t.1)) (expr_at n ks)
 
--- name ":=" expr TO expr DO statement, after FOR
+abbrev pub step_after : List Token → Found At → Found g.Step
+step_after ks None = Some (g.step_one, ks)
+step_after ks (Some (at, us)) = option_map (λ c. (g.step_by at c.0, c.1)) (constant_at us)
+
+abbrev pub step_at : List Token → Found g.Step
+step_at ks = step_after ks (plain_of mark.By ks)
+
+-- name ":=" expr direction expr step DO statement, after FOR
 abbrev pub for_by : (List Token → Found g.Statement) → ℕ → At → List Token → Found g.Statement
 for_by inner n head ks =
     option_and_then (λ w. option_and_then (λ a.
-    option_and_then (λ f. option_and_then (λ t. option_and_then (λ e. option_and_then (λ d. option_map (λ s.
-    (g.for_do head w.0.0 w.0.1 a.0 f.0 t.0 e.0 d.0 s.0, s.1)) (inner d.1)) (plain_of mark.Do e.1)) (expr_at n t.1))
-    (plain_of mark.To f.1)) (expr_at n a.1))
+    option_and_then (λ f. option_and_then (λ t. option_and_then (λ e. option_and_then (λ b. option_and_then (λ d.
+    option_map (λ s. (g.for_do head w.0.0 w.0.1 a.0 f.0 t.0 e.0 b.0 d.0 s.0, s.1)) (inner d.1))
+    (plain_of mark.Do b.1)) (step_at e.1)) (expr_at n t.1)) (direction_of f.1)) (expr_at n a.1))
     (plain_of mark.Assign w.1)) (name_of ks)
+
+-- statement UNTIL expr, after DO
+abbrev pub do_by : (List Token → Found g.Statement) → ℕ → At → List Token → Found g.Statement
+do_by inner n head ks =
+    option_and_then (λ s. option_and_then (λ u. option_map (λ e. (g.do_until head s.0 u.0 e.0, e.1)) (expr_at n u.1))
+    (plain_of mark.Until s.1)) (inner ks)
 
 -- a statement that isn't empty, in which n levels may be opened
 abbrev pub begun_by : (List Token → Found g.Statement) → ℕ → List Token → Found g.Statement
@@ -56,6 +70,7 @@ begun_by inner n (tok.Begin at ∷ ks) = block_by inner at ks
 begun_by inner n (tok.If at ∷ ks) = if_by inner n at ks
 begun_by inner n (tok.While at ∷ ks) = while_by inner n at ks
 begun_by inner n (tok.For at ∷ ks) = for_by inner n at ks
+begun_by inner n (tok.Do at ∷ ks) = do_by inner n at ks
 begun_by inner n (tok.Call at ∷ ks) = call_at n at ks
 begun_by inner n (tok.Return at ∷ ks) = return_at n at ks
 begun_by inner n ks = assign_at n ks

@@ -39,7 +39,7 @@ pub record IsDeclarable (d : Declared) (i : Item) : Type 0 where
   pub free : is_taken d.names i.name ≡ false
   pub is_ordered : IsOrdered i.shape
   pub few : nat_le 64 (length d.items) ≡ false
-  pub room : nat_lt 512 (d.words + (extent_by i.shape).words) ≡ false
+  pub room : nat_lt 1024 (d.words + (extent_by i.shape).words) ≡ false
   pub small : nat_lt 256 (extent_by i.shape).words ≡ false
 
 -- a shape that bounds have where they have no fault
@@ -100,7 +100,7 @@ item_declarable d at name b fine =
     let s = shaped d.names b parts.1 in
     let sizes =
     three (if_so (nat_le 64 (length d.items)) (fault_at at (Limit 1)))
-    (if_so (nat_lt 512 (d.words + x.words)) (fault_at at (Limit 2)))
+    (if_so (nat_lt 1024 (d.words + x.words)) (fault_at at (Limit 2)))
     (if_so (nat_lt 256 x.words) (fault_at at (Limit 3))) parts.2 in
     record {
       is = s.is;
@@ -108,8 +108,8 @@ item_declarable d at name b fine =
         free = refuted (is_taken d.names name) at Twice parts.0;
         is_ordered = s.fine;
         few = refuted (nat_le 64 (length d.items)) at (Limit 1) sizes.0;
-        room = sym (ap (λ e. nat_lt 512 (d.words + e.words)) s.is)
-            ∙ refuted (nat_lt 512 (d.words + x.words)) at (Limit 2) sizes.1;
+        room = sym (ap (λ e. nat_lt 1024 (d.words + e.words)) s.is)
+            ∙ refuted (nat_lt 1024 (d.words + x.words)) at (Limit 2) sizes.1;
         small = sym (ap (λ e. nat_lt 256 e.words) s.is) ∙ refuted (nat_lt 256 x.words) at (Limit 3) sizes.2;
       };
     }

@@ -97,7 +97,8 @@ module _ (s : Scope) where
     statement_simple f (g.if_then head test then_at t o) a =
         else_simple (statement_files s f t) o (statement_simple f t a)
     statement_simple f (g.while_do head test do_at t) a = statement_simple f t a
-    statement_simple f (g.for_do head at name set_at from to_at to do_at t) a = statement_simple f t a
+    statement_simple f (g.for_do head at name set_at from direction to step do_at t) a = statement_simple f t a
+    statement_simple f (g.do_until head t at test) a = statement_simple f t a
     statement_simple f (g.call head at name list) a = call_simple f (arguments_of list) (system_of name) a
     statement_simple f (g.return head e) a = a
     statement_simple f (g.assign target at e) a = a

@@ -15,8 +15,8 @@ use Rattle.tal_declarations.specs.Files.{call_files, statement_files, else_files
 use Rattle.tal_names.specs.Systems.{system_of}
 use Rattle.tal_names.specs.Names.{Declarations}
 use Rattle.tal_names.specs.Places.{arguments_of}
-use Rattle.tal_rules.specs.Statements.{stepped, after, after_else, after_row, after_call, number_faults, test_faults}
-use Rattle.tal_rules.specs.Statements.{for_head_faults, statement_faults, else_faults, row_faults}
+use Rattle.tal_rules.specs.Statements.{stepped, inside_do, after, after_else, after_row, after_call, number_faults}
+use Rattle.tal_rules.specs.Statements.{test_faults, for_head_faults, statement_faults, else_faults, row_faults}
 use Rattle.tal_rules.specs.Texts.{scope_of, next_procedure, procedure_files, files_from, files_by, headed_text}
 use Rattle.tal_rules.specs.Texts.{no_files, entered, body_after, body_faults, heading_locals_faults, lacks_monitor}
 use Rattle.tal_rules.specs.Texts.{name_place, procedure_faults, after_procedure, procedures_faults, first_progress}
@@ -59,12 +59,15 @@ module _ (s : Scope) where
         a)
     statement_opened f w (g.while_do head test do_at t) e a =
         statement_opened f (stepped w) t (second_nil (test_faults s w head test) (statement_faults s (stepped w) t) e) a
-    statement_opened f w (g.for_do head at name set_at from to_at to do_at t) e a =
+    statement_opened f w (g.for_do head at name set_at from direction to step do_at t) e a =
         statement_opened f (stepped (stepped w)) t
-        (second_nil (for_head_faults s at name from to) (statement_faults s (stepped (stepped w)) t)
-        (first_nil (for_head_faults s at name from to ++ statement_faults s (stepped (stepped w)) t)
+        (second_nil (for_head_faults s at name from to step) (statement_faults s (stepped (stepped w)) t)
+        (first_nil (for_head_faults s at name from to step ++ statement_faults s (stepped (stepped w)) t)
         (number_faults (after s (stepped (stepped w)) t).number head) e))
         a
+    statement_opened f w (g.do_until head t at test) e a =
+        statement_opened f (inside_do w) t
+        (first_nil (statement_faults s (inside_do w) t) (test_faults s (after s (inside_do w) t) head test) e) a
     statement_opened f w (g.call head at name list) e a =
         call_opened f w at name (arguments_of list) (system_of name)
         (second_nil (number_faults w.number head) (call_faults s w at name (arguments_of list) (system_of name)) e) a

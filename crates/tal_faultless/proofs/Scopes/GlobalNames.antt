@@ -180,7 +180,7 @@ item_globals d (g.item at name bounds) e a =
     many = if_so (nat_le 64 (length d.items)) (fault_at at (Limit 1))
 
     large : List RuleFault
-    large = if_so (nat_lt 512 (d.words + words)) (fault_at at (Limit 2))
+    large = if_so (nat_lt 1024 (d.words + words)) (fault_at at (Limit 2))
 
     long : List RuleFault
     long = if_so (nat_lt 256 words) (fault_at at (Limit 3))

@@ -3,6 +3,7 @@ use Rattle.std.specs.Prelude.{ℕ, Bool, true, false, List, ◌∷◌, ◌≡◌
 use Rattle.tal_tokens.specs.declared.token.At.{At}
 use Rattle.tal_tokens.specs.declared.token.Token.{Token}
 use Rattle.tal_tokens.specs.declared.token.Token.TheVariants as tok
+use Rattle.tal_syntax.specs.Grammar.Declarations.{Constant, of_constant}
 use Rattle.tal_syntax.specs.Grammar.Expressions.{Expr, of_expr, Spot, of_spot}
 
 -- argument = expr | string
@@ -55,16 +56,35 @@ abbrev pub of_answer : Answer → List Token → List Token
 of_answer no_answer ks = ks
 of_answer (answer e) ks = of_expr e ks
 
+-- direction = TO | DOWNTO
+pub data Direction : Type 0 where
+  up : At → Direction
+  down : At → Direction
+
+abbrev pub of_direction : Direction → Token
+of_direction (up at) = tok.To at
+of_direction (down at) = tok.DownTo at
+
+-- step = [ BY constant ]
+pub data Step : Type 0 where
+  step_one : Step
+  step_by : At → Constant → Step
+
+abbrev pub of_step : Step → List Token → List Token
+of_step step_one ks = ks
+of_step (step_by at c) ks = tok.By at ∷ of_constant c ks
+
 mutual
   -- statement = (nothing) | BEGIN statement row END | IF expr THEN statement otherwise | WHILE expr DO statement
-  --   | FOR name ":=" expr TO expr DO statement | CALL name arguments | RETURN answer
-  --   | spot ":=" expr | spot ":=" name "(" expr values ")"
+  --   | FOR name ":=" expr direction expr step DO statement | DO statement UNTIL expr | CALL name arguments
+  --   | RETURN answer | spot ":=" expr | spot ":=" name "(" expr values ")"
   pub data Statement : Type 0 where
     nothing : Statement
     block : At → Statement → Row → At → Statement
     if_then : At → Expr → At → Statement → Otherwise → Statement
     while_do : At → Expr → At → Statement → Statement
-    for_do : At → At → List ℕ → At → Expr → At → Expr → At → Statement → Statement
+    for_do : At → At → List ℕ → At → Expr → Direction → Expr → Step → At → Statement → Statement
+    do_until : At → Statement → At → Expr → Statement
     call : At → At → List ℕ → Arguments → Statement
     return : At → Answer → Statement
     assign : Spot → At → Expr → Statement
@@ -87,9 +107,10 @@ abbrev mutual
   of_statement (if_then head test then_at s o) ks =
       tok.If head ∷ of_expr test (tok.Then then_at ∷ of_statement s (of_otherwise o ks))
   of_statement (while_do head test do_at s) ks = tok.While head ∷ of_expr test (tok.Do do_at ∷ of_statement s ks)
-  of_statement (for_do head at name set_at from to_at to do_at s) ks =
+  of_statement (for_do head at name set_at from direction to step do_at s) ks =
       tok.For head ∷ tok.Name at name ∷ tok.Assign set_at
-      ∷ of_expr from (tok.To to_at ∷ of_expr to (tok.Do do_at ∷ of_statement s ks))
+      ∷ of_expr from (of_direction direction ∷ of_expr to (of_step step (tok.Do do_at ∷ of_statement s ks)))
+  of_statement (do_until head s at test) ks = tok.Do head ∷ of_statement s (tok.Until at ∷ of_expr test ks)
   of_statement (call head at name a) ks = tok.Call head ∷ tok.Name at name ∷ of_arguments a ks
   of_statement (return head a) ks = tok.Return head ∷ of_answer a ks
   of_statement (assign target at e) ks = of_spot target (tok.Assign at ∷ of_expr e ks)
@@ -112,7 +133,8 @@ abbrev mutual
   is_open (block begin first more end) = false
   is_open (if_then head test then_at s o) = is_open_else o
   is_open (while_do head test do_at s) = is_open s
-  is_open (for_do head at name set_at from to_at to do_at s) = is_open s
+  is_open (for_do head at name set_at from direction to step do_at s) = is_open s
+  is_open (do_until head s at test) = false
   is_open (call head at name a) = false
   is_open (return head a) = false
   is_open (assign target at e) = false
@@ -129,7 +151,8 @@ abbrev mutual
   IsNearest (block begin first more end) = IsNearest first × IsNearestRow more
   IsNearest (if_then head test then_at s o) = IsNearest s × IsNearestElse s o
   IsNearest (while_do head test do_at s) = IsNearest s
-  IsNearest (for_do head at name set_at from to_at to do_at s) = IsNearest s
+  IsNearest (for_do head at name set_at from direction to step do_at s) = IsNearest s
+  IsNearest (do_until head s at test) = IsNearest s
   IsNearest (call head at name a) = Unit {0}
   IsNearest (return head a) = Unit {0}
   IsNearest (assign target at e) = Unit {0}

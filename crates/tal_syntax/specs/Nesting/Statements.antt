@@ -1,6 +1,7 @@
 -- How deep the tokens of statements stand.
 use Rattle.std.specs.Prelude.{ℕ, suc, List, ◌∷◌}
 use Rattle.tal_syntax.specs.Grammar as g
+use Rattle.tal_syntax.specs.Nesting.Declarations.{nest_constant}
 use Rattle.tal_syntax.specs.Nesting.Expressions.{nest_expr, nest_spot}
 
 abbrev pub nest_argument : ℕ → g.Argument → List ℕ → List ℕ
@@ -26,6 +27,10 @@ abbrev pub nest_answer : ℕ → g.Answer → List ℕ → List ℕ
 nest_answer n g.no_answer ls = ls
 nest_answer n (g.answer e) ls = nest_expr n e ls
 
+abbrev pub nest_step : ℕ → g.Step → List ℕ → List ℕ
+nest_step n g.step_one ls = ls
+nest_step n (g.step_by at c) ls = n ∷ nest_constant n c ls
+
 abbrev mutual
   -- a statement is a level of its own; the empty one has no token
   pub nest_statement : ℕ → g.Statement → List ℕ → List ℕ
@@ -36,9 +41,11 @@ abbrev mutual
       suc n ∷ nest_expr (suc n) test (suc n ∷ nest_statement (suc n) s (nest_otherwise (suc n) o ls))
   nest_statement n (g.while_do head test do_at s) ls =
       suc n ∷ nest_expr (suc n) test (suc n ∷ nest_statement (suc n) s ls)
-  nest_statement n (g.for_do head at name set_at from to_at to do_at s) ls =
+  nest_statement n (g.for_do head at name set_at from direction to step do_at s) ls =
       suc n ∷ suc n ∷ suc n ∷ nest_expr (suc n) from
-      (suc n ∷ nest_expr (suc n) to (suc n ∷ nest_statement (suc n) s ls))
+      (suc n ∷ nest_expr (suc n) to (nest_step (suc n) step (suc n ∷ nest_statement (suc n) s ls)))
+  nest_statement n (g.do_until head s at test) ls =
+      suc n ∷ nest_statement (suc n) s (suc n ∷ nest_expr (suc n) test ls)
   nest_statement n (g.call head at name a) ls = suc n ∷ suc n ∷ nest_arguments (suc n) a ls
   nest_statement n (g.return head a) ls = suc n ∷ nest_answer (suc n) a ls
   nest_statement n (g.assign target at e) ls = nest_spot (suc n) target (suc n ∷ nest_expr (suc n) e ls)

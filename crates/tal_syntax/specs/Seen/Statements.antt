@@ -2,6 +2,7 @@
 use Rattle.std.specs.Prelude.{List}
 use Rattle.tal_syntax.specs.Grammar as g
 use Rattle.tal_syntax.specs.Seen.Chained.{chained}
+use Rattle.tal_syntax.specs.Seen.Declarations.{seen_constant}
 use Rattle.tal_syntax.specs.Seen.Expressions.{seen_expr, seen_spot}
 use Rattle.tal_syntax.specs.declared.statement.Argument.{Argument}
 use Rattle.tal_syntax.specs.declared.statement.Argument.TheVariants as argument
@@ -14,6 +15,10 @@ use Rattle.tal_syntax.specs.declared.statement.Answer.TheVariants as answer
 use Rattle.tal_syntax.specs.declared.statement.Statement.{Statement, Row_of-Statement, end_of-Statement}
 use Rattle.tal_syntax.specs.declared.statement.Statement.{more_of-Statement, Row_of-Next, end_of-Next, more_of-Next}
 use Rattle.tal_syntax.specs.declared.statement.Statement.TheVariants as statement
+use Rattle.tal_syntax.specs.declared.statement.Direction.{Direction}
+use Rattle.tal_syntax.specs.declared.statement.Direction.TheVariants as direction
+use Rattle.tal_syntax.specs.declared.statement.Step.{Step}
+use Rattle.tal_syntax.specs.declared.statement.Step.TheVariants as step
 use Rattle.tal_syntax.specs.declared.statement.Otherwise.{Otherwise}
 use Rattle.tal_syntax.specs.declared.statement.Otherwise.TheVariants as otherwise
 use Rattle.tal_syntax.specs.declared.statement.Next.{Next}
@@ -44,6 +49,14 @@ abbrev pub seen_answer : Answer → g.Answer
 seen_answer answer.Absent = g.no_answer
 seen_answer (answer.Value e) = g.answer (seen_expr e)
 
+abbrev pub seen_direction : Direction → g.Direction
+seen_direction (direction.Up at) = g.up at
+seen_direction (direction.Down at) = g.down at
+
+abbrev pub seen_step : Step → g.Step
+seen_step step.One = g.step_one
+seen_step (step.By at c) = g.step_by at (seen_constant c)
+
 abbrev mutual
   pub seen_statement : Statement → g.Statement
   seen_statement statement.Nothing = g.nothing
@@ -53,8 +66,9 @@ abbrev mutual
       g.if_then t.head (seen_expr t.test) t.end (seen_boxed_statement body) (seen_otherwise o)
   seen_statement (statement.While' t s body) = g.while_do t.head (seen_expr t.test) t.end (seen_boxed_statement body)
   seen_statement (statement.For' f s body) =
-      g.for_do f.head f.at f.name f.set_at (seen_expr f.from) f.to_at (seen_expr f.to) f.do_at
-      (seen_boxed_statement body)
+      g.for_do f.head f.at f.name f.set_at (seen_expr f.from) (seen_direction f.direction) (seen_expr f.to)
+      (seen_step f.step) f.do_at (seen_boxed_statement body)
+  seen_statement (statement.DoUntil' s body u) = g.do_until u.head (seen_boxed_statement body) u.at (seen_expr u.test)
   seen_statement (statement.Call c) = g.call c.head c.at c.name (seen_arguments c.arguments)
   seen_statement (statement.Return r) = g.return r.head (seen_answer r.answer)
   seen_statement (statement.Assign a) = g.assign (seen_spot a.target) a.at (seen_expr a.value)

@@ -45,6 +45,11 @@ unfolding shape-the_row-Spot-0 hidden-the_row-Spot-0 shape-the_row-Expr-1 hidden
     hidden-the_row-Cond-0 hidden
 returns-clause-to c = refl
 
+pub returns-clause-do_test : goal.returns-clause-do_test
+unfolding shape-the_row-Spot-0 hidden-the_row-Spot-0 shape-the_row-Expr-1 hidden-the_row-Expr-1 shape-the_row-Cond-0
+    hidden-the_row-Cond-0 hidden
+returns-clause-do_test c = refl
+
 pub returns-clause-argument : goal.returns-clause-argument
 unfolding shape-the_row-Spot-0 hidden-the_row-Spot-0 shape-the_row-Expr-1 hidden-the_row-Expr-1 shape-the_row-Cond-0
     hidden-the_row-Cond-0 hidden

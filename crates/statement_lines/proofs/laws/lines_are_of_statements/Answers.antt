@@ -10,11 +10,12 @@ pub returns-clause-own : goal.returns-clause-own
 returns-clause-own c = line-own
 
 pub returns-clause-for_test : goal.returns-clause-for_test
-returns-clause-for_test c = λ program procedure statement variable from to body last numbered among inside is.
-    line-other program procedure statement numbered among inside (What-F.For variable from to body last)
+returns-clause-for_test c = λ program procedure statement variable from to down step body last numbered among inside is.
+    line-other program procedure statement numbered among inside (What-F.For variable from to down step body last)
     (statement.number + 1) is (inr (inl refl))
 
 pub returns-clause-for_last : goal.returns-clause-for_last
-returns-clause-for_last c = λ program procedure statement variable from to body last numbered among inside is.
-    line-other program procedure statement numbered among inside (What-F.For variable from to body last) last is
+returns-clause-for_last c = λ program procedure statement variable from to down step body last numbered among inside is.
+    line-other program procedure statement numbered among inside (What-F.For variable from to down step body last) last
+    is
     (inr (inr (inl refl)))

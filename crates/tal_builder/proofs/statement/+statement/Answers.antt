@@ -1,17 +1,19 @@
 use Rattle.std.proofs.Common.{◌≡◌, ◌-◌, ◌+◌, suc, true, length, Some, None, refl, sym, ap, ◌∙◌, arith, subst}
 use Rattle.tal_syntax.specs.Grammar as g
-use Rattle.tal_syntax.specs.Seen.{link_row, seen_statement, seen_expr, seen_row, seen_otherwise}
+use Rattle.tal_syntax.specs.Seen.{link_row, seen_statement, seen_expr, seen_direction, seen_step, seen_row}
+use Rattle.tal_syntax.specs.Seen.{seen_otherwise}
 use Rattle.tal_builder.specs.PlainTokens.{plain_of}
 use Rattle.tal_builder.specs.declared.plain_token.PlainToken.TheVariants as mark
 use Rattle.tal_builder.specs.Parse.{statement_at, begun_by}
 use Rattle.tal_builder.proofs.Turns.{ends, turns}
 use Rattle.tal_syntax.specs.declared.statement.Test.{Test}
 use Rattle.tal_syntax.specs.declared.statement.ForHead.{ForHead}
+use Rattle.tal_syntax.specs.declared.statement.Until.{Until}
 use Rattle.tal_syntax.proofs.SeenSteps.{seen-else}
 use Rattle.tal_builder.specs.Outcome.{Tells}
 use Rattle.std.specs.Prelude.{cond}
 use Rattle.tal_builder.specs.First.{is_begun}
-use Rattle.tal_builder.proofs.Steps.{block-found, otherwise-found, if-found, while-found, for-found}
+use Rattle.tal_builder.proofs.Steps.{block-found, otherwise-found, if-found, while-found, for-found, do-found}
 use Rattle.tal_builder.proofs.statement.+statement.Goals as goal
 
 pub row-returns-in_default : goal.row-returns-in_default
@@ -76,15 +78,27 @@ while_loop-returns t c =
 pub for_loop-returns : goal.for_loop-returns
 for_loop-returns t c =
     for-found (statement_at c.args.room) c.args.room c.args.head c.in-Some.named.at c.in-Some.named.name
-    c.in_ok-set_at.set_at c.in_ok-to_at.to_at c.in_ok-do_at.do_at
-    c.args.tokens.now c.in-Some.after.now c.in_ok-set_at.after.now c.in_ok-from.after.now c.in_ok-to_at.after.now
-    c.in_ok-to.after.now c.in_ok-do_at.after.now c.in_ok-inner.rest.now
-    (seen_expr c.in_ok-from.from) (seen_expr c.in_ok-to.to) (seen_statement c.in_ok-inner.inner)
-    c.in-Some.ensures c.in_ok-set_at.ensures c.in_ok-from.ensures c.in_ok-to_at.ensures c.in_ok-to.ensures
-    c.in_ok-do_at.ensures c.in_ok-inner.ensures
+    c.in_ok-set_at.set_at c.in_ok-do_at.do_at
+    c.args.tokens.now c.in-Some.after.now c.in_ok-set_at.after.now c.in_ok-from.after.now
+    c.in_ok-direction.after.now c.in_ok-to.after.now c.in-Some-step.after.now c.in_ok-do_at.after.now
+    c.in_ok-inner.rest.now (seen_expr c.in_ok-from.from) (seen_direction c.in_ok-direction.direction)
+    (seen_expr c.in_ok-to.to) (seen_step c.in-Some-step.step) (seen_statement c.in_ok-inner.inner)
+    c.in-Some.ensures c.in_ok-set_at.ensures c.in_ok-from.ensures c.in_ok-direction.ensures c.in_ok-to.ensures
+    c.in-Some-step.ensures c.in_ok-do_at.ensures c.in_ok-inner.ensures
     ∙ ap (λ s. Some (s, c.in_ok-inner.rest.now))
-    (ap (λ (f : ForHead). g.for_do f.head f.at f.name f.set_at (seen_expr f.from) f.to_at (seen_expr f.to) f.do_at
-    (seen_statement c.in_ok-inner.inner)) (sym c.in_ok-counted.ensures)
+    (ap (λ (f : ForHead). g.for_do f.head f.at f.name f.set_at (seen_expr f.from) (seen_direction f.direction)
+    (seen_expr f.to) (seen_step f.step) f.do_at (seen_statement c.in_ok-inner.inner)) (sym c.in_ok-counted.ensures)
+    ∙ sym c.in_ok-statement.ensures)
+
+pub do_loop-returns : goal.do_loop-returns
+do_loop-returns t c =
+    do-found (statement_at c.args.room) c.args.room c.args.head c.in_ok-at.at c.args.tokens.now
+    c.in_ok-inner.after.now c.in_ok-at.after.now c.in_ok-test.rest.now
+    (seen_statement c.in_ok-inner.inner) (seen_expr c.in_ok-test.test)
+    c.in_ok-inner.ensures c.in_ok-at.ensures c.in_ok-test.ensures
+    ∙ ap (λ s. Some (s, c.in_ok-test.rest.now))
+    (ap (λ (u : Until). g.do_until u.head (seen_statement c.in_ok-inner.inner) u.at (seen_expr u.test))
+    (sym c.in_ok-until.ensures)
     ∙ sym c.in_ok-statement.ensures)
 
 pub statement-returns : goal.statement-returns
@@ -96,3 +110,6 @@ statement-returns t c =
     (cond b (begun_by (statement_at (c.args.room - 1)) (c.args.room - 1) c.args.tokens.now)
     (Some (g.nothing, c.args.tokens.now))))
     (sym begins) c.begun.ensures)
+
+pub begun-returns-in-For : goal.begun-returns-in-For
+begun-returns-in-For t c = rw (c.in-Some.ensures.cases.0, c.in-For.is) c.for_loop.ensures

@@ -31,6 +31,9 @@ decreases-while_loop l = 4 * l.room + 2
 abbrev pub decreases-for_loop : goal.decreases-for_loop
 decreases-for_loop l = 4 * l.room + 2
 
+abbrev pub decreases-do_loop : goal.decreases-do_loop
+decreases-do_loop l = 4 * l.room + 2
+
 -- the links so far and those of the tokens that are left are the whole chain
 abbrev pub invariant-row-loop-turn : goal.invariant-row-loop-turn
 invariant-row-loop-turn l = onto link_row l.all

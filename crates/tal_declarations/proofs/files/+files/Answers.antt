@@ -1,8 +1,8 @@
 use Rattle.std.proofs.Common.{◌≡◌, OnOk, refl, sym, ap, subst, ◌∙◌}
 use Rattle.tal_syntax.specs.Grammar as g
 use Rattle.tal_syntax.specs.declared.statement.Next.{Next}
-use Rattle.tal_syntax.specs.Seen.{seen_expr, seen_statement, seen_otherwise, seen_row}
-use Rattle.tal_syntax.proofs.SeenSteps.{seen-block, seen-if, seen-while, seen-for, seen-else}
+use Rattle.tal_syntax.specs.Seen.{seen_expr, seen_direction, seen_step, seen_statement, seen_otherwise, seen_row}
+use Rattle.tal_syntax.proofs.SeenSteps.{seen-block, seen-if, seen-while, seen-for, seen-do, seen-else}
 use Rattle.tal_declarations.specs.Files.{statement_files, else_files, row_files}
 use Rattle.tal_names.proofs.Turns.{turn_after}
 use Rattle.tal_declarations.proofs.files.+files.Goals as goal
@@ -62,7 +62,15 @@ pub statement_files-returns-in-For : goal.statement_files-returns-in-For
 statement_files-returns-in-For t c =
     let seen : seen_statement c.args.statement.now
     ≡ g.for_do c.in-For.field-0.head c.in-For.field-0.at c.in-For.field-0.name c.in-For.field-0.set_at
-    (seen_expr c.in-For.field-0.from) c.in-For.field-0.to_at (seen_expr c.in-For.field-0.to) c.in-For.field-0.do_at
-    (seen_statement c.in-For.body) =
+    (seen_expr c.in-For.field-0.from) (seen_direction c.in-For.field-0.direction) (seen_expr c.in-For.field-0.to)
+    (seen_step c.in-For.field-0.step) c.in-For.field-0.do_at (seen_statement c.in-For.body) =
     ap seen_statement c.in-For.is ∙ seen-for c.in-For.field-0 c.in-For.body in
     rw (seen, ← c.get-in-For.ensures) c.statement_files-in-For.ensures
+
+pub statement_files-returns-in-DoUntil : goal.statement_files-returns-in-DoUntil
+statement_files-returns-in-DoUntil t c =
+    let seen : seen_statement c.args.statement.now
+    ≡ g.do_until c.in-DoUntil.field-1.head (seen_statement c.in-DoUntil.body) c.in-DoUntil.field-1.at
+    (seen_expr c.in-DoUntil.field-1.test) =
+    ap seen_statement c.in-DoUntil.is ∙ seen-do c.in-DoUntil.body c.in-DoUntil.field-1 in
+    rw (seen, ← c.get-in-DoUntil.ensures) c.statement_files-in-DoUntil.ensures

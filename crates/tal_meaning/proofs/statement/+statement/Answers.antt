@@ -1,14 +1,14 @@
 use Rattle.std.proofs.Common.{◌≡◌, List, sym, ap, ◌++◌, ◌∙◌}
 use Rattle.tal_syntax.specs.Grammar as g
-use Rattle.tal_syntax.specs.Seen.{seen_expr, seen_statement, seen_otherwise, seen_row}
-use Rattle.tal_syntax.proofs.SeenSteps.{seen-block, seen-if, seen-while, seen-for, seen-else}
+use Rattle.tal_syntax.specs.Seen.{seen_expr, seen_direction, seen_step, seen_statement, seen_otherwise, seen_row}
+use Rattle.tal_syntax.proofs.SeenSteps.{seen-block, seen-if, seen-while, seen-for, seen-do, seen-else}
 use Rattle.tal_tree.specs.declared.statement.Statement.{Statement}
 use Rattle.tal_tree.specs.declared.statement.What.TheVariants as what
 use Rattle.tal_rules.specs.Statements.{stepped, after, after_else}
 use Rattle.tal_rules.proofs.StatementSteps.{block-walk, if-walk}
 use Rattle.tal_meaning.specs.Expressions.{cond_of_expr}
 use Rattle.tal_meaning.specs.Statements.{one, statements_of, else_statements}
-use Rattle.tal_meaning.proofs.Built.{block-statements, if-statements, for-statements}
+use Rattle.tal_meaning.proofs.Built.{block-statements, if-statements, for-statements, do-statements}
 use Rattle.tal_meaning.proofs.statement.+statement.Goals as goal
 
 pub push_else-returns-in_ok-next-in-Else-clause-walk : goal.push_else-returns-in_ok-next-in-Else-clause-walk
@@ -139,11 +139,13 @@ pub push_statement-returns-in_ok-push_for-in-For-clause-walk :
 push_statement-returns-in_ok-push_for-in-For-clause-walk t c =
     let seen : seen_statement c.args.statement.now
     ≡ g.for_do c.in-For.head.head c.in-For.head.at c.in-For.head.name c.in-For.head.set_at
-    (seen_expr c.in-For.head.from) c.in-For.head.to_at (seen_expr c.in-For.head.to) c.in-For.head.do_at
+    (seen_expr c.in-For.head.from) (seen_direction c.in-For.head.direction) (seen_expr c.in-For.head.to)
+    (seen_step c.in-For.head.step) c.in-For.head.do_at
     (seen_statement c.get-in-For.result.now) =
     ap seen_statement c.in-For.is ∙ seen-for c.in-For.head c.in-For.body
     ∙ ap (λ x. g.for_do c.in-For.head.head c.in-For.head.at c.in-For.head.name c.in-For.head.set_at
-    (seen_expr c.in-For.head.from) c.in-For.head.to_at (seen_expr c.in-For.head.to) c.in-For.head.do_at
+    (seen_expr c.in-For.head.from) (seen_direction c.in-For.head.direction) (seen_expr c.in-For.head.to)
+    (seen_step c.in-For.head.step) c.in-For.head.do_at
     (seen_statement x)) (sym c.get-in-For.ensures) in
     c.stepped-in-For-2.ensures
     ∙ ap stepped (c.in_ok-last-in-For.ensures.walk
@@ -158,19 +160,22 @@ push_statement-returns-in_ok-push_for-in-For-clause-statements t c =
     c.stepped-inside.ensures ∙ ap stepped c.stepped-in-For.ensures in
     let seen : seen_statement c.args.statement.now
     ≡ g.for_do c.get-in-For-2.result.now.head c.get-in-For-2.result.now.at c.get-in-For-2.result.now.name
-    c.get-in-For-2.result.now.set_at (seen_expr c.get-in-For-2.result.now.from) c.get-in-For-2.result.now.to_at
-    (seen_expr c.get-in-For-2.result.now.to) c.get-in-For-2.result.now.do_at
+    c.get-in-For-2.result.now.set_at (seen_expr c.get-in-For-2.result.now.from)
+    (seen_direction c.get-in-For-2.result.now.direction) (seen_expr c.get-in-For-2.result.now.to)
+    (seen_step c.get-in-For-2.result.now.step) c.get-in-For-2.result.now.do_at
     (seen_statement c.get-in-For.result.now) =
     ap seen_statement c.in-For.is ∙ seen-for c.in-For.head c.in-For.body
     ∙ ap (λ x. g.for_do c.in-For.head.head c.in-For.head.at c.in-For.head.name c.in-For.head.set_at
-    (seen_expr c.in-For.head.from) c.in-For.head.to_at (seen_expr c.in-For.head.to) c.in-For.head.do_at
+    (seen_expr c.in-For.head.from) (seen_direction c.in-For.head.direction) (seen_expr c.in-For.head.to)
+    (seen_step c.in-For.head.step) c.in-For.head.do_at
     (seen_statement x)) (sym c.get-in-For.ensures)
-    ∙ ap (λ y. g.for_do y.head y.at y.name y.set_at (seen_expr y.from) y.to_at (seen_expr y.to) y.do_at
-    (seen_statement c.get-in-For.result.now)) (sym c.get-in-For-2.ensures) in
+    ∙ ap (λ y. g.for_do y.head y.at y.name y.set_at (seen_expr y.from) (seen_direction y.direction) (seen_expr y.to)
+    (seen_step y.step) y.do_at (seen_statement c.get-in-For.result.now)) (sym c.get-in-For-2.ensures) in
     for-statements c.args.scope.now c.args.walk c.in_ok-last-in-For.last c.get-in-For-2.result.now.head
-    c.get-in-For-2.result.now.at c.get-in-For-2.result.now.set_at c.get-in-For-2.result.now.to_at
-    c.get-in-For-2.result.now.do_at c.get-in-For-2.result.now.name
-    (seen_expr c.get-in-For-2.result.now.from) (seen_expr c.get-in-For-2.result.now.to)
+    c.get-in-For-2.result.now.at c.get-in-For-2.result.now.set_at c.get-in-For-2.result.now.do_at
+    c.get-in-For-2.result.now.name
+    (seen_expr c.get-in-For-2.result.now.from) (seen_direction c.get-in-For-2.result.now.direction)
+    (seen_expr c.get-in-For-2.result.now.to) (seen_step c.get-in-For-2.result.now.step)
     (seen_statement c.get-in-For.result.now) c.args.all.now c.push_statement-in-For.new.all c.push_for.new.all
     (c.in_ok-last-in-For.ensures.walk ∙ ap (λ x. after c.args.scope.now x (seen_statement c.get-in-For.result.now))
     inside)
@@ -179,4 +184,42 @@ push_statement-returns-in_ok-push_for-in-For-clause-statements t c =
     (seen_statement c.get-in-For.result.now)) c.new-inner-in-For.ensures
     ∙ ap (λ x. statements_of c.args.scope.now x (seen_statement c.get-in-For.result.now)) inside)
     c.in_ok-push_for-in-For.ensures
+    ∙ ap (λ x. c.args.all.now ++ statements_of c.args.scope.now c.args.walk x) (sym seen)
+
+pub push_statement-returns-in_ok-push_do-in-DoUntil-clause-walk :
+    goal.push_statement-returns-in_ok-push_do-in-DoUntil-clause-walk
+push_statement-returns-in_ok-push_do-in-DoUntil-clause-walk t c =
+    let seen : seen_statement c.args.statement.now
+    ≡ g.do_until c.in-DoUntil.until.head (seen_statement c.get-in-DoUntil.result.now) c.in-DoUntil.until.at
+    (seen_expr c.in-DoUntil.until.test) =
+    ap seen_statement c.in-DoUntil.is ∙ seen-do c.in-DoUntil.body c.in-DoUntil.until
+    ∙ ap (λ x. g.do_until c.in-DoUntil.until.head (seen_statement x) c.in-DoUntil.until.at
+    (seen_expr c.in-DoUntil.until.test)) (sym c.get-in-DoUntil.ensures) in
+    c.stepped-in-DoUntil.ensures
+    ∙ ap stepped (c.in_ok-last-in-DoUntil.ensures.walk
+    ∙ ap (λ x. after c.args.scope.now x (seen_statement c.get-in-DoUntil.result.now)) c.inside_do.ensures)
+    ∙ ap (after c.args.scope.now c.args.walk) (sym seen)
+
+pub push_statement-returns-in_ok-push_do-in-DoUntil-clause-statements :
+    goal.push_statement-returns-in_ok-push_do-in-DoUntil-clause-statements
+push_statement-returns-in_ok-push_do-in-DoUntil-clause-statements t c =
+    let seen : seen_statement c.args.statement.now
+    ≡ g.do_until c.in-DoUntil.until.head (seen_statement c.get-in-DoUntil.result.now)
+    c.get-in-DoUntil-2.result.now.at (seen_expr c.get-in-DoUntil-2.result.now.test) =
+    ap seen_statement c.in-DoUntil.is ∙ seen-do c.in-DoUntil.body c.in-DoUntil.until
+    ∙ ap (λ x. g.do_until c.in-DoUntil.until.head (seen_statement x) c.in-DoUntil.until.at
+    (seen_expr c.in-DoUntil.until.test)) (sym c.get-in-DoUntil.ensures)
+    ∙ ap (λ y. g.do_until c.in-DoUntil.until.head (seen_statement c.get-in-DoUntil.result.now) y.at
+    (seen_expr y.test)) (sym c.get-in-DoUntil-2.ensures) in
+    do-statements c.args.scope.now c.args.walk c.in_ok-last-in-DoUntil.last c.in-DoUntil.until.head
+    c.get-in-DoUntil-2.result.now.at (seen_statement c.get-in-DoUntil.result.now)
+    (seen_expr c.get-in-DoUntil-2.result.now.test) c.args.all.now c.push_statement-in-DoUntil.new.all
+    c.push_do.new.all
+    (c.in_ok-last-in-DoUntil.ensures.walk
+    ∙ ap (λ x. after c.args.scope.now x (seen_statement c.get-in-DoUntil.result.now)) c.inside_do.ensures)
+    (c.in_ok-last-in-DoUntil.ensures.statements
+    ∙ ap (λ (l : List Statement). l ++ statements_of c.args.scope.now c.inside_do.result
+    (seen_statement c.get-in-DoUntil.result.now)) c.new-inner-in-DoUntil.ensures
+    ∙ ap (λ x. statements_of c.args.scope.now x (seen_statement c.get-in-DoUntil.result.now)) c.inside_do.ensures)
+    c.in_ok-push_do-in-DoUntil.ensures
     ∙ ap (λ x. c.args.all.now ++ statements_of c.args.scope.now c.args.walk x) (sym seen)

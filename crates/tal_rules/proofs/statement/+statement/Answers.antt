@@ -1,11 +1,12 @@
 use Rattle.std.proofs.Common.{◌≡◌, IfOk, refl, sym, ap, subst, ◌∙◌}
 use Rattle.tal_syntax.specs.Grammar as g
 use Rattle.tal_syntax.specs.declared.statement.Next.{Next}
-use Rattle.tal_syntax.specs.Seen.{seen_expr, seen_statement, seen_otherwise, seen_row}
-use Rattle.tal_syntax.proofs.SeenSteps.{seen-block, seen-if, seen-while, seen-for, seen-else}
+use Rattle.tal_syntax.specs.Seen.{seen_expr, seen_direction, seen_step, seen_statement, seen_otherwise, seen_row}
+use Rattle.tal_syntax.proofs.SeenSteps.{seen-block, seen-if, seen-while, seen-for, seen-do, seen-else}
 use Rattle.tal_names.specs.Faults.{least}
 use Rattle.tal_rules.specs.Statements.{stepped, after, after_else, after_row, statement_faults, else_faults, row_faults}
 use Rattle.tal_rules.proofs.StatementSteps.{block-walk, block-least, if-walk, if-least, while-least, for-least}
+use Rattle.tal_rules.proofs.StatementSteps.{do-least}
 use Rattle.tal_names.proofs.Turns.{turn_faults, turn_after}
 use Rattle.tal_rules.proofs.statement.+statement.Goals as goal
 
@@ -153,11 +154,13 @@ pub judge_statement-returns-in_ok-judged-in-For-clause-walk :
 judge_statement-returns-in_ok-judged-in-For-clause-walk t c =
     let seen : seen_statement c.args.statement.now
     ≡ g.for_do c.in-For.head.head c.in-For.head.at c.in-For.head.name c.in-For.head.set_at
-    (seen_expr c.in-For.head.from) c.in-For.head.to_at (seen_expr c.in-For.head.to) c.in-For.head.do_at
+    (seen_expr c.in-For.head.from) (seen_direction c.in-For.head.direction) (seen_expr c.in-For.head.to)
+    (seen_step c.in-For.head.step) c.in-For.head.do_at
     (seen_statement c.get-in-For.result.now) =
     ap seen_statement c.in-For.is ∙ seen-for c.in-For.head c.in-For.body
     ∙ ap (λ x. g.for_do c.in-For.head.head c.in-For.head.at c.in-For.head.name c.in-For.head.set_at
-    (seen_expr c.in-For.head.from) c.in-For.head.to_at (seen_expr c.in-For.head.to) c.in-For.head.do_at
+    (seen_expr c.in-For.head.from) (seen_direction c.in-For.head.direction) (seen_expr c.in-For.head.to)
+    (seen_step c.in-For.head.step) c.in-For.head.do_at
     (seen_statement x)) (sym c.get-in-For.ensures) in
     c.stepped-in-For-2.ensures
     ∙ ap stepped (c.in_ok-judged-in-For.ensures.walk
@@ -172,19 +175,21 @@ judge_statement-returns-in_ok-judged-in-For-clause-least t c =
     c.stepped-inside.ensures ∙ ap stepped c.stepped-in-For.ensures in
     let seen : seen_statement c.args.statement.now
     ≡ g.for_do c.get-head.result.now.head c.get-head.result.now.at c.get-head.result.now.name
-    c.get-head.result.now.set_at (seen_expr c.get-head.result.now.from) c.get-head.result.now.to_at
-    (seen_expr c.get-head.result.now.to) c.get-head.result.now.do_at (seen_statement c.get-in-For.result.now) =
+    c.get-head.result.now.set_at (seen_expr c.get-head.result.now.from)
+    (seen_direction c.get-head.result.now.direction) (seen_expr c.get-head.result.now.to)
+    (seen_step c.get-head.result.now.step) c.get-head.result.now.do_at (seen_statement c.get-in-For.result.now) =
     ap seen_statement c.in-For.is ∙ seen-for c.in-For.head c.in-For.body
     ∙ ap (λ x. g.for_do c.in-For.head.head c.in-For.head.at c.in-For.head.name c.in-For.head.set_at
-    (seen_expr c.in-For.head.from) c.in-For.head.to_at (seen_expr c.in-For.head.to) c.in-For.head.do_at
+    (seen_expr c.in-For.head.from) (seen_direction c.in-For.head.direction) (seen_expr c.in-For.head.to)
+    (seen_step c.in-For.head.step) c.in-For.head.do_at
     (seen_statement x)) (sym c.get-in-For.ensures)
-    ∙ ap (λ y. g.for_do y.head y.at y.name y.set_at (seen_expr y.from) y.to_at (seen_expr y.to) y.do_at
-    (seen_statement c.get-in-For.result.now)) (sym c.get-head.ensures) in
+    ∙ ap (λ y. g.for_do y.head y.at y.name y.set_at (seen_expr y.from) (seen_direction y.direction) (seen_expr y.to)
+    (seen_step y.step) y.do_at (seen_statement c.get-in-For.result.now)) (sym c.get-head.ensures) in
     c.judge_number.ensures
     ∙ for-least c.args.scope.now c.args.walk c.in_ok-judged-in-For.judged.walk c.get-head.result.now.head
-    c.get-head.result.now.at c.get-head.result.now.set_at c.get-head.result.now.to_at c.get-head.result.now.do_at
-    c.get-head.result.now.name
-    (seen_expr c.get-head.result.now.from) (seen_expr c.get-head.result.now.to)
+    c.get-head.result.now.at c.get-head.result.now.set_at c.get-head.result.now.do_at c.get-head.result.now.name
+    (seen_expr c.get-head.result.now.from) (seen_direction c.get-head.result.now.direction)
+    (seen_expr c.get-head.result.now.to) (seen_step c.get-head.result.now.step)
     (seen_statement c.get-in-For.result.now) c.args.so_far c.judge_for_head-so_far.result
     c.in_ok-judged-in-For.judged.least
     (c.in_ok-judged-in-For.ensures.walk ∙ ap (λ x. after c.args.scope.now x (seen_statement c.get-in-For.result.now))
@@ -193,4 +198,40 @@ judge_statement-returns-in_ok-judged-in-For-clause-least t c =
     (c.in_ok-judged-in-For.ensures.least ∙ ap
     (λ x. least c.judge_for_head-so_far.result
     (statement_faults c.args.scope.now x (seen_statement c.get-in-For.result.now))) inside)
+    ∙ ap (λ x. least c.args.so_far (statement_faults c.args.scope.now c.args.walk x)) (sym seen)
+
+pub judge_statement-returns-in_ok-judged-in-DoUntil-clause-walk :
+    goal.judge_statement-returns-in_ok-judged-in-DoUntil-clause-walk
+judge_statement-returns-in_ok-judged-in-DoUntil-clause-walk t c =
+    let seen : seen_statement c.args.statement.now
+    ≡ g.do_until c.in-DoUntil.until.head (seen_statement c.get-in-DoUntil.result.now) c.in-DoUntil.until.at
+    (seen_expr c.in-DoUntil.until.test) =
+    ap seen_statement c.in-DoUntil.is ∙ seen-do c.in-DoUntil.body c.in-DoUntil.until
+    ∙ ap (λ x. g.do_until c.in-DoUntil.until.head (seen_statement x) c.in-DoUntil.until.at
+    (seen_expr c.in-DoUntil.until.test)) (sym c.get-in-DoUntil.ensures) in
+    c.stepped-in-DoUntil.ensures
+    ∙ ap stepped (c.in_ok-judged-in-DoUntil.ensures.walk
+    ∙ ap (λ x. after c.args.scope.now x (seen_statement c.get-in-DoUntil.result.now)) c.inside_do.ensures)
+    ∙ ap (after c.args.scope.now c.args.walk) (sym seen)
+
+pub judge_statement-returns-in_ok-judged-in-DoUntil-clause-least :
+    goal.judge_statement-returns-in_ok-judged-in-DoUntil-clause-least
+judge_statement-returns-in_ok-judged-in-DoUntil-clause-least t c =
+    let seen : seen_statement c.args.statement.now
+    ≡ g.do_until c.get-in-DoUntil-2.result.now.head (seen_statement c.get-in-DoUntil.result.now)
+    c.in-DoUntil.until.at (seen_expr c.get-in-DoUntil-2.result.now.test) =
+    ap seen_statement c.in-DoUntil.is ∙ seen-do c.in-DoUntil.body c.in-DoUntil.until
+    ∙ ap (λ x. g.do_until c.in-DoUntil.until.head (seen_statement x) c.in-DoUntil.until.at
+    (seen_expr c.in-DoUntil.until.test)) (sym c.get-in-DoUntil.ensures)
+    ∙ ap (λ y. g.do_until y.head (seen_statement c.get-in-DoUntil.result.now) c.in-DoUntil.until.at
+    (seen_expr y.test)) (sym c.get-in-DoUntil-2.ensures) in
+    c.judge_until.ensures
+    ∙ do-least c.args.scope.now c.args.walk c.in_ok-judged-in-DoUntil.judged.walk c.get-in-DoUntil-2.result.now.head
+    c.in-DoUntil.until.at (seen_statement c.get-in-DoUntil.result.now) (seen_expr c.get-in-DoUntil-2.result.now.test)
+    c.args.so_far c.in_ok-judged-in-DoUntil.judged.least
+    (c.in_ok-judged-in-DoUntil.ensures.walk
+    ∙ ap (λ x. after c.args.scope.now x (seen_statement c.get-in-DoUntil.result.now)) c.inside_do.ensures)
+    (c.in_ok-judged-in-DoUntil.ensures.least
+    ∙ ap (λ x. least c.args.so_far (statement_faults c.args.scope.now x (seen_statement c.get-in-DoUntil.result.now)))
+    c.inside_do.ensures)
     ∙ ap (λ x. least c.args.so_far (statement_faults c.args.scope.now c.args.walk x)) (sym seen)
