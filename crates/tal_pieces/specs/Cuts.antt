@@ -18,8 +18,10 @@ use Rattle.tal_pieces.specs.Spelling.{system_text}
 abbrev pub keyword_token : At → Keyword → Token
 keyword_token at word.And = tok.And at
 keyword_token at word.Begin = tok.Begin at
+keyword_token at word.By = tok.By at
 keyword_token at word.Call = tok.Call at
 keyword_token at word.Do = tok.Do at
+keyword_token at word.DownTo = tok.DownTo at
 keyword_token at word.Else = tok.Else at
 keyword_token at word.End = tok.End at
 keyword_token at word.For = tok.For at
@@ -32,6 +34,7 @@ keyword_token at word.Proc = tok.Proc at
 keyword_token at word.Return = tok.Return at
 keyword_token at word.Then = tok.Then at
 keyword_token at word.To = tok.To at
+keyword_token at word.Until = tok.Until at
 keyword_token at word.While = tok.While at
 
 abbrev pub symbol_token : At → Symbol → Token

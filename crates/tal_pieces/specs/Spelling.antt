@@ -17,8 +17,10 @@ use Rattle.tal_pieces.specs.declared.ending.Ending.TheVariants as ending
 abbrev pub keyword_text : Keyword → List ℕ
 keyword_text word.And = codes "AND"
 keyword_text word.Begin = codes "BEGIN"
+keyword_text word.By = codes "BY"
 keyword_text word.Call = codes "CALL"
 keyword_text word.Do = codes "DO"
+keyword_text word.DownTo = codes "DOWNTO"
 keyword_text word.Else = codes "ELSE"
 keyword_text word.End = codes "END"
 keyword_text word.For = codes "FOR"
@@ -31,6 +33,7 @@ keyword_text word.Proc = codes "PROC"
 keyword_text word.Return = codes "RETURN"
 keyword_text word.Then = codes "THEN"
 keyword_text word.To = codes "TO"
+keyword_text word.Until = codes "UNTIL"
 keyword_text word.While = codes "WHILE"
 
 abbrev pub symbol_text : Symbol → List ℕ

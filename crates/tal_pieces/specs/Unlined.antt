@@ -3,8 +3,8 @@ use Rattle.std.specs.Prelude.{◌≡◌, List, [], ◌∷◌, map}
 use Rattle.tal_tree.specs.declared.program.Procedure.{Procedure}
 use Rattle.tal_tree.specs.declared.program.Program.{Program}
 use Rattle.tal_tree.specs.declared.statement.Statement.{Statement}
-use Rattle.tal_tree.specs.declared.statement.What.{What, If', While', For', Row_of-Statement, end_of-Statement}
-use Rattle.tal_tree.specs.declared.statement.What.{more_of-Statement}
+use Rattle.tal_tree.specs.declared.statement.What.{What, If', While', For', DoUntil', Row_of-Statement}
+use Rattle.tal_tree.specs.declared.statement.What.{end_of-Statement, more_of-Statement}
 use Rattle.tal_tree.specs.declared.statement.What.TheVariants as what
 
 -- a statement with all lines taken as 0, its own and those of the statements in it
@@ -12,7 +12,9 @@ abbrev mutual
   pub unlined_what : What → What
   unlined_what (If' test _ first _ second) = what.If test (unlined_row first) (unlined_row second)
   unlined_what (While' test _ body) = what.While test (unlined_row body)
-  unlined_what (For' counter from to _ body last) = what.For counter from to (unlined_row body) last
+  unlined_what (For' counter from to down step _ body last) =
+      what.For counter from to down step (unlined_row body) last
+  unlined_what (DoUntil' _ body test) = what.DoUntil (unlined_row body) test
   unlined_what other = other
 
   pub unlined_row : {n : _} → Row_of-Statement n → List Statement

@@ -8,9 +8,9 @@ use Rattle.tal_tree.specs.declared.expression.Cond.{more_of-Cond}
 use Rattle.tal_tree.specs.declared.program.Item.{Item}
 use Rattle.tal_tree.specs.declared.program.Procedure.{Procedure}
 use Rattle.tal_tree.specs.declared.statement.Statement.{Statement}
-use Rattle.tal_tree.specs.declared.statement.What.{What, Assign, AssignCall, If', While', For', Call, Return}
-use Rattle.tal_tree.specs.declared.statement.What.{ReadUpdate, Reply, WriteRead, Checkpoint, CheckMonitor, Open, Stop}
-use Rattle.tal_tree.specs.declared.statement.What.{Row_of-Statement, end_of-Statement, more_of-Statement}
+use Rattle.tal_tree.specs.declared.statement.What.{What, Assign, AssignCall, If', While', For', DoUntil', Call}
+use Rattle.tal_tree.specs.declared.statement.What.{Return, ReadUpdate, Reply, WriteRead, Checkpoint, CheckMonitor, Open}
+use Rattle.tal_tree.specs.declared.statement.What.{Stop, Row_of-Statement, end_of-Statement, more_of-Statement}
 
 abbrev mutual
   pub value_weight : Expr → ℕ
@@ -63,7 +63,9 @@ abbrev mutual
   what_weight (AssignCall to number values) = spot_weight to + values_weight values + 8
   what_weight (If' test _ first _ second) = test_weight test + row_weight first + row_weight second + 10
   what_weight (While' test _ body) = test_weight test + row_weight body + 6
-  what_weight (For' counter from to _ body last) = value_weight from + value_weight to + row_weight body + 9
+  what_weight (For' counter from to down step _ body last) =
+      value_weight from + value_weight to + row_weight body + 12
+  what_weight (DoUntil' _ body test) = test_weight test + row_weight body + 6
   what_weight (Call number values) = values_weight values + 8
   what_weight (Return given) = answer_weight given + 2
   what_weight (ReadUpdate buffer most got) = value_weight most + 20

@@ -9,8 +9,10 @@ use tal_names::System;
 pub enum Keyword {
     And,
     Begin,
+    By,
     Call,
     Do,
+    DownTo,
     Else,
     End,
     For,
@@ -23,6 +25,7 @@ pub enum Keyword {
     Return,
     Then,
     To,
+    Until,
     While,
 }
 
@@ -34,8 +37,10 @@ impl Keyword {
         match self {
             Keyword::And => b"AND",
             Keyword::Begin => b"BEGIN",
+            Keyword::By => b"BY",
             Keyword::Call => b"CALL",
             Keyword::Do => b"DO",
+            Keyword::DownTo => b"DOWNTO",
             Keyword::Else => b"ELSE",
             Keyword::End => b"END",
             Keyword::For => b"FOR",
@@ -48,6 +53,7 @@ impl Keyword {
             Keyword::Return => b"RETURN",
             Keyword::Then => b"THEN",
             Keyword::To => b"TO",
+            Keyword::Until => b"UNTIL",
             Keyword::While => b"WHILE",
         }
     }

@@ -14,7 +14,8 @@ use Rattle.tal_pieces.specs.Weights.{value_weight, spot_weight, test_weight, val
 use Rattle.tal_pieces.specs.Weights.{statements_weight, items_weight, procedures_weight}
 use Rattle.tal_pieces.specs.Printed.Names.{named, target_piece}
 use Rattle.tal_pieces.specs.Printed.Expressions.{value_pieces, spot_pieces, test_pieces, more_values, arguments}
-use Rattle.tal_pieces.specs.Printed.Statements.{what_pieces, inner_pieces, body_pieces, more_statements, kept}
+use Rattle.tal_pieces.specs.Printed.Statements.{step_pieces, what_pieces, inner_pieces, body_pieces, more_statements}
+use Rattle.tal_pieces.specs.Printed.Statements.{kept}
 use Rattle.tal_pieces.specs.Printed.Statements.{more_items, more_files}
 use Rattle.tal_pieces.specs.Printed.Procedures.{word_if, items_pieces, parameters_pieces, more_names, locals_pieces}
 use Rattle.tal_pieces.specs.Printed.Procedures.{procedures_pieces, main_pieces}
@@ -26,6 +27,7 @@ part_pieces p locals (part.Spot spot) ks = spot_pieces p locals spot.now ks
 part_pieces p locals (part.Test rank cond) ks = test_pieces p locals rank cond.now ks
 part_pieces p locals (part.Values exprs) ks = more_values p locals exprs.now ks
 part_pieces p locals (part.What what) ks = what_pieces p locals what.now ks
+part_pieces p locals (part.Step step) ks = step_pieces step ks
 part_pieces p locals (part.Inner statements) ks = inner_pieces p locals statements.now ks
 part_pieces p locals (part.Statements statements) ks = more_statements p locals statements.now ks
 part_pieces p locals (part.Arguments exprs) ks = arguments p locals exprs.now ks
@@ -59,6 +61,7 @@ part_weight (part.Spot spot) = spot_weight spot.now
 part_weight (part.Test rank cond) = test_weight cond.now
 part_weight (part.Values exprs) = values_weight exprs.now
 part_weight (part.What what) = what_weight what.now
+part_weight (part.Step step) = 3
 part_weight (part.Inner statements) = statements_weight statements.now + 3
 part_weight (part.Statements statements) = statements_weight statements.now
 part_weight (part.Arguments exprs) = values_weight exprs.now + 4
@@ -84,7 +87,8 @@ system_layer (What-F.Assign to expr) = false
 system_layer (What-F.AssignCall to number values) = false
 system_layer (What-F.If test first second) = false
 system_layer (What-F.While test body) = false
-system_layer (What-F.For counter from to body last) = false
+system_layer (What-F.For counter from to down step body last) = false
+system_layer (What-F.DoUntil body test) = false
 system_layer (What-F.Call number values) = false
 system_layer (What-F.Return answer) = true
 system_layer (What-F.ReadUpdate buffer most got) = true

@@ -12,7 +12,8 @@ use crate::procedures::{
     back, front, take_items, take_locals, take_main, take_names, take_parameters, take_procedures,
 };
 use crate::statements::{
-    take_body, take_checkpoint, take_files, take_inner, take_kept, take_statements, take_what,
+    take_body, take_checkpoint, take_files, take_inner, take_kept, take_statements, take_step,
+    take_what,
 };
 use crate::work::{Part, Work, WorkList};
 use gd_words::{Ident, List, NoMemory};
@@ -39,6 +40,7 @@ fn take<'a>(
         Part::Arguments(exprs) => take_arguments(program, locals, exprs, list)?,
         Part::Values(exprs) => take_values(program, locals, exprs, list)?,
         Part::What(what) => take_what(program, locals, what, list)?,
+        Part::Step(step) => take_step(program, locals, step, list)?,
         Part::Inner(statements) => take_inner(program, locals, statements, list)?,
         Part::Statements(statements) => take_statements(program, locals, statements, list)?,
         Part::Body(statements) => take_body(program, locals, statements, list)?,

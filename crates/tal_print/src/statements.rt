@@ -1,10 +1,11 @@
 ghost use Rattle.std.specs.Prelude.{◌≡◌, ◌<◌, ◌+◌, ℕ, [], ◌∷◌, length, true, OnOk, pos};
 ghost use Rattle.std.specs.Option.{option_copied};
+ghost use Rattle.tal_pieces.specs.Printed.Statements as printed;
 ghost use Rattle.tal_pieces.specs.Printed.Statements.{body_pieces, inner_pieces, kept, more_files, more_items};
-ghost use Rattle.tal_pieces.specs.Printed.Statements.{more_statements, what_pieces};
+ghost use Rattle.tal_pieces.specs.Printed.Statements.{more_statements, step_pieces, what_pieces};
 ghost use Rattle.tal_print.specs.Work.{pieces_left, returns_or_calls_the_system, work_left};
 ghost use Rattle.tal_pieces.specs.Weights.{list_weight, statements_weight, what_weight};
-ghost use Rattle.tal_tree.specs.declared.statement.What.{AssignCall, Call, If, While, For};
+ghost use Rattle.tal_tree.specs.declared.statement.What.{AssignCall, Call, If, While, For, DoUntil};
 
 use crate::names::{file_name, item_name, procedure_name, variable_name};
 use crate::system_calls::{take_open, take_read_update, take_reply, take_return, take_write_read};
@@ -266,25 +267,75 @@ pub fn take_for<'a>(
     variable: Variable,
     from: &'a Expr,
     to: &'a Expr,
+    down: bool,
+    step: i16,
     body: &'a List<Statement>,
     list: &mut WorkList<'a>,
 ) -> Result<(), NoMemory>
     ensures pieces { OnOk result ((last : ℕ)
         → pieces_left program.now locals.now list.new.works.items
-        ≡ what_pieces program.now locals.now (For variable from.now to.now body.now last)
+        ≡ what_pieces program.now locals.now (For variable from.now to.now down step body.now last)
         (pieces_left program.now locals.now list.old.works.items)) }
     ensures less { OnOk result ((last : ℕ) → work_left list.new.works.items
-        < what_weight (For variable from.now to.now body.now last) + work_left list.old.works.items) }
+        < what_weight (For variable from.now to.now down step body.now last) + work_left list.old.works.items) }
 {
     list.put(&[
         Work::Word(Keyword::For),
         Work::Name(variable_name(program, locals, variable)),
         Work::Sign(Symbol::Assign),
         Work::Part(Part::Value(ValueRank::Sum, from)),
-        Work::Word(Keyword::To),
+        Work::Word(direction_word(down)),
         Work::Part(Part::Value(ValueRank::Sum, to)),
+        Work::Part(Part::Step(step)),
         Work::Word(Keyword::Do),
         Work::Part(Part::Inner(body.as_slice())),
+    ])?;
+    Ok(())
+}
+
+/// The word that says which way a FOR counts.
+fn direction_word(down: bool) -> Keyword
+    ensures { result ≡ printed.direction_word down }
+{
+    if down { Keyword::DownTo } else { Keyword::To }
+}
+
+/// Takes what a FOR counts by apart: 1 isn't written.
+pub fn take_step<'a>(
+    program: &'a Program,
+    locals: &'a [Ident],
+    step: i16,
+    list: &mut WorkList<'a>,
+) -> Result<(), NoMemory>
+    ensures pieces { OnOk result (pieces_left program.now locals.now list.new.works.items
+        ≡ step_pieces step (pieces_left program.now locals.now list.old.works.items)) }
+    ensures less { OnOk result (work_left list.new.works.items < 3 + work_left list.old.works.items) }
+{
+    if step > 1 {
+        list.put(&[Work::Word(Keyword::By), Work::Number(step)])?;
+    }
+    Ok(())
+}
+
+/// Takes a DO apart.
+pub fn take_do<'a>(
+    program: &'a Program,
+    locals: &'a [Ident],
+    body: &'a List<Statement>,
+    test: &'a Cond,
+    list: &mut WorkList<'a>,
+) -> Result<(), NoMemory>
+    ensures pieces { OnOk result (pieces_left program.now locals.now list.new.works.items
+        ≡ what_pieces program.now locals.now (DoUntil body.now test.now)
+        (pieces_left program.now locals.now list.old.works.items)) }
+    ensures less { OnOk result (work_left list.new.works.items
+        < what_weight (DoUntil body.now test.now) + work_left list.old.works.items) }
+{
+    list.put(&[
+        Work::Word(Keyword::Do),
+        Work::Part(Part::Inner(body.as_slice())),
+        Work::Word(Keyword::Until),
+        Work::Part(Part::Test(TestRank::Or, test)),
     ])?;
     Ok(())
 }
@@ -360,9 +411,14 @@ pub fn take_what<'a>(
             variable,
             from,
             to,
+            down,
+            step,
             body,
             last: _,
-        } => take_for(program, locals, *variable, from, to, body, list)?,
+        } => take_for(
+            program, locals, *variable, from, to, *down, *step, body, list,
+        )?,
+        What::DoUntil { body, test } => take_do(program, locals, body, test, list)?,
         What::Call {
             procedure,
             arguments,

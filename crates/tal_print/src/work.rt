@@ -18,6 +18,8 @@ pub enum Part<'a> {
     /// More values of a list, a comma before each.
     Values(&'a [Expr]),
     What(&'a What),
+    /// What a FOR counts by, where it isn't 1.
+    Step(i16),
     /// Statements in the place of one.
     Inner(&'a [Statement]),
     /// More statements, a semicolon before each.

@@ -19,6 +19,8 @@ WHILE (x >= y) OR ((y <= 1) AND ((x <> y) AND (x > 0))) DO x := 1;
 x := x - (y - i); x := (x - y) - i; x := x * (y / i);
 x := (x * y) + -(x + i) * i; x := - - 5; x := far + low; a[-1] := a[a[low] + 1];
 FOR i := 1 TO x + 1 DO; FOR i := low TO 2 DO BEGIN x := i; FOR y := 1 TO 2 DO y := i END;
+FOR i := 5 DOWNTO low BY 2 DO x := i; FOR i := 1 TO 2 BY 1 DO; IF x THEN DO x := 1 UNTIL y ELSE y := 1;
+DO x := 1 UNTIL (x = 1) OR y; DO BEGIN x := 1; y := 2 END UNTIL (y); DO BEGIN END UNTIL 1;
 x := one; a[x] := h(-x, a[0]); CALL one; CALL h(1, 2);
 CALL CHECKPOINT; CALL CHECKPOINT(g); CALL CHECKPOINT(g, x, a);
 WHILE 1 DO BEGIN CALL READUPDATE(f, a, 1, i); CALL WRITEREAD(g, a, 3, 1, i); CALL REPLY(a, 1); END;
@@ -68,6 +70,15 @@ BEGIN
     X := I;
     FOR Y := 1 TO 2 DO Y := I
   END;
+  FOR I := 5 DOWNTO %177777 BY 2 DO X := I;
+  FOR I := 1 TO 2 DO;
+  IF X THEN DO X := 1 UNTIL Y ELSE Y := 1;
+  DO X := 1 UNTIL X = 1 OR Y;
+  DO BEGIN
+    X := 1;
+    Y := 2
+  END UNTIL Y;
+  DO UNTIL 1;
   X := ONE;
   A[X] := H(- X, A[0]);
   CALL ONE;

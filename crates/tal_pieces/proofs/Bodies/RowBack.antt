@@ -20,11 +20,11 @@ use Rattle.tal_pieces.specs.Cuts.{AreTokens}
 use Rattle.tal_pieces.specs.Printed.Statements.{what_pieces, inner_pieces, more_statements, body_pieces}
 use Rattle.tal_pieces.specs.Unlined.{unlined_statements}
 use Rattle.tal_pieces.proofs.Values.Back.{First, first}
-use Rattle.tal_pieces.proofs.Bodies.LayersBack.{if_back, while_back, for_back}
+use Rattle.tal_pieces.proofs.Bodies.LayersBack.{if_back, while_back, for_back, do_back}
 use Rattle.tal_pieces.proofs.Bodies.LoneBack.{lone_back}
 use Rattle.tal_pieces.proofs.Bodies.OpenBack.{monitor_back, open_back}
-use Rattle.tal_pieces.proofs.Standing.Stands.{Stands, lone, monitors, opens, tests, loops, counts, StandsIn, empty, one}
-use Rattle.tal_pieces.proofs.Standing.Stands.{several, Row, ended, goes_on}
+use Rattle.tal_pieces.proofs.Standing.Stands.{Stands, lone, monitors, opens, tests, loops, counts, repeats, StandsIn}
+use Rattle.tal_pieces.proofs.Standing.Stands.{empty, one, several, Row, ended, goes_on}
 use Rattle.tal_faultless.proofs.Scopes.SourceScopes.{without_files}
 use Rattle.tal_pieces.proofs.Bodies.StatementsBack.{StatementBack, RowBack, BodyBack, InnerReadBack, RowsReadBack}
 use Rattle.tal_pieces.proofs.Bodies.StatementsBack.{BodiesReadBack}
@@ -111,9 +111,11 @@ module _ (p : Program) (locals : List (List ℕ)) (s : Scope) (f : Files) where
         (λ later others held. inner_back y later others held) a
     stands_back (loops counted c x) ks tokens a =
         while_back p locals s f _ _ _ _ _ _ ks tokens counted c (λ later others held. inner_back x later others held) a
-    stands_back (counts named from to x counted) ks tokens a =
-        for_back p locals s f _ _ _ _ _ _ _ _ ks tokens named from to
+    stands_back (counts named from to fine x counted) ks tokens a =
+        for_back p locals s f _ _ _ _ _ _ _ _ _ _ ks tokens named from to fine
         (λ later others held. inner_back x later others held) counted a
+    stands_back (repeats c x counted) ks tokens a =
+        do_back p locals s f _ _ _ _ _ _ ks tokens c (λ later others held. inner_back x later others held) counted a
 
     inner_back : {n : ℕ} {w : Walk} {xs : List Statement} {v : Walk} → StandsIn p locals s f n w xs v
         → (ks : List Piece) (tokens : List Token)

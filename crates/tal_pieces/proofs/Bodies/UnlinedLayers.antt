@@ -1,6 +1,6 @@
 -- Statements without lines, one layer at a time.
-use Rattle.std.proofs.Common.{◌≡◌, ℕ, List, [], ◌∷◌, ◌++◌, refl, ap, ◌∙◌}
-use Rattle.tal_tree.specs.Rows.{if-is, while-is, for-is, rows}
+use Rattle.std.proofs.Common.{◌≡◌, ℕ, ℤ, Bool, List, [], ◌∷◌, ◌++◌, refl, ap, ◌∙◌}
+use Rattle.tal_tree.specs.Rows.{if-is, while-is, for-is, do-is, rows}
 use Rattle.tal_tree.specs.declared.expression.Cond.{Cond}
 use Rattle.tal_tree.specs.declared.expression.Expr.{Expr}
 use Rattle.tal_tree.specs.declared.expression.Variable.{Variable}
@@ -21,10 +21,16 @@ pub unlined_while : (c : Cond) (body : List Statement)
     → unlined_what (what.While c body) ≡ what.While c (unlined_statements body)
 unlined_while c body = ap unlined_what (while-is c body) ∙ ap (what.While c) (unlined_row_is body)
 
-pub unlined_for : (x : Variable) (from to : Expr) (body : List Statement) (last : ℕ)
-    → unlined_what (what.For x from to body last) ≡ what.For x from to (unlined_statements body) last
-unlined_for x from to body last =
-    ap unlined_what (for-is x from to body last) ∙ ap (λ xs. what.For x from to xs last) (unlined_row_is body)
+pub unlined_for : (x : Variable) (from to : Expr) (down : Bool) (step : ℤ) (body : List Statement) (last : ℕ)
+    → unlined_what (what.For x from to down step body last)
+    ≡ what.For x from to down step (unlined_statements body) last
+unlined_for x from to down step body last =
+    ap unlined_what (for-is x from to down step body last)
+    ∙ ap (λ xs. what.For x from to down step xs last) (unlined_row_is body)
+
+pub unlined_do : (body : List Statement) (c : Cond)
+    → unlined_what (what.DoUntil body c) ≡ what.DoUntil (unlined_statements body) c
+unlined_do body c = ap unlined_what (do-is body c) ∙ ap (λ xs. what.DoUntil xs c) (unlined_row_is body)
 
 pub unlined_append : (xs ys : List Statement)
     → unlined_statements (xs ++ ys) ≡ unlined_statements xs ++ unlined_statements ys

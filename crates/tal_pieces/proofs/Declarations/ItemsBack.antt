@@ -94,7 +94,7 @@ item_fine d i at b x bounds fine =
     nils (nils (silent (is_taken d.names i.name) at Twice fine.free) bounds)
     (ap (λ e. item_limits d at e.words) x
     ∙ nils (nils (silent (nat_le 64 (length d.items)) at (Limit 1) fine.few)
-    (silent (nat_lt 512 (d.words + (extent_by i.shape).words)) at (Limit 2) fine.room))
+    (silent (nat_lt 1024 (d.words + (extent_by i.shape).words)) at (Limit 2) fine.room))
     (silent (nat_lt 256 (extent_by i.shape).words) at (Limit 3) fine.small))
 
 items_back : (d : Declared) (items : List Item) (ks : List Piece) (tokens : List Token) → AreDeclarable d items

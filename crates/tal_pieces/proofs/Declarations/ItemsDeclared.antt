@@ -77,7 +77,7 @@ printed_extent d name x fresh = λ i. record {
   names = with_other_name d.names name (item_meaning x.shape (length d.items)) (no_literal x.shape (length d.items))
       fresh i;
   items = d.items ++ record { name = name; shape = x.shape } ∷ [];
-  words = min 513 (d.words + x.words);
+  words = min 1025 (d.words + x.words);
 }
 
 -- what each part of a line declares

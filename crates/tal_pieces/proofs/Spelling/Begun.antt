@@ -68,8 +68,10 @@ pub keyword_begun : (here : Cursor) (k : Keyword) (rest : List ℕ)
     → BeginsWith here (keyword_text k) rest (λ at. keyword_token at k)
 keyword_begun here word.And rest ends = word_begun here 65 (codes "ND") rest refl refl refl refl refl ends
 keyword_begun here word.Begin rest ends = word_begun here 66 (codes "EGIN") rest refl refl refl refl refl ends
+keyword_begun here word.By rest ends = word_begun here 66 (codes "Y") rest refl refl refl refl refl ends
 keyword_begun here word.Call rest ends = word_begun here 67 (codes "ALL") rest refl refl refl refl refl ends
 keyword_begun here word.Do rest ends = word_begun here 68 (codes "O") rest refl refl refl refl refl ends
+keyword_begun here word.DownTo rest ends = word_begun here 68 (codes "OWNTO") rest refl refl refl refl refl ends
 keyword_begun here word.Else rest ends = word_begun here 69 (codes "LSE") rest refl refl refl refl refl ends
 keyword_begun here word.End rest ends = word_begun here 69 (codes "ND") rest refl refl refl refl refl ends
 keyword_begun here word.For rest ends = word_begun here 70 (codes "OR") rest refl refl refl refl refl ends
@@ -82,6 +84,7 @@ keyword_begun here word.Proc rest ends = word_begun here 80 (codes "ROC") rest r
 keyword_begun here word.Return rest ends = word_begun here 82 (codes "ETURN") rest refl refl refl refl refl ends
 keyword_begun here word.Then rest ends = word_begun here 84 (codes "HEN") rest refl refl refl refl refl ends
 keyword_begun here word.To rest ends = word_begun here 84 (codes "O") rest refl refl refl refl refl ends
+keyword_begun here word.Until rest ends = word_begun here 85 (codes "NTIL") rest refl refl refl refl refl ends
 keyword_begun here word.While rest ends = word_begun here 87 (codes "HILE") rest refl refl refl refl refl ends
 
 pub system_begun : (here : Cursor) (s : System) (rest : List ℕ) → heads stops rest ≡ true

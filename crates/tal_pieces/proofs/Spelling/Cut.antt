@@ -53,8 +53,10 @@ piece_begun here (piece.Process name) rest h ends = process_begun here name rest
 some_keyword : (k : _) → 0 < length (keyword_text k)
 some_keyword word.And = omega arith
 some_keyword word.Begin = omega arith
+some_keyword word.By = omega arith
 some_keyword word.Call = omega arith
 some_keyword word.Do = omega arith
+some_keyword word.DownTo = omega arith
 some_keyword word.Else = omega arith
 some_keyword word.End = omega arith
 some_keyword word.For = omega arith
@@ -67,6 +69,7 @@ some_keyword word.Proc = omega arith
 some_keyword word.Return = omega arith
 some_keyword word.Then = omega arith
 some_keyword word.To = omega arith
+some_keyword word.Until = omega arith
 some_keyword word.While = omega arith
 
 some_symbol : (s : _) → 0 < length (symbol_text s)

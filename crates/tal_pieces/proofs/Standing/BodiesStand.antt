@@ -1,20 +1,24 @@
 -- The statements of a text without faults keep the rules where they stand, in the printed text's scope.
-use Rattle.std.proofs.Common.{◌≡◌, ℕ, suc, List, [], ◌∷◌, nat_lt, refl, arith}
+use Rattle.std.proofs.Common.{◌≡◌, ℕ, suc, ℤ, pos, int_lt, false, List, [], ◌∷◌, nat_lt, Option, Some, None, refl}
+use Rattle.std.proofs.Common.{arith}
+use Rattle.std.specs.Prelude.{unwrap_or}
 use Rattle.tal_tree.specs.declared.program.Program.{Program}
 use Rattle.tal_tree.specs.declared.statement.Statement.{Statement}
 use Rattle.tal_syntax.specs.Grammar as g
 use Rattle.tal_syntax.specs.Expected.{AllAtMost}
-use Rattle.tal_syntax.specs.Nesting.{nest_expr, nest_statement, nest_otherwise, nest_row}
-use Rattle.tal_names.specs.declared.fault.Rule.TheVariants.{Limit}
+use Rattle.tal_syntax.specs.Nesting.{nest_expr, nest_step, nest_statement, nest_otherwise, nest_row}
+use Rattle.tal_names.specs.declared.fault.Rule.TheVariants.{Limit, WrongKind}
 use Rattle.tal_declarations.specs.declared.table.Files.{Files}
 use Rattle.tal_names.specs.declared.scope.Scope.{Scope}
 use Rattle.tal_rules.specs.declared.walk.Walk.{Walk}
-use Rattle.tal_declarations.specs.Files.{statement_files, else_files, row_files}
+use Rattle.tal_declarations.specs.Files.{named_in, statement_files, else_files, row_files}
+use Rattle.tal_declarations.specs.Globals.{atom_of, constant_value, first_of_constant}
 use Rattle.tal_names.specs.Systems.{system_of}
 use Rattle.tal_names.specs.Places.{arguments_of, first_of_spot, name_of_expr}
-use Rattle.tal_rules.specs.Statements.{stepped, after, after_else, after_row, statement_faults, else_faults, row_faults}
+use Rattle.tal_rules.specs.Statements.{stepped, inside_do, after, after_else, after_row, is_below_one, step_faults}
+use Rattle.tal_rules.specs.Statements.{statement_faults, else_faults, row_faults}
 use Rattle.tal_names.specs.Scopes.{meaning_of}
-use Rattle.tal_meaning.specs.Statements.{statements_of, else_statements, row_statements}
+use Rattle.tal_meaning.specs.Statements.{step_of, statements_of, else_statements, row_statements}
 use Rattle.tal_pieces.proofs.Scopes.Agreement.{Agreement, Extends, OpenedSoFar, printed_scope}
 use Rattle.tal_pieces.proofs.Standing.ArgumentsFit.{low_arguments}
 use Rattle.tal_pieces.proofs.Standing.CallsStand.{call_stand}
@@ -25,8 +29,8 @@ use Rattle.tal_pieces.proofs.Standing.LoneStands.{return_stands, assign_stands, 
 use Rattle.tal_pieces.proofs.Standing.Lower.{low_row, row_append, of_block}
 use Rattle.tal_faultless.proofs.Scopes.SourceNames.{SourceNames}
 use Rattle.tal_pieces.proofs.Standing.SourceStands.{BodiesStand}
-use Rattle.tal_pieces.proofs.Standing.Stands.{Stands, lone, tests, loops, counts, StandsIn, empty, one, Row, ended}
-use Rattle.tal_pieces.proofs.Standing.Stands.{goes_on}
+use Rattle.tal_pieces.proofs.Standing.Stands.{Stands, lone, tests, loops, counts, repeats, StandsIn, empty, one, Row}
+use Rattle.tal_pieces.proofs.Standing.Stands.{ended, goes_on}
 use Rattle.tal_faultless.proofs.Scopes.SourceScopes.{without_files}
 use Rattle.tal_faultless.proofs.Common.Faultless.{split, refuted}
 
@@ -46,6 +50,17 @@ module _ (p : Program) (locals : List (List ℕ)) (s : Scope) (all : Files) (agr
   single : {n : ℕ} {w : Walk} {x : Statement} {v : Walk} {f : Files} → Stands p locals (printed_scope s) all n w x v
       → OpenedSoFar v.files f → BodyStands n w (x ∷ []) v f
   single x opened = record { row = goes_on x ended; inner = one x; opened = opened }
+
+  -- a FOR without faults counts by 1 or more
+  by_value : (value : Option ℤ) → is_below_one value ≡ false → int_lt (unwrap_or value (pos 1)) (pos 1) ≡ false
+  by_value None fine = refl
+  by_value (Some value) fine = fine
+
+  step_fine : (step : g.Step) → step_faults s step ≡ [] → int_lt (step_of s step) (pos 1) ≡ false
+  step_fine g.step_one fine = refl
+  step_fine (g.step_by at c) fine =
+      let value : Option ℤ = constant_value c (named_in s (atom_of c)) in
+      by_value value (refuted (is_below_one value) (first_of_constant c) WrongKind (split fine).1)
 
   mutual
     stand : (x : g.Statement) (n : ℕ) (w : Walk) (f : Files) (ls : List ℕ) → OpenedSoFar w.files f
@@ -88,19 +103,30 @@ module _ (p : Program) (locals : List (List ℕ)) (s : Scope) (all : Files) (agr
         (levels.after_expr s 33 test (suc n) (suc n ∷ nest_statement (suc n) t ls) low.1).1 in
         single (loops (refuted (nat_lt 2000 w.number) head (Limit 7) counted.0)
         (fits_test p locals s agreed test (suc n) (suc n ∷ nest_statement (suc n) t ls) low.1) x.inner) x.opened
-    stand (g.for_do head at name set_at from to_at to do_at t) n w f ls so_far more none low =
+    stand (g.for_do head at name set_at from direction to step do_at t) n w f ls so_far more none low =
         let parts = split none in
         let body = split parts.0 in
-        let values = split body.0 in
+        let steps = split body.0 in
+        let values = split steps.0 in
         let named = split values.0 in
-        let to_levels = suc n ∷ nest_statement (suc n) t ls in
+        let body_levels = suc n ∷ nest_statement (suc n) t ls in
+        let to_levels = nest_step (suc n) step body_levels in
         let low_to = (levels.after_expr s 33 from (suc n) (suc n ∷ nest_expr (suc n) to to_levels) low.1.1.1).1 in
         let x = stand t (suc n) (stepped (stepped w)) f ls so_far more body.1
-        (levels.after_expr s 33 to (suc n) to_levels low_to).1 in
+        (levels.after_step s 33 step (suc n) body_levels (levels.after_expr s 33 to (suc n) to_levels low_to)).1 in
         single (counts (named_variable p locals s agreed at name (meaning_of s name) refl named.0)
         (fits_value p locals s agreed from (suc n) (suc n ∷ nest_expr (suc n) to to_levels) low.1.1.1)
-        (fits_value p locals s agreed to (suc n) to_levels low_to) x.inner
+        (fits_value p locals s agreed to (suc n) to_levels low_to) (step_fine step steps.1) x.inner
         (refuted (nat_lt 2000 (after s (stepped (stepped w)) t).number) head (Limit 7) parts.1)) x.opened
+    stand (g.do_until head t at test) n w f ls so_far more none low =
+        let parts = split none in
+        let counted = split parts.1 in
+        let test_levels = suc n ∷ nest_expr (suc n) test ls in
+        let x = stand t (suc n) (inside_do w) f test_levels so_far more parts.0 low.1 in
+        single (repeats
+        (fits_test p locals s agreed test (suc n) ls (levels.after_statement s 33 t (suc n) test_levels low.1).1)
+        x.inner
+        (refuted (nat_lt 2000 (after s (inside_do w) t).number) head (Limit 7) counted.0)) x.opened
     stand (g.call head at name a) n w f ls so_far more none low =
         let parts = split none in
         let x = call_stand p locals s all agreed names files_are names_are n w f head at name (arguments_of a)

@@ -76,7 +76,8 @@ module _ (s : Scope) where
     statement_grows (g.if_then head test then_at t o) f =
         extends_on (else_grows o (statement_files s f t)) (statement_grows t f)
     statement_grows (g.while_do head test do_at t) f = statement_grows t f
-    statement_grows (g.for_do head at name set_at from to_at to do_at t) f = statement_grows t f
+    statement_grows (g.for_do head at name set_at from direction to step do_at t) f = statement_grows t f
+    statement_grows (g.do_until head t at test) f = statement_grows t f
     statement_grows (g.call head at name a) f = call_grows f (arguments_of a) (system_of name)
     statement_grows (g.return head a) f = extends_itself f
     statement_grows (g.assign target at e) f = extends_itself f

@@ -3,7 +3,7 @@ use Rattle.std.proofs.Common.{ℕ, suc, List, ◌∷◌}
 use Rattle.tal_syntax.specs.Grammar as g
 use Rattle.tal_syntax.specs.Expected.{AllAtMost}
 use Rattle.tal_syntax.specs.Nesting.{nest_expr, nest_spot, nest_argument, nest_further, nest_arguments, nest_values}
-use Rattle.tal_syntax.specs.Nesting.{nest_answer, nest_statement, nest_otherwise, nest_row}
+use Rattle.tal_syntax.specs.Nesting.{nest_answer, nest_step, nest_statement, nest_otherwise, nest_row}
 use Rattle.tal_names.specs.declared.scope.Scope.{Scope}
 use Rattle.tal_pieces.proofs.Values.Deepest.{low_expr, low_index}
 
@@ -40,6 +40,13 @@ module _ (s : Scope) (most : ℕ) where
   after_answer g.no_answer n ls h = h
   after_answer (g.answer e) n ls h = after_expr e n ls h
 
+  pub after_step : (x : g.Step) (n : ℕ) (ls : List ℕ) → AllAtMost most (nest_step n x ls) → AllAtMost most ls
+  after_step g.step_one n ls h = h
+  after_step (g.step_by by (g.positive (g.digits at value))) n ls h = h.1.1
+  after_step (g.step_by by (g.positive (g.known at name))) n ls h = h.1.1
+  after_step (g.step_by by (g.negative sign (g.digits at value))) n ls h = h.1.1.1
+  after_step (g.step_by by (g.negative sign (g.known at name))) n ls h = h.1.1.1
+
   mutual
     pub after_statement : (x : g.Statement) (n : ℕ) (ls : List ℕ) → AllAtMost most (nest_statement n x ls)
         → AllAtMost most ls
@@ -51,9 +58,13 @@ module _ (s : Scope) (most : ℕ) where
         (after_expr test (suc n) (suc n ∷ nest_statement (suc n) t (nest_otherwise (suc n) o ls)) h.1).1)
     after_statement (g.while_do head test do_at t) n ls h =
         after_statement t (suc n) ls (after_expr test (suc n) (suc n ∷ nest_statement (suc n) t ls) h.1).1
-    after_statement (g.for_do head at name set_at from to_at to do_at t) n ls h =
-        after_statement t (suc n) ls (after_expr to (suc n) (suc n ∷ nest_statement (suc n) t ls)
-        (after_expr from (suc n) (suc n ∷ nest_expr (suc n) to (suc n ∷ nest_statement (suc n) t ls)) h.1.1.1).1).1
+    after_statement (g.for_do head at name set_at from direction to step do_at t) n ls h =
+        let body : List ℕ = suc n ∷ nest_statement (suc n) t ls in
+        after_statement t (suc n) ls (after_step step (suc n) body
+        (after_expr to (suc n) (nest_step (suc n) step body)
+        (after_expr from (suc n) (suc n ∷ nest_expr (suc n) to (nest_step (suc n) step body)) h.1.1.1).1)).1
+    after_statement (g.do_until head t at test) n ls h =
+        after_expr test (suc n) ls (after_statement t (suc n) (suc n ∷ nest_expr (suc n) test ls) h.1).1
     after_statement (g.call head at name a) n ls h = after_arguments a (suc n) ls h.1.1
     after_statement (g.return head a) n ls h = after_answer a (suc n) ls h.1
     after_statement (g.assign target at e) n ls h =

@@ -12,8 +12,8 @@ use Rattle.tal_names.specs.declared.scope.Scope.{Scope}
 use Rattle.tal_rules.specs.declared.walk.Walk.{Walk}
 use Rattle.tal_pieces.proofs.Standing.Stands.{FitsValue, FitsTest, FitsSpot, FitsArguments, Lone, assigns, assigns_call}
 use Rattle.tal_pieces.proofs.Standing.Stands.{calls, returns, gives, reads, replies, asks, keeps_nothing, keeps, stops}
-use Rattle.tal_pieces.proofs.Standing.Stands.{Stands, lone, monitors, opens, tests, loops, counts, StandsIn, empty, one}
-use Rattle.tal_pieces.proofs.Standing.Stands.{several, Row, ended, goes_on}
+use Rattle.tal_pieces.proofs.Standing.Stands.{Stands, lone, monitors, opens, tests, loops, counts, repeats}
+use Rattle.tal_pieces.proofs.Standing.Stands.{StandsIn, empty, one, several, Row, ended, goes_on}
 
 module _ (p : Program) (locals : List (List ℕ)) (s : Scope) where
   low_value : {n : ℕ} {e : Expr} (m : ℕ) → m ≤ n → FitsValue p locals s n e → FitsValue p locals s m e
@@ -61,9 +61,11 @@ module _ (p : Program) (locals : List (List ℕ)) (s : Scope) where
           (low_inner second (suc m) (omega (arith, below)))
       low_stands (loops counted c body) m below =
           loops counted (low_test (suc m) (omega (arith, below)) c) (low_inner body (suc m) (omega (arith, below)))
-      low_stands (counts x from to body counted) m below =
-          counts x (low_value (suc m) (omega (arith, below)) from) (low_value (suc m) (omega (arith, below)) to)
+      low_stands (counts x from to step body counted) m below =
+          counts x (low_value (suc m) (omega (arith, below)) from) (low_value (suc m) (omega (arith, below)) to) step
           (low_inner body (suc m) (omega (arith, below))) counted
+      low_stands (repeats c body counted) m below =
+          repeats (low_test (suc m) (omega (arith, below)) c) (low_inner body (suc m) (omega (arith, below))) counted
 
       pub low_inner : {n : ℕ} {w : Walk} {xs : List Statement} {v : Walk} → StandsIn p locals s f n w xs v → (m : ℕ)
           → m ≤ n → StandsIn p locals s f m w xs v

@@ -1,8 +1,9 @@
 -- Statements of a tree that keep the rules where they stand: at a level, after what stands before them and before what
 -- stands after them. The names of the program stand in the scope for what they name in the tree, and no token stands
 -- deeper than 33 levels.
-use Rattle.std.specs.Prelude.{◌≡◌, ◌≤◌, ℕ, ◌+◌, suc, nat_lt, nat_le, ◌&&◌, ◌||◌, Bool, true, false, pos, List, [], ◌∷◌}
-use Rattle.std.specs.Prelude.{length, take, slice_get, Option, Some, None}
+use Rattle.std.specs.Prelude.{◌≡◌, ◌≤◌, ℕ, ◌+◌, suc, nat_lt, nat_le, ◌&&◌, ◌||◌, Bool, true, false, ℤ, pos, int_lt}
+use Rattle.std.specs.Prelude.{List, []}
+use Rattle.std.specs.Prelude.{◌∷◌, length, take, slice_get, Option, Some, None}
 use Rattle.tal_tree.specs.declared.expression.Cond.{Cond}
 use Rattle.tal_tree.specs.declared.expression.Expr.{Expr}
 use Rattle.tal_tree.specs.declared.expression.Spot.{Spot}
@@ -23,7 +24,7 @@ use Rattle.tal_rules.specs.Calls.{is_depth}
 use Rattle.tal_names.specs.Systems.{system_of}
 use Rattle.tal_names.specs.Names.{Declarations, is_declared, meaning_in, with_name}
 use Rattle.tal_names.specs.Scopes.{meaning_of}
-use Rattle.tal_rules.specs.Statements.{next_number, next_file, stepped}
+use Rattle.tal_rules.specs.Statements.{next_number, next_file, stepped, inside_do}
 use Rattle.tal_pieces.specs.declared.rank.TestRank.TheVariants as test
 use Rattle.tal_pieces.specs.declared.rank.ValueRank.TheVariants as value
 use Rattle.tal_pieces.proofs.Values.Depths.{value_depth, spot_depth}
@@ -159,12 +160,17 @@ module _ (p : Program) (locals : List (List ℕ)) (s : Scope) where
         loops : {n : ℕ} {w v : Walk} {line : ℕ} {c : Cond} {body : List Statement} → IsCounted w → FitsTest (suc n) c
             → StandsIn (suc n) (stepped w) body v
             → Stands n w (record { number = w.number; line = line; what = what.While c body }) v
-        counts : {n : ℕ} {w v : Walk} {line : ℕ} {x : Variable} {from to : Expr} {body : List Statement}
+        counts : {n : ℕ} {w v : Walk} {line : ℕ} {x : Variable} {from to : Expr} {down : Bool} {step : ℤ}
+            {body : List Statement}
             → IsNamedVariable x
-            → FitsValue (suc n) from → FitsValue (suc n) to → StandsIn (suc n) (stepped (stepped w)) body v
+            → FitsValue (suc n) from → FitsValue (suc n) to → int_lt step (pos 1) ≡ false
+            → StandsIn (suc n) (stepped (stepped w)) body v
             → IsCounted v
-            → Stands n w (record { number = w.number; line = line; what = what.For x from to body v.number })
+            → Stands n w (record { number = w.number; line = line; what = what.For x from to down step body v.number })
             (stepped v)
+        repeats : {n : ℕ} {w v : Walk} {line : ℕ} {body : List Statement} {c : Cond} → FitsTest (suc n) c
+            → StandsIn (suc n) (inside_do w) body v → IsCounted v
+            → Stands n w (record { number = v.number; line = line; what = what.DoUntil body c }) (stepped v)
 
       -- statements in the place of one
       pub data StandsIn : ℕ → Walk → List Statement → Walk → Type 0 where

@@ -1,6 +1,8 @@
 -- The pieces and the weight of one more layer of a tree.
-use Rattle.std.proofs.Common.{◌≡◌, ◌≤◌, ℕ, zero, suc, ◌+◌, List, [], ◌∷◌, take, drop, refl, ap, ap₂, ◌∙◌, arith}
-use Rattle.tal_tree.specs.Rows.{read-is, minus-is, two-is, not-is, and-is, or-is, if-is, while-is, for-is, rows}
+use Rattle.std.proofs.Common.{◌≡◌, ◌≤◌, ℕ, ℤ, zero, suc, ◌+◌, Bool, List, [], ◌∷◌, take, drop, refl, ap, ap₂, ◌∙◌}
+use Rattle.std.proofs.Common.{arith}
+use Rattle.tal_tree.specs.Rows.{read-is, minus-is, two-is, not-is, and-is, or-is, if-is, while-is, for-is, do-is}
+use Rattle.tal_tree.specs.Rows.{rows}
 use Rattle.tal_tree.specs.declared.expression.Op.{Op}
 use Rattle.tal_tree.specs.declared.expression.Spot.{Spot}
 use Rattle.tal_tree.specs.declared.expression.Expr.{Expr, Read, Minus, Two}
@@ -8,7 +10,7 @@ use Rattle.tal_tree.specs.declared.expression.Cond.{Cond, Not, And, Or}
 use Rattle.tal_tree.specs.declared.expression.Variable.{Variable}
 use Rattle.tal_tree.specs.declared.program.Program.{Program}
 use Rattle.tal_tree.specs.declared.statement.Statement.{Statement}
-use Rattle.tal_tree.specs.declared.statement.What.{If, While, For}
+use Rattle.tal_tree.specs.declared.statement.What.{If, While, For, DoUntil}
 use Rattle.tal_pieces.specs.declared.piece.Keyword.TheVariants as word
 use Rattle.tal_pieces.specs.declared.piece.Symbol.TheVariants as sign
 use Rattle.tal_pieces.specs.declared.piece.Piece.{Piece}
@@ -20,7 +22,8 @@ use Rattle.tal_pieces.specs.declared.rank.TestRank.TheVariants as test
 use Rattle.tal_pieces.specs.Printed.Expressions.{opening, closing, op_symbol, value_needs, left_rank, right_rank}
 use Rattle.tal_pieces.specs.Printed.Expressions.{and_needs, or_needs, value_pieces, spot_pieces, test_pieces}
 use Rattle.tal_pieces.specs.Printed.Names.{named, variable_name}
-use Rattle.tal_pieces.specs.Printed.Statements.{what_pieces, inner_pieces, more_statements, inner_row, more_row}
+use Rattle.tal_pieces.specs.Printed.Statements.{direction_word, step_pieces, what_pieces, inner_pieces}
+use Rattle.tal_pieces.specs.Printed.Statements.{more_statements, inner_row, more_row}
 use Rattle.tal_pieces.specs.Weights.{value_weight, spot_weight, test_weight, what_weight, row_weight, statements_weight}
 use Rattle.tal_pieces.specs.Weights.{list_weight}
 
@@ -113,19 +116,29 @@ pieces_while p locals cond body ks =
     ∙ ap (λ xs. piece.Keyword word.While ∷ test_pieces p locals test.Or cond (piece.Keyword word.Do ∷ xs))
     (inner_is p locals body ks)
 
-pub pieces_for : (p : Program) (locals : List (List ℕ)) (counter : Variable) (from to : Expr) (body : List Statement)
-    (last : ℕ) (ks : List Piece)
-    → what_pieces p locals (For counter from to body last) ks
+pub pieces_for : (p : Program) (locals : List (List ℕ)) (counter : Variable) (from to : Expr) (down : Bool) (step : ℤ)
+    (body : List Statement) (last : ℕ) (ks : List Piece)
+    → what_pieces p locals (For counter from to down step body last) ks
     ≡ piece.Keyword word.For ∷ named (variable_name p locals counter)
     (piece.Symbol sign.Assign ∷ value_pieces p locals value.Sum from
-    (piece.Keyword word.To ∷ value_pieces p locals value.Sum to
-    (piece.Keyword word.Do ∷ inner_pieces p locals body ks)))
-pieces_for p locals counter from to body last ks =
-    ap (λ w. what_pieces p locals w ks) (for-is counter from to body last)
+    (piece.Keyword (direction_word down) ∷ value_pieces p locals value.Sum to
+    (step_pieces step (piece.Keyword word.Do ∷ inner_pieces p locals body ks))))
+pieces_for p locals counter from to down step body last ks =
+    ap (λ w. what_pieces p locals w ks) (for-is counter from to down step body last)
     ∙ ap (λ xs. piece.Keyword word.For ∷ named (variable_name p locals counter)
     (piece.Symbol sign.Assign ∷ value_pieces p locals value.Sum from
-    (piece.Keyword word.To ∷ value_pieces p locals value.Sum to (piece.Keyword word.Do ∷ xs))))
+    (piece.Keyword (direction_word down) ∷ value_pieces p locals value.Sum to
+    (step_pieces step (piece.Keyword word.Do ∷ xs)))))
     (inner_is p locals body ks)
+
+pub pieces_do : (p : Program) (locals : List (List ℕ)) (body : List Statement) (cond : Cond) (ks : List Piece)
+    → what_pieces p locals (DoUntil body cond) ks
+    ≡ piece.Keyword word.Do ∷ inner_pieces p locals body
+    (piece.Keyword word.Until ∷ test_pieces p locals test.Or cond ks)
+pieces_do p locals body cond ks =
+    ap (λ w. what_pieces p locals w ks) (do-is body cond)
+    ∙ ap (λ xs. piece.Keyword word.Do ∷ xs)
+    (inner_is p locals body (piece.Keyword word.Until ∷ test_pieces p locals test.Or cond ks))
 
 pub weight_if : (cond : Cond) (first second : List Statement)
     → what_weight (If cond first second) ≡ test_weight cond + statements_weight first + statements_weight second + 10
@@ -137,11 +150,16 @@ pub weight_while : (cond : Cond) (body : List Statement)
     → what_weight (While cond body) ≡ test_weight cond + statements_weight body + 6
 weight_while cond body = ap what_weight (while-is cond body) ∙ ap (λ n. test_weight cond + n + 6) (row_weight_is body)
 
-pub weight_for : (counter : Variable) (from to : Expr) (body : List Statement) (last : ℕ)
-    → what_weight (For counter from to body last) ≡ value_weight from + value_weight to + statements_weight body + 9
-weight_for counter from to body last =
-    ap what_weight (for-is counter from to body last)
-    ∙ ap (λ n. value_weight from + value_weight to + n + 9) (row_weight_is body)
+pub weight_for : (counter : Variable) (from to : Expr) (down : Bool) (step : ℤ) (body : List Statement) (last : ℕ)
+    → what_weight (For counter from to down step body last)
+    ≡ value_weight from + value_weight to + statements_weight body + 12
+weight_for counter from to down step body last =
+    ap what_weight (for-is counter from to down step body last)
+    ∙ ap (λ n. value_weight from + value_weight to + n + 12) (row_weight_is body)
+
+pub weight_do : (body : List Statement) (cond : Cond)
+    → what_weight (DoUntil body cond) ≡ test_weight cond + statements_weight body + 6
+weight_do body cond = ap what_weight (do-is body cond) ∙ ap (λ n. test_weight cond + n + 6) (row_weight_is body)
 
 pub weight_front : (n : ℕ) (names : List (List ℕ)) → list_weight (take n names) ≤ list_weight names
 weight_front zero [] = omega arith

@@ -26,11 +26,11 @@ use Rattle.tal_pieces.proofs.Words.WordPrograms.{IsName, ShapeSpells, ItemSpells
 use Rattle.tal_pieces.proofs.Common.Entries.{each_append, Each}
 
 -- constants are words
-abbrev ValueFits : Option ℤ → Type 0
+abbrev pub ValueFits : Option ℤ → Type 0
 ValueFits None = Unit {0}
 ValueFits (Some value) = FitsSigned w16 value
 
-literal_fits : (found : Option Meaning) → FoundFits found → ValueFits (literal_value found)
+pub literal_fits : (found : Option Meaning) → FoundFits found → ValueFits (literal_value found)
 literal_fits None h = tt
 literal_fits (Some (m.Local place)) h = tt
 literal_fits (Some (m.Simple item)) h = tt
@@ -41,7 +41,7 @@ literal_fits (Some (m.ReceiveFile item number)) h = tt
 literal_fits (Some (m.ProcessFile item number)) h = tt
 literal_fits (Some (m.StrayFile item number)) h = tt
 
-negated_fits : (found : Option ℤ) → ValueFits (option_map negated found)
+pub negated_fits : (found : Option ℤ) → ValueFits (option_map negated found)
 negated_fits None = tt
 negated_fits (Some value) = SFits-int_wrap w16 (neg_ℤ value)
 

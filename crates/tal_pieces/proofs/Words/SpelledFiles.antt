@@ -25,7 +25,7 @@ use Rattle.tal_pieces.specs.Printed.Names.{target_piece}
 use Rattle.tal_pieces.proofs.Words.LiteralWords.{MeaningFits, AreFitting, ScopeFits, scope_fits, with_fits}
 use Rattle.tal_pieces.proofs.Spelling.SpelledTokens.{either}
 use Rattle.tal_pieces.proofs.Words.SpelledSyntax.{AllSpelled, words_expr}
-use Rattle.tal_pieces.proofs.Words.SpelledStatements.{words_statement}
+use Rattle.tal_pieces.proofs.Words.SpelledStatements.{words_step, words_statement}
 use Rattle.tal_pieces.proofs.Words.WordTrees.{NamesSpell, UseSpells}
 use Rattle.tal_pieces.proofs.Common.Entries.{each_append, Each}
 
@@ -47,6 +47,9 @@ bare_fits = scope_fits bare tt tt tt
 
 pub rest_of_expr : (e : g.Expr) (ks : List Token) → AllSpelled (g.of_expr e ks) → AllSpelled ks
 rest_of_expr e ks h = (words_expr nothing [] nothing_named (λ k. tt) bare bare_fits e ks h).later
+
+rest_of_step : (x : g.Step) (ks : List Token) → AllSpelled (g.of_step x ks) → AllSpelled ks
+rest_of_step x ks h = (words_step bare bare_fits x ks h).1
 
 pub rest_of_statement : (t : g.Statement) (ks : List Token) → AllSpelled (g.of_statement t ks) → AllSpelled ks
 rest_of_statement t ks h =
@@ -157,9 +160,12 @@ module _ (s : Scope) where
         (rest_of_statement t (g.of_otherwise o ks) b.1)
     files_statement (g.while_do head test do_at t) f ks h a =
         files_statement t f ks h (rest_of_expr test (tok.Do do_at ∷ g.of_statement t ks) a.1).1
-    files_statement (g.for_do head at name set_at from to_at to do_at t) f ks h a =
-        let low = rest_of_expr from (tok.To to_at ∷ g.of_expr to (tok.Do do_at ∷ g.of_statement t ks)) a.1.1.1 in
-        files_statement t f ks h (rest_of_expr to (tok.Do do_at ∷ g.of_statement t ks) low.1).1
+    files_statement (g.for_do head at name set_at from direction to step do_at t) f ks h a =
+        let body : List Token = tok.Do do_at ∷ g.of_statement t ks in
+        let low = rest_of_expr from (g.of_direction direction ∷ g.of_expr to (g.of_step step body)) a.1.1.1 in
+        files_statement t f ks h (rest_of_step step body (rest_of_expr to (g.of_step step body) low.1)).1
+    files_statement (g.do_until head t at test) f ks h a =
+        files_statement t f (tok.Until at ∷ g.of_expr test ks) h a.1
     files_statement (g.call head at name arguments) f ks h a =
         files_called f (arguments_of arguments) (system_of name) h (target_arguments arguments ks a.1.1)
     files_statement (g.return head given) f ks h a = h

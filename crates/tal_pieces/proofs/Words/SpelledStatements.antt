@@ -1,6 +1,7 @@
 -- What the statements of a text stand for can be spelled.
-use Rattle.std.proofs.Common.{ℕ, zero, suc, List, [], ◌∷◌}
-use Rattle.std.specs.Prelude.{slice_get, Option, Some, None}
+use Rattle.std.proofs.Common.{ℕ, zero, suc, ℤ, pos, List, [], ◌∷◌, arith}
+use Rattle.std.specs.Int.{w16}
+use Rattle.std.specs.Prelude.{nat_le, slice_get, unwrap_or, Option, Some, None, FitsSigned}
 use Rattle.tal_tree.specs.declared.program.Program.{Program}
 use Rattle.tal_tree.specs.declared.statement.Statement.{Statement}
 use Rattle.tal_tree.specs.declared.statement.What.TheVariants as what
@@ -16,20 +17,61 @@ use Rattle.tal_names.specs.declared.system.System.TheVariants as system
 use Rattle.tal_names.specs.Systems.{system_of}
 use Rattle.tal_names.specs.Places.{name_of_expr, further_arguments, arguments_of}
 use Rattle.tal_names.specs.Scopes.{meaning_of}
-use Rattle.tal_rules.specs.Statements.{stepped, after}
+use Rattle.tal_declarations.specs.Files.{declared_before, named_in}
+use Rattle.tal_declarations.specs.Globals.{atom_value}
+use Rattle.tal_rules.specs.Statements.{stepped, inside_do, after}
 use Rattle.tal_meaning.specs.Calls.{value_of_argument, values_of_arguments, values_of, value_at, meaning_by, meaning_at}
 use Rattle.tal_meaning.specs.Calls.{item_by, variable_by, file_by, procedure_by, items_named, files_named, system_what}
 use Rattle.tal_meaning.specs.Calls.{call_what}
 use Rattle.tal_meaning.specs.Expressions.{value_of_expr, cond_of_expr, target_of_spot}
-use Rattle.tal_meaning.specs.Statements.{answer_of, assign_by, statements_of, else_statements, row_statements}
-use Rattle.tal_pieces.proofs.Words.LiteralWords.{ScopeFits}
+use Rattle.tal_meaning.specs.Statements.{answer_of, assign_by, is_down, step_of, statements_of, else_statements}
+use Rattle.tal_meaning.specs.Statements.{row_statements}
+use Rattle.tal_pieces.proofs.Spelling.SpelledTokens.{either}
+use Rattle.tal_pieces.proofs.Words.LiteralWords.{FoundFits, ScopeFits}
+use Rattle.tal_pieces.proofs.Words.SpelledDeclarations.{ValueFits, literal_fits, negated_fits}
 use Rattle.tal_pieces.proofs.Words.SpelledSyntax.{AllSpelled, zero_fits, words_expr, words_target}
 use Rattle.tal_pieces.proofs.Words.WordTrees.{NamesSpell, LocalsSpell, SpellsValue, SpellsSpot, SpellsWhat}
 use Rattle.tal_pieces.proofs.Words.WordTrees.{SpellsStatement, spells_number, spells_assign, spells_assign_call}
-use Rattle.tal_pieces.proofs.Words.WordTrees.{spells_if, spells_while, spells_for, spells_call, spells_return}
+use Rattle.tal_pieces.proofs.Words.WordTrees.{spells_if, spells_while, spells_for, spells_do, spells_call}
+use Rattle.tal_pieces.proofs.Words.WordTrees.{spells_return}
 use Rattle.tal_pieces.proofs.Words.WordTrees.{spells_answer, spells_read_update, spells_reply, spells_write_read}
 use Rattle.tal_pieces.proofs.Words.WordTrees.{spells_checkpoint, spells_monitor, spells_open, spells_stop}
 use Rattle.tal_pieces.proofs.Common.Entries.{each_append, Each}
+
+one_fits : FitsSigned w16 (pos 1)
+one_fits = omega arith
+
+-- what is declared before a place fits where what is declared does
+declared_fits : (number : ℕ) (found : Option Meaning) → FoundFits found → FoundFits (declared_before number found)
+declared_fits number None h = tt
+declared_fits number (Some (m.Local place)) h = h
+declared_fits number (Some (m.Simple item)) h = h
+declared_fits number (Some (m.Literal value)) h = h
+declared_fits number (Some (m.Array item)) h = h
+declared_fits number (Some (m.Procedure other gives parameters)) h =
+    either FoundFits (nat_le other number) (Some (m.Procedure other gives parameters)) None tt tt
+declared_fits number (Some (m.ReceiveFile item file)) h = h
+declared_fits number (Some (m.ProcessFile item file)) h = h
+declared_fits number (Some (m.StrayFile item file)) h = h
+
+or_one : (found : Option ℤ) → ValueFits found → FitsSigned w16 (unwrap_or found (pos 1))
+or_one None h = one_fits
+or_one (Some value) h = h
+
+-- what a FOR counts by is a word
+module _ (s : Scope) (fits : ScopeFits s) where
+  words_atom : (a : g.Atom) (ks : List Token) → AllSpelled (g.of_atom a ks)
+      → ValueFits (atom_value a (named_in s a)) × AllSpelled ks
+  words_atom (g.digits at value) ks h = h
+  words_atom (g.known at name) ks h = (literal_fits _ (declared_fits s.number (meaning_of s name) (fits name)), h.1)
+
+  pub words_step : (x : g.Step) (ks : List Token) → AllSpelled (g.of_step x ks)
+      → FitsSigned w16 (step_of s x) × AllSpelled ks
+  words_step g.step_one ks h = (one_fits, h)
+  words_step (g.step_by at (g.positive a)) ks h =
+      let r = words_atom a ks h.1 in (or_one (atom_value a (named_in s a)) r.0, r.1)
+  words_step (g.step_by at (g.negative sign a)) ks h =
+      (or_one _ (negated_fits (atom_value a (named_in s a))), (words_atom a ks h.1.1).1)
 
 module _ (p : Program) (locals : List (List ℕ)) (names : NamesSpell p) (own : LocalsSpell locals) (s : Scope)
     (fits : ScopeFits s) where
@@ -170,18 +212,26 @@ module _ (p : Program) (locals : List (List ℕ)) (names : NamesSpell p) (own : 
           (spells_while p locals names own (cond_of_expr s test) (statements_of s (stepped w) t) c.test body.0, tt),
           body.1,
         )
-    words_statement (g.for_do head at name set_at from to_at to do_at t) w ks h =
+    words_statement (g.for_do head at name set_at from direction to step do_at t) w ks h =
         let low = words_expr p locals names own s fits from
-        (tok.To to_at ∷ g.of_expr to (tok.Do do_at ∷ g.of_statement t ks)) h.1.1.1 in
-        let high = words_expr p locals names own s fits to (tok.Do do_at ∷ g.of_statement t ks) low.later.1 in
-        let body = words_statement t (stepped (stepped w)) ks high.later.1 in (
+        (g.of_direction direction ∷ g.of_expr to (g.of_step step (tok.Do do_at ∷ g.of_statement t ks))) h.1.1.1 in
+        let high = words_expr p locals names own s fits to (g.of_step step (tok.Do do_at ∷ g.of_statement t ks))
+        low.later.1 in
+        let by = words_step s fits step (tok.Do do_at ∷ g.of_statement t ks) high.later in
+        let body = words_statement t (stepped (stepped w)) ks by.1.1 in (
           (
             spells_for p locals names own (variable_by (meaning_of s name)) (value_of_expr s from) (value_of_expr s to)
-                (statements_of s (stepped (stepped w)) t)
-                (after s (stepped (stepped w)) t).number low.value high.value body.0,
+                (is_down direction) (step_of s step) (statements_of s (stepped (stepped w)) t)
+                (after s (stepped (stepped w)) t).number low.value high.value by.0 body.0,
             tt,
           ),
           body.1,
+        )
+    words_statement (g.do_until head t at test) w ks h =
+        let body = words_statement t (inside_do w) (tok.Until at ∷ g.of_expr test ks) h.1 in
+        let c = words_expr p locals names own s fits test ks body.1.1 in (
+          (spells_do p locals names own (statements_of s (inside_do w) t) (cond_of_expr s test) body.0 c.test, tt),
+          c.later,
         )
     words_statement (g.call head at name a) w ks h =
         let r = words_arguments a ks h.1.1 in

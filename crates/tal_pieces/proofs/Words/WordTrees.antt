@@ -1,5 +1,5 @@
 -- The printed parts of a tree can be spelled.
-use Rattle.std.proofs.Common.{◌≡◌, ℕ, Bool, true, false, List, [], ◌∷◌, sym, subst}
+use Rattle.std.proofs.Common.{◌≡◌, ℕ, ℤ, int_lt, if◌then◌else◌, Bool, true, false, List, [], ◌∷◌, sym, subst}
 use Rattle.std.specs.Prelude.{pos, slice_get, Option, Some, None, FitsSigned}
 use Rattle.std.specs.Int.{w16}
 use Rattle.std.specs.List.{position}
@@ -16,6 +16,7 @@ use Rattle.tal_tree.specs.declared.program.Program.{Program}
 use Rattle.tal_tree.specs.declared.statement.Statement.{Statement}
 use Rattle.tal_tree.specs.declared.statement.What.{What}
 use Rattle.tal_tree.specs.declared.statement.What.TheVariants as what
+use Rattle.tal_pieces.specs.declared.piece.Keyword.TheVariants as word
 use Rattle.tal_pieces.specs.declared.piece.Piece.{Piece}
 use Rattle.tal_pieces.specs.declared.piece.Piece.TheVariants as piece
 use Rattle.tal_pieces.specs.declared.rank.ValueRank.{ValueRank}
@@ -29,10 +30,10 @@ use Rattle.tal_pieces.specs.Printed.Expressions.{arguments}
 use Rattle.tal_pieces.specs.Printed.Names.{named, item_name, variable_name, procedure_name, file_name, receive_name}
 use Rattle.tal_pieces.specs.Printed.Names.{target_piece}
 use Rattle.tal_tree.specs.Targets.{receives}
-use Rattle.tal_pieces.specs.Printed.Statements.{what_pieces, inner_pieces, more_statements, body_pieces, more_files}
-use Rattle.tal_pieces.specs.Printed.Statements.{more_items, kept, open_pieces}
+use Rattle.tal_pieces.specs.Printed.Statements.{step_pieces, what_pieces, inner_pieces, more_statements, body_pieces}
+use Rattle.tal_pieces.specs.Printed.Statements.{more_files, more_items, kept, open_pieces}
 use Rattle.tal_pieces.proofs.Values.Layers.{pieces_read, pieces_minus, pieces_two, pieces_not, pieces_and, pieces_or}
-use Rattle.tal_pieces.proofs.Values.Layers.{pieces_if, pieces_while, pieces_for}
+use Rattle.tal_pieces.proofs.Values.Layers.{pieces_if, pieces_while, pieces_for, pieces_do}
 use Rattle.tal_pieces.proofs.Common.Entries.{Each}
 
 -- a name, where there is one, can be spelled, and a file's target and depth can
@@ -211,15 +212,28 @@ module _ (p : Program) (locals : List (List ℕ)) (names : NamesSpell p) (own : 
   spells_while c body hc hb ks k =
       moved (pieces_while p locals c body ks) (tt, hc test.Or _ (tt, spells_inner body hb ks k))
 
-  pub spells_for : (x : Variable) (from to : Expr) (body : List Statement) (last : ℕ) → SpellsValue p locals from
-      → SpellsValue p locals to
-      → Each (SpellsStatement p locals) body → SpellsWhat p locals (what.For x from to body last)
-  spells_for x from to body last hf ht hb ks k =
-      moved (pieces_for p locals x from to body last ks) (
+  step_well : (step : ℤ) → FitsSigned w16 step → (ks : List Piece) → AreSpellable ks
+      → AreSpellable (step_pieces step ks)
+  step_well step h ks k = by (int_lt (pos 1) step)
+    where
+      by : (b : Bool) → AreSpellable (if b then piece.Keyword word.By ∷ piece.Number step ∷ ks else ks)
+      by true = (tt, (h, k))
+      by false = k
+
+  pub spells_for : (x : Variable) (from to : Expr) (down : Bool) (step : ℤ) (body : List Statement) (last : ℕ)
+      → SpellsValue p locals from → SpellsValue p locals to → FitsSigned w16 step
+      → Each (SpellsStatement p locals) body → SpellsWhat p locals (what.For x from to down step body last)
+  spells_for x from to down step body last hf ht hs hb ks k =
+      moved (pieces_for p locals x from to down step body last ks) (
         tt,
         named_well (variable_name p locals x) _ (spells_variable x)
-            (tt, hf value.Sum _ (tt, ht value.Sum _ (tt, spells_inner body hb ks k))),
+            (tt, hf value.Sum _ (tt, ht value.Sum _ (step_well step hs _ (tt, spells_inner body hb ks k)))),
       )
+
+  pub spells_do : (body : List Statement) (c : Cond) → Each (SpellsStatement p locals) body → SpellsTest p locals c
+      → SpellsWhat p locals (what.DoUntil body c)
+  spells_do body c hb hc ks k =
+      moved (pieces_do p locals body c ks) (tt, spells_inner body hb _ (tt, hc test.Or ks k))
 
   pub spells_call : (number : ℕ) (es : List Expr) → Each (SpellsValue p locals) es
       → SpellsWhat p locals (what.Call number es)

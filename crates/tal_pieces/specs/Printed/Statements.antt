@@ -1,16 +1,18 @@
 -- The pieces of statements. Each IF has an ELSE, so that each ELSE belongs to the nearest IF; BEGIN .. END stands only
--- round two or more statements in the place of one.
-use Rattle.std.specs.Prelude.{ℕ, pos, List, [], ◌∷◌, slice_get, Option, Some, None}
+-- round two or more statements in the place of one. BY stands only before a constant above 1.
+use Rattle.std.specs.Prelude.{ℕ, ℤ, pos, int_lt, Bool, true, false, if◌then◌else◌, List, [], ◌∷◌, slice_get, Option}
+use Rattle.std.specs.Prelude.{Some, None}
 use Rattle.tal_tree.specs.declared.program.FileUse.{FileUse}
 use Rattle.tal_tree.specs.declared.program.Program.{Program}
 use Rattle.tal_tree.specs.declared.expression.Expr.{Expr}
 use Rattle.tal_tree.specs.declared.expression.Variable.{Variable}
 use Rattle.tal_tree.specs.declared.statement.Statement.{Statement}
-use Rattle.tal_tree.specs.declared.statement.What.{What, Assign, AssignCall, If', While', For', Call, Return}
-use Rattle.tal_tree.specs.declared.statement.What.{ReadUpdate, Reply, WriteRead, Checkpoint, CheckMonitor, Open, Stop}
-use Rattle.tal_tree.specs.declared.statement.What.{Row_of-Statement, end_of-Statement, more_of-Statement}
+use Rattle.tal_tree.specs.declared.statement.What.{What, Assign, AssignCall, If', While', For', DoUntil', Call}
+use Rattle.tal_tree.specs.declared.statement.What.{Return, ReadUpdate, Reply, WriteRead, Checkpoint, CheckMonitor, Open}
+use Rattle.tal_tree.specs.declared.statement.What.{Stop, Row_of-Statement, end_of-Statement, more_of-Statement}
 use Rattle.tal_names.specs.declared.system.System.{System}
 use Rattle.tal_names.specs.declared.system.System.TheVariants as system
+use Rattle.tal_pieces.specs.declared.piece.Keyword.{Keyword}
 use Rattle.tal_pieces.specs.declared.piece.Keyword.TheVariants as word
 use Rattle.tal_pieces.specs.declared.piece.Symbol.TheVariants as sign
 use Rattle.tal_pieces.specs.declared.piece.Piece.{Piece}
@@ -33,6 +35,14 @@ calling name ks = piece.Keyword word.Call ∷ piece.System name ∷ piece.Symbol
 
 abbrev pub close : List Piece → List Piece
 close ks = piece.Symbol sign.Close ∷ ks
+
+-- which way a FOR counts, and by how much
+abbrev pub direction_word : Bool → Keyword
+direction_word false = word.To
+direction_word true = word.DownTo
+
+abbrev pub step_pieces : ℤ → List Piece → List Piece
+step_pieces step ks = if int_lt (pos 1) step then piece.Keyword word.By ∷ piece.Number step ∷ ks else ks
 
 module _ (p : Program) where
   -- more names of a CHECKPOINT
@@ -91,10 +101,13 @@ module _ (p : Program) (locals : List (List ℕ)) where
         (piece.Keyword word.Then ∷ inner_row first (piece.Keyword word.Else ∷ inner_row second ks))
     what_pieces (While' cond _ body) ks =
         piece.Keyword word.While ∷ test_pieces p locals test.Or cond (piece.Keyword word.Do ∷ inner_row body ks)
-    what_pieces (For' counter from to _ body last) ks =
+    what_pieces (For' counter from to down step _ body last) ks =
         piece.Keyword word.For ∷ named (variable_name p locals counter)
         (piece.Symbol sign.Assign ∷ value_pieces p locals value.Sum from
-        (piece.Keyword word.To ∷ value_pieces p locals value.Sum to (piece.Keyword word.Do ∷ inner_row body ks)))
+        (piece.Keyword (direction_word down) ∷ value_pieces p locals value.Sum to
+        (step_pieces step (piece.Keyword word.Do ∷ inner_row body ks))))
+    what_pieces (DoUntil' _ body cond) ks =
+        piece.Keyword word.Do ∷ inner_row body (piece.Keyword word.Until ∷ test_pieces p locals test.Or cond ks)
     what_pieces (Call number values) ks =
         piece.Keyword word.Call ∷ named (procedure_name p number) (arguments p locals values ks)
     what_pieces (Return given) ks = piece.Keyword word.Return ∷ return_pieces given ks
