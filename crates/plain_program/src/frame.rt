@@ -1,7 +1,9 @@
 ghost use Rattle.std.specs.Prelude.{◌≡◌, ◌≤◌, ◌-◌, ◌∷◌, ◌++◌, length, drop, slice_set, IfOk, OnOk};
 ghost use Rattle.std.specs.Option.{option_map};
 ghost use Rattle.process_semantics.specs.Rests.{next_number, entry_number};
-ghost use Rattle.process_semantics.specs.State.{first_of, runs_of, frame_of, zeros};
+ghost use Rattle.tal_tree.specs.Statements.{body_before};
+ghost use Rattle.tal_tree.specs.declared.statement.What.{out-What};
+ghost use Rattle.process_semantics.specs.State.{Run, first_of, runs_of, frame_of, zeros};
 ghost use Rattle.process_semantics.specs.SeenEntries.{entry_of};
 
 use gd_words::{List, NoMemory};
@@ -99,15 +101,30 @@ impl<'a> Frame<'a> {
     }
 
     /// Puts statements before the other entries.
+    #[cycle(put)]
     pub fn put_all(&mut self, statements: &'a [Statement]) -> Result<(), NoMemory>
         ensures { OnOk result (self.new ≡ record self.old { rest = runs_of statements.now ++ self.old.rest }) }
     {
         let mut left = statements;
         while let Some((last, front)) = left.split_last() {
-            self.rest.push(Entry::Run(last))?;
+            self.put_statement(last)?;
             left = front;
         }
         Ok(())
+    }
+
+    /// Puts a statement before the other entries. A DO's body comes before its test.
+    #[cycle(put)]
+    fn put_statement(&mut self, statement: &'a Statement) -> Result<(), NoMemory>
+        ensures { OnOk result (self.new ≡ record self.old {
+          rest = runs_of (body_before (out-What statement.now.what)) ++ (Run statement.now ∷ self.old.rest);
+        }) }
+    {
+        self.rest.push(Entry::Run(statement))?;
+        match &statement.what {
+            What::DoUntil { body, test: _ } => self.put_all(body.as_slice()),
+            _ => Ok(()),
+        }
     }
 
     /// Sets a local, where it is there.
@@ -138,6 +155,8 @@ fn entry_number(entry: Entry<'_>) -> usize
                 variable: _,
                 from: _,
                 to: _,
+                down: _,
+                step: _,
                 body: _,
                 last,
             } => usize::from(*last),

@@ -6,12 +6,12 @@ ghost use Rattle.tal_values.specs.Value.{value_of, cell_of, truth_of};
 ghost use Rattle.process_semantics.specs.State.{Run, Test, Last, memory_of, runs_of};
 ghost use Rattle.process_semantics.specs.Changes.{variable_cell};
 ghost use Rattle.process_semantics.specs.Steps.{values_of, assigned, tested, entered, given, given_in, returned};
-ghost use Rattle.process_semantics.specs.Steps.{result_of, for_begun, inner_in, goes_round, tested_in, counted_in};
+ghost use Rattle.process_semantics.specs.Steps.{result_of, for_begun, inner_in, goes_round, next_word, tested_in, counted_in};
 ghost use Rattle.process_semantics.specs.Steps.{inner, or_ends};
 ghost use Rattle.process_semantics.specs.SeenEntries.{entry_of};
 
 use crate::execution::Execution;
-use gd_words::{List, NoMemory, wrap_add};
+use gd_words::{List, NoMemory, wrap_add, wrap_sub};
 use process_semantics::{Entry, variable_cell};
 use std::alloc::Global;
 use tal_tree::{Cond, Expr, Spot, Statement, Variable, What};
@@ -26,7 +26,7 @@ impl<'a> Execution<'a> {
             None => self.give_back(alloc, Some(0))?,
             Some(Entry::Run(statement)) => self.run(alloc, statement)?,
             Some(Entry::Test(statement)) => self.test(alloc, statement)?,
-            Some(Entry::Last(statement)) => self.count_up(statement),
+            Some(Entry::Last(statement)) => self.count_for(statement),
         }
         Ok(())
     }
@@ -50,9 +50,12 @@ impl<'a> Execution<'a> {
                 variable,
                 from,
                 to: _,
+                down: _,
+                step: _,
                 body: _,
                 last: _,
             } => self.begin_for(alloc, statement, *variable, from)?,
+            What::DoUntil { body, test } => self.go_back(alloc, statement, body.as_slice(), test)?,
             What::Call {
                 procedure,
                 arguments,
@@ -176,6 +179,30 @@ impl<'a> Execution<'a> {
         Ok(())
     }
 
+    fn go_back(
+        &mut self,
+        alloc: Global,
+        statement: &'a Statement,
+        body: &'a [Statement],
+        test: &Cond,
+    ) -> Result<(), NoMemory>
+        ensures { OnOk result (self.new ≡ record self.old {
+          state = or_ends self.old.state (tested self.old.state [] (runs_of body.now ++ Run statement.now ∷ [])
+              (truth_of (memory_of self.old.program self.old.state) test.now));
+        }) }
+    {
+        match truth(alloc, self.memory(), test)? {
+            None => self.end(),
+            Some(true) => self.done(),
+            Some(false) => {
+                self.done();
+                self.put(Entry::Run(statement))?;
+                self.put_all(body)?;
+            }
+        }
+        Ok(())
+    }
+
     fn begin_for(
         &mut self,
         alloc: Global,
@@ -210,12 +237,14 @@ impl<'a> Execution<'a> {
                 variable,
                 from: _,
                 to,
+                down,
+                step: _,
                 body,
                 last: _,
             } => {
                 let variable = self.memory().word(variable_cell(*variable));
                 let limit = value(alloc, self.memory(), to)?;
-                self.go_on(statement, body.as_slice(), at_most(variable, limit))?;
+                self.go_on(statement, body.as_slice(), within(*down, variable, limit))?;
             }
             _ => self.end(),
         }
@@ -246,7 +275,7 @@ impl<'a> Execution<'a> {
         Ok(())
     }
 
-    fn count_up(&mut self, statement: &Statement)
+    fn count_for(&mut self, statement: &Statement)
         ensures { self.new ≡ record self.old {
           state =
               or_ends self.old.state (counted_in self.old.program self.old.state (out-What statement.now.what));
@@ -257,6 +286,8 @@ impl<'a> Execution<'a> {
                 variable,
                 from: _,
                 to: _,
+                down,
+                step,
                 body: _,
                 last: _,
             } => {
@@ -264,7 +295,7 @@ impl<'a> Execution<'a> {
                 match self.memory().word(variable) {
                     None => self.end(),
                     Some(word) => {
-                        self.set_word(variable, wrap_add(word, 1));
+                        self.set_word(variable, next_word(*down, *step, word));
                         self.done();
                     }
                 }
@@ -338,12 +369,26 @@ impl<'a> Execution<'a> {
     }
 }
 
-fn at_most(variable: Option<i16>, limit: Option<i16>) -> Option<bool>
-    ensures { result ≡ goes_round variable limit }
+fn within(down: bool, variable: Option<i16>, limit: Option<i16>) -> Option<bool>
+    ensures { result ≡ goes_round down variable limit }
 {
     let variable = variable?;
     let limit = limit?;
-    Some(variable <= limit)
+    Some(if down {
+        variable >= limit
+    } else {
+        variable <= limit
+    })
+}
+
+fn next_word(down: bool, step: i16, word: i16) -> i16
+    ensures { result ≡ next_word down step word }
+{
+    if down {
+        wrap_sub(word, step)
+    } else {
+        wrap_add(word, step)
+    }
 }
 
 fn values(

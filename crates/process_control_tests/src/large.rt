@@ -10,7 +10,7 @@ use std::alloc::Global;
 use std::test::Fail;
 
 /// What stands before the names of the 54 arrays of the largest program.
-const HEAD: &[u8] = b"INT rcv, got, f1, f2, f3, f4, f5, f6, f7; INT buf[0:16]";
+const HEAD: &[u8] = b"INT rcv, got, f1, f2, f3, f4, f5, f6, f7; INT buf[0:42]";
 
 /// What stands between its declarations and the names in its CHECKPOINT.
 const BODY: &[u8] = b";
@@ -45,11 +45,11 @@ fn put_arrays(text: &mut List<u8>, after: &[u8]) -> Result<(), NoMemory> {
     Ok(())
 }
 
-/// A program with 64 globals of 512 words in all, and 8 files. Its CHECKPOINT names all of them but `$RECEIVE`.
+/// A program with 64 globals of 1,024 words in all, and 8 files. Its CHECKPOINT names all of them but `$RECEIVE`.
 fn large_text(alloc: Global) -> Result<List<u8>, NoMemory> {
     let mut text = List::new(alloc);
     text.extend_from_slice(HEAD)?;
-    put_arrays(&mut text, b"[0:8]")?;
+    put_arrays(&mut text, b"[0:17]")?;
     text.extend_from_slice(BODY)?;
     put_arrays(&mut text, b"")?;
     text.extend_from_slice(TAIL)?;
@@ -120,7 +120,7 @@ fn is_carried(alloc: Global, copies: &mut Copies<Process>) -> Result<bool, Fail>
         return Ok(false);
     }
     let sent = send(alloc, &mut copies.first)?.ok_or("no checkpoint")?;
-    if sent.image.body.len() != 3 + 1 + 56 + 504 || sent.image.files.len() != 7 {
+    if sent.image.body.len() != 3 + 1 + 56 + 1_016 || sent.image.files.len() != 7 {
         return Ok(false);
     }
     let message = worded(alloc, &sent)?.ok_or("no words")?;

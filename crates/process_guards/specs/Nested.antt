@@ -1,10 +1,11 @@
--- A program with a call inside an IF inside a FOR, and its states; a disc that has made many writes.
+-- A program with a call inside an IF inside a FOR, one with a call of a DO in a DO, and their states; a disc that has
+-- made many writes.
 use Rattle.std.specs.Prelude.{ℕ, ℤ, pos, negsuc, true, false, List, [], ◌∷◌, Option, None}
 use Rattle.tal_tree.specs.declared.program.Program.{Program}
 use Rattle.tal_tree.specs.declared.program.Shape.TheVariants as shape
 use Rattle.tal_tree.specs.declared.program.Target.TheVariants as target
 use Rattle.tal_tree.specs.declared.statement.Statement.{Statement}
-use Rattle.tal_tree.specs.declared.statement.What.{What, If, For, Call, Return, Checkpoint, Stop}
+use Rattle.tal_tree.specs.declared.statement.What.{What, If, For, DoUntil, Call, Return, Checkpoint, Stop}
 use Rattle.tal_tree.specs.declared.expression.Cond.{Truth}
 use Rattle.tal_tree.specs.declared.expression.Expr.{Number}
 use Rattle.tal_tree.specs.declared.expression.Variable.TheVariants.{Local}
@@ -28,7 +29,7 @@ calls = numbered 6 (Call 0 (Number (pos 5) ∷ []))
 
 -- its test has the number 4, and its last assignment 7
 abbrev pub repeats : Statement
-repeats = numbered 3 (For (Local 0) (Number (pos 1)) (Number (pos 9))
+repeats = numbered 3 (For (Local 0) (Number (pos 1)) (Number (pos 9)) false (pos 1)
     (numbered 5 (If (Truth (Number (pos 1))) (calls ∷ []) []) ∷ []) 7)
 
 abbrev pub stops : Statement
@@ -79,6 +80,41 @@ ended = Runs nested (record {
   awaits = false;
   ended = true;
 })
+
+-- a DO in a DO, and a RETURN in the inner one: the numbers of their tests stand behind it
+abbrev pub leaves : Statement
+leaves = numbered 1 (Return None)
+
+abbrev pub inner_loop : Statement
+inner_loop = numbered 2 (DoUntil (leaves ∷ []) (Truth (Number (pos 0))))
+
+abbrev pub outer_loop : Statement
+outer_loop = numbered 3 (DoUntil (inner_loop ∷ []) (Truth (Number (pos 1))))
+
+-- a FOR that counts down by 2; its test has the number 5
+abbrev pub enters : Statement
+enters = numbered 6 (Call 0 [])
+
+abbrev pub counts_down : Statement
+counts_down = numbered 4 (For (Local 0) (Number (pos 9)) (Number (pos 1)) true (pos 2) (enters ∷ []) 7)
+
+abbrev pub looping : Program
+looping = record nested {
+  procedures = procedure_of false 0 [] (outer_loop ∷ [])
+      ∷ procedure_of false 0 ((73 ∷ []) ∷ []) (counts_down ∷ stops ∷ []) ∷ [];
+}
+
+-- that program at its beginning, and with a request in hand where these frames run
+abbrev pub looping_fresh : ProcessState
+looping_fresh = Runs looping (start looping)
+
+abbrev pub in_loops : List Frame → ProcessState
+in_loops frames = Runs looping (record (start looping) { frames = frames; in_hand = true })
+
+-- the frame of the procedure with the DOs, where these entries remain, before MAIN
+abbrev pub inside_call : List Entry → List Frame
+inside_call rest = record { procedure = 0; locals = []; rest = rest }
+    ∷ main_at (Run enters ∷ Last counts_down ∷ Test counts_down ∷ Run stops ∷ []) ∷ []
 
 -- a disc after 171,072 writes, which are twice 65,536 and 40,000
 abbrev pub disc_at : Point → Option (List ℤ) → Option (List ℤ) → ProcessState

@@ -6,6 +6,8 @@ ghost use Rattle.process_semantics.specs.Disc.{disc_start};
 ghost use Rattle.process_semantics.specs.State.{Run, Test, Last};
 ghost use Rattle.process_guards.specs.Nested.{marks, gives, repeats, stops, main_at, called_at, calling, busy, running};
 ghost use Rattle.process_guards.specs.Nested.{fresh, ended, disc_at, disc_after};
+ghost use Rattle.process_guards.specs.Nested.{leaves, inner_loop, outer_loop, counts_down, looping_fresh, in_loops};
+ghost use Rattle.process_guards.specs.Nested.{inside_call};
 
 /// An image has the frames from MAIN up: how many, and of each the procedure, the number that comes next, or that of
 /// the call in progress, and the locals. Then come the items that are listed: how many, and of each its number and
@@ -37,6 +39,25 @@ pub fn each_entry_has_its_number()
     ensures at_the_end_restored { restored fresh true
         (pos 2 ∷ pos 1 ∷ pos 6 ∷ pos 2 ∷ pos 0 ∷ pos 0 ∷ pos 5 ∷ negsuc 0 ∷ pos 1 ∷ pos 0 ∷ pos 7 ∷ [])
         ≡ Some (running (called_at [] ∷ calling ∷ [])) }
+{}
+
+/// A DO stands by the number of its test once its body is done, and before by those of its body, which are smaller. A
+/// FOR that counts down stands by those of its test and its last assignment.
+pub fn a_loop_stands_by_its_numbers()
+    ensures body { image_of [] (in_loops (inside_call (Run leaves ∷ Run inner_loop ∷ Run outer_loop ∷ [])))
+        ≡ pos 2 ∷ pos 1 ∷ pos 6 ∷ pos 2 ∷ pos 0 ∷ pos 1 ∷ pos 0 ∷ [] }
+    ensures body_restored { restored looping_fresh true (pos 2 ∷ pos 1 ∷ pos 6 ∷ pos 2 ∷ pos 0 ∷ pos 1 ∷ pos 0 ∷ [])
+        ≡ Some (in_loops (inside_call (Run leaves ∷ Run inner_loop ∷ Run outer_loop ∷ []))) }
+    ensures inner_test_restored { restored looping_fresh true
+        (pos 2 ∷ pos 1 ∷ pos 6 ∷ pos 2 ∷ pos 0 ∷ pos 2 ∷ pos 0 ∷ [])
+        ≡ Some (in_loops (inside_call (Run inner_loop ∷ Run outer_loop ∷ []))) }
+    ensures outer_test_restored { restored looping_fresh true
+        (pos 2 ∷ pos 1 ∷ pos 6 ∷ pos 2 ∷ pos 0 ∷ pos 3 ∷ pos 0 ∷ [])
+        ≡ Some (in_loops (inside_call (Run outer_loop ∷ []))) }
+    ensures test_restored { restored looping_fresh true (pos 1 ∷ pos 1 ∷ pos 5 ∷ pos 2 ∷ pos 0 ∷ [])
+        ≡ Some (in_loops (main_at (Test counts_down ∷ Run stops ∷ []) ∷ [])) }
+    ensures last_restored { restored looping_fresh true (pos 1 ∷ pos 1 ∷ pos 7 ∷ pos 2 ∷ pos 0 ∷ [])
+        ≡ Some (in_loops (main_at (Last counts_down ∷ Test counts_down ∷ Run stops ∷ []) ∷ [])) }
 {}
 
 /// At a CHECKPOINT the image is of the state after it. A program that has ended has no frames.

@@ -1,5 +1,6 @@
 ghost use Rattle.std.specs.Prelude.{◌≡◌, pos, negsuc, true, [], ◌∷◌};
-ghost use Rattle.tal_tree.specs.declared.statement.What.{ReadUpdate, Reply, WriteRead, Checkpoint, Assign, Stop};
+ghost use Rattle.tal_tree.specs.declared.statement.What.{ReadUpdate, Reply, WriteRead, Checkpoint, DoUntil, Stop};
+ghost use Rattle.tal_tree.specs.declared.expression.Cond.{Truth};
 ghost use Rattle.tal_tree.specs.declared.expression.Variable.TheVariants.{Simple};
 ghost use Rattle.process_semantics.specs.declared.point.Point.TheVariants.{Inner, Take, Ask, Await, Answer};
 ghost use Rattle.process_semantics.specs.declared.point.Point.TheVariants.{AtCheckpoint, Ended};
@@ -33,9 +34,10 @@ pub fn an_ask_is_awaited()
         ≡ Inner }
 {}
 
-/// CHECKPOINT stands at the point of checkpoints, and an ended process stands nowhere else.
+/// CHECKPOINT stands at the point of checkpoints, a DO's test at that of inner steps, and an ended process at its own.
 pub fn a_checkpoint_is_a_mark()
     ensures mark { point_of code (at_statement (Checkpoint [] [])) ≡ AtCheckpoint }
     ensures ended { point_of code (over (pos 1)) ≡ Ended }
     ensures stop { point_of code (at_statement Stop) ≡ Inner }
+    ensures until { point_of code (at_statement (DoUntil [] (Truth (word (pos 1))))) ≡ Inner }
 {}

@@ -2,11 +2,11 @@
 use Rattle.std.proofs.Common.{inl, inr, List, [], ◌∷◌, ◌++◌, refl, subst, sym}
 use Rattle.tal_values.specs.gd_words.specs.Members.{IsAmong}
 use Rattle.tal_values.specs.gd_words.proofs.Among.{among-left, among-right, among-either, among-one}
-use Rattle.tal_values.specs.tal_tree.specs.ByStatements.{HoldsInside, by-statements}
-use Rattle.tal_values.specs.tal_tree.specs.Statements.{all_in, all_of}
+use Rattle.tal_values.specs.tal_tree.specs.ByStatements.{HoldsInside, holds-before, by-statements}
+use Rattle.tal_values.specs.tal_tree.specs.Statements.{all_in, all_of, body_before}
 use Rattle.tal_values.specs.tal_tree.specs.declared.statement.Statement.{Statement}
 use Rattle.tal_values.specs.tal_tree.specs.declared.statement.What.{What, What-F, out-What}
-use Rattle.tal_values.specs.tal_tree.proofs.Within.{within_of, within-is}
+use Rattle.tal_values.specs.tal_tree.proofs.Within.{within_of, within-is, before-within}
 use Rattle.process_semantics.specs.Remains.{Remains}
 use Rattle.process_semantics.specs.Rests.{rests}
 use Rattle.process_semantics.specs.State.{Entry, Run, Test, Last}
@@ -33,6 +33,12 @@ begins-right : (xs ys : List Statement) (one : List Entry) → BeginsIn ys one �
 begins-right xs ys [] begins = tt
 begins-right xs ys (entry ∷ rest) begins = among-right (statement_of entry) xs ys begins
 
+before-begins : (self : Statement) (layer : What-F What Statement) (one : List Entry)
+    → BeginsIn (all_of (body_before layer)) one
+    → BeginsIn (self ∷ within_of layer) one
+before-begins self layer [] begins = tt
+before-begins self layer (entry ∷ rest) begins = inr (before-within layer (statement_of entry) begins)
+
 inner-stand : (self : Statement) (after one : List Entry) (layer : What-F What Statement) → HoldsInside Stand layer
     → IsAmong one (rests_by layer self after)
     → BeginsIn (self ∷ within_of layer) one
@@ -44,9 +50,9 @@ inner-stand self after one (What-F.If test first second) holds among =
     ])
 inner-stand self after one (What-F.While test body) holds among =
     begins-right (self ∷ []) (all_of body) one (holds (Run self ∷ after) one among)
-inner-stand self after one (What-F.For variable from to body last) holds (inl same) =
+inner-stand self after one (What-F.For variable from to down step body last) holds (inl same) =
     subst (BeginsIn (self ∷ all_of body)) (sym same) (inl refl)
-inner-stand self after one (What-F.For variable from to body last) holds (inr among) =
+inner-stand self after one (What-F.For variable from to down step body last) holds (inr among) =
     elim (among-either one (rests body (Last self ∷ Test self ∷ after)) ((Last self ∷ Test self ∷ after) ∷ []) among) [
       | inl in_body ↦ begins-right (self ∷ []) (all_of body) one (holds (Last self ∷ Test self ∷ after) one in_body)
       | inr in_last ↦ among-one (BeginsIn (self ∷ all_of body)) one (Last self ∷ Test self ∷ after) in_last (inl refl)
@@ -56,7 +62,14 @@ inner-stand self after one _ holds among = absurd among
 more-stand : (statement : Statement) (rest : List Statement) → HoldsInside Stand (out-What statement.what) → Stand rest
     → Stand (statement ∷ rest)
 more-stand statement rest inside later after one among =
-    which (subst (IsAmong one) (rests-more statement rest after) among)
+    elim (among-either one (rests (body_before (out-What statement.what)) (Run statement ∷ behind rest after))
+    ((Run statement ∷ behind rest after) ∷ rests_by (out-What statement.what) statement (behind rest after)
+    ++ rests rest after) (subst (IsAmong one) (rests-more statement rest after) among)) [
+      | inl before ↦ in_first (before-begins statement (out-What statement.what) one
+          (holds-before Stand (λ after one among. absurd among) (out-What statement.what) inside
+          (Run statement ∷ behind rest after) one before))
+      | inr own ↦ which own
+    ]
   where
     in_first : BeginsIn (statement ∷ within_of (out-What statement.what)) one → BeginsIn (all_of (statement ∷ rest)) one
     in_first begins = begins-left (all_in statement) (all_of rest) one

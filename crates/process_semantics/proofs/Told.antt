@@ -5,8 +5,8 @@ use Rattle.std.proofs.Common.{map, Some, eq-eqb, refl, ap, ap₂, subst, sym, �
 use Rattle.std.proofs.lemmas.Bool.{eqb-true}
 use Rattle.std.proofs.lemmas.List.{map-append}
 use Rattle.tal_values.specs.gd_words.specs.Members.{IsAmong, AreDistinct}
-use Rattle.tal_values.specs.tal_tree.specs.ByStatements.{HoldsInside, by-statements}
-use Rattle.tal_values.specs.tal_tree.specs.Statements.{last_of, numbers_of}
+use Rattle.tal_values.specs.tal_tree.specs.ByStatements.{HoldsInside, holds-before, by-statements}
+use Rattle.tal_values.specs.tal_tree.specs.Statements.{body_before, last_of, numbers_of}
 use Rattle.tal_values.specs.tal_tree.specs.declared.statement.Statement.{Statement}
 use Rattle.tal_values.specs.tal_tree.specs.declared.statement.What.{What, What-F, out-What}
 use Rattle.tal_values.specs.tal_tree.proofs.Numbers.{numbers_inside, numbers-more}
@@ -30,7 +30,7 @@ layer-order self after (What-F.If test first second) is holds =
     map-append next_number (rests first after) (rests second after)
     ∙ ap₂ (λ (ns ms : List ℕ). ns ++ ms) (holds.0 after) (holds.1 after)
 layer-order self after (What-F.While test body) is holds = holds (Run self ∷ after)
-layer-order self after (What-F.For variable from to body last) is holds =
+layer-order self after (What-F.For variable from to down step body last) is holds =
     let again : List Entry = Last self ∷ Test self ∷ after in
     ap (λ (ns : List ℕ). (self.number + 1) ∷ ns)
     (map-append next_number (rests body again) (again ∷ [])
@@ -40,9 +40,14 @@ layer-order self after _ is holds = refl
 more-order : (statement : Statement) (rest : List Statement) → HoldsInside InOrder (out-What statement.what)
     → InOrder rest → InOrder (statement ∷ rest)
 more-order statement rest inside later after =
+    let own : List Entry = Run statement ∷ behind rest after in
+    let inner : List (List Entry) = rests_by (out-What statement.what) statement (behind rest after) in
+    let before : List (List Entry) = rests (body_before (out-What statement.what)) own in
     ap nexts (rests-more statement rest after)
-    ∙ ap (λ (ns : List ℕ). statement.number ∷ ns)
-    (map-append next_number (rests_by (out-What statement.what) statement (behind rest after)) (rests rest after)
+    ∙ map-append next_number before (own ∷ inner ++ rests rest after)
+    ∙ ap₂ (λ (ns ms : List ℕ). ns ++ (statement.number ∷ ms))
+    (holds-before InOrder (λ after. refl) (out-What statement.what) inside own)
+    (map-append next_number inner (rests rest after)
     ∙ ap₂ (λ (ns ms : List ℕ). ns ++ ms) (layer-order statement (behind rest after) (out-What statement.what) refl
     inside) (later after))
     ∙ sym (numbers-more statement rest)

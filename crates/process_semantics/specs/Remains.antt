@@ -10,12 +10,13 @@ use Rattle.process_semantics.specs.Rests.{rests_of}
 abbrev pub Remains : List Statement → List Entry → Type 0
 Remains body rest = (rest ≡ []) ⊎ IsAmong rest (rests_of body)
 
--- the ways into a statement, where others come after it: either branch of an IF, the body of a WHILE and then the WHILE
--- again, the test of a FOR
+-- the ways into a statement, where others come after it: either branch of an IF, the body of a WHILE or of a DO and then
+-- its test again, the test of a FOR
 abbrev pub ways_into : Statement → List Entry → What-F What Statement → List (List Entry)
 ways_into self after (What-F.If test first second) = (runs_of first ++ after) ∷ (runs_of second ++ after) ∷ []
 ways_into self after (What-F.While test body) = (runs_of body ++ Run self ∷ after) ∷ []
-ways_into self after (What-F.For variable from to body last) = (Test self ∷ after) ∷ []
+ways_into self after (What-F.For variable from to down step body last) = (Test self ∷ after) ∷ []
+ways_into self after (What-F.DoUntil body test) = (runs_of body ++ Run self ∷ after) ∷ []
 ways_into self after (What-F.Assign _ _) = []
 ways_into self after (What-F.AssignCall _ _ _) = []
 ways_into self after (What-F.Call _ _) = []
@@ -30,11 +31,13 @@ ways_into self after What-F.Stop = []
 
 -- the way of one more round of a FOR: its body, its last assignment, and its test again
 abbrev pub ways_round : Statement → List Entry → What-F What Statement → List (List Entry)
-ways_round self after (What-F.For variable from to body last) = (runs_of body ++ Last self ∷ Test self ∷ after) ∷ []
+ways_round self after (What-F.For variable from to down step body last) = (runs_of body ++ Last self ∷ Test self ∷
+    after) ∷ []
 ways_round self after (What-F.Assign _ _) = []
 ways_round self after (What-F.AssignCall _ _ _) = []
 ways_round self after (What-F.If _ _ _) = []
 ways_round self after (What-F.While _ _) = []
+ways_round self after (What-F.DoUntil _ _) = []
 ways_round self after (What-F.Call _ _) = []
 ways_round self after (What-F.Return _) = []
 ways_round self after (What-F.ReadUpdate _ _ _) = []

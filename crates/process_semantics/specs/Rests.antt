@@ -4,12 +4,12 @@ use Rattle.tal_values.specs.tal_tree.specs.Rows.{rows}
 use Rattle.tal_values.specs.tal_tree.specs.Statements.{last_of}
 use Rattle.tal_values.specs.tal_tree.specs.declared.statement.Statement.{Statement}
 use Rattle.tal_values.specs.tal_tree.specs.declared.statement.What.{What, out-What, Assign, AssignCall, If', While'}
-use Rattle.tal_values.specs.tal_tree.specs.declared.statement.What.{For', Call, Return}
-use Rattle.tal_values.specs.tal_tree.specs.declared.statement.What.{ReadUpdate, Reply, WriteRead, Checkpoint}
-use Rattle.tal_values.specs.tal_tree.specs.declared.statement.What.{CheckMonitor, Open, Stop}
-use Rattle.tal_values.specs.tal_tree.specs.declared.statement.What.{Row_of-Statement, end_of-Statement}
+use Rattle.tal_values.specs.tal_tree.specs.declared.statement.What.{For', DoUntil'}
+use Rattle.tal_values.specs.tal_tree.specs.declared.statement.What.{Call, Return, ReadUpdate, Reply, WriteRead}
+use Rattle.tal_values.specs.tal_tree.specs.declared.statement.What.{Checkpoint, CheckMonitor}
+use Rattle.tal_values.specs.tal_tree.specs.declared.statement.What.{Open, Stop, Row_of-Statement, end_of-Statement}
 use Rattle.tal_values.specs.tal_tree.specs.declared.statement.What.{more_of-Statement}
-use Rattle.process_semantics.specs.State.{Entry, Run, Test, Last}
+use Rattle.process_semantics.specs.State.{Entry, Run, Test, Last, runs_row}
 
 -- the number of an entry: a FOR's test has the one after its first assignment
 abbrev pub entry_number : Entry → ℕ
@@ -24,27 +24,41 @@ next_number (entry ∷ rest) = entry_number entry
 
 -- What remains from each entry on
 
--- the statements of a list as entries
-abbrev pub runs_row : {n : _} → Row_of-Statement n → List Entry
-runs_row end_of-Statement = []
-runs_row (more_of-Statement number line what rest) =
-    Run (record { number = number; line = line; what = what }) ∷ runs_row rest
-
 abbrev mutual
   -- of the statements of a list: what remains from each entry in it on, where others come after the list
   pub rests_row : {n : _} → Row_of-Statement n → List Entry → List (List Entry)
   rests_row end_of-Statement after = []
   rests_row (more_of-Statement number line what rest) after =
-      (Run (record { number = number; line = line; what = what }) ∷ (runs_row rest ++ after))
+      rests_before what (Run (record { number = number; line = line; what = what }) ∷ (runs_row rest ++ after))
+      ++ ((Run (record { number = number; line = line; what = what }) ∷ (runs_row rest ++ after))
       ∷ rests_in what (record { number = number; line = line; what = what }) (runs_row rest ++ after)
-      ++ rests_row rest after
+      ++ rests_row rest after)
 
-  -- of the entries inside a statement
+  -- of the entries that come before a statement's own
+  pub rests_before : What → List Entry → List (List Entry)
+  rests_before (DoUntil' _ body test) after = rests_row body after
+  rests_before (Assign to value) after = []
+  rests_before (AssignCall to procedure arguments) after = []
+  rests_before (If' test _ first _ second) after = []
+  rests_before (While' test _ body) after = []
+  rests_before (For' variable from to down step _ body last) after = []
+  rests_before (Call procedure arguments) after = []
+  rests_before (Return value) after = []
+  rests_before (ReadUpdate buffer most got) after = []
+  rests_before (Reply buffer count) after = []
+  rests_before (WriteRead file buffer send room got) after = []
+  rests_before (Checkpoint items files) after = []
+  rests_before CheckMonitor after = []
+  rests_before (Open file) after = []
+  rests_before Stop after = []
+
+  -- of the entries inside a statement that come after its own
   pub rests_in : What → Statement → List Entry → List (List Entry)
   rests_in (If' test _ first _ second) self after = rests_row first after ++ rests_row second after
   rests_in (While' test _ body) self after = rests_row body (Run self ∷ after)
-  rests_in (For' variable from to _ body last) self after =
+  rests_in (For' variable from to down step _ body last) self after =
       (Test self ∷ after) ∷ rests_row body (Last self ∷ Test self ∷ after) ++ (Last self ∷ Test self ∷ after) ∷ []
+  rests_in (DoUntil' _ body test) self after = []
   rests_in (Assign to value) self after = []
   rests_in (AssignCall to procedure arguments) self after = []
   rests_in (Call procedure arguments) self after = []

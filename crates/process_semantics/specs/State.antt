@@ -2,16 +2,24 @@
 use Rattle.std.specs.Option.{option_and_then, unwrap_or}
 use Rattle.std.specs.Prelude.{ℕ, ◌-◌, ℤ, pos, negsuc, Bool, false, ◌&&◌, if◌then◌else◌, nat_le, List, [], ◌∷◌, ◌++◌}
 use Rattle.std.specs.Prelude.{length, map, replicate, slice_get, Option, Some, None}
+use Rattle.tal_values.specs.tal_tree.specs.Rows.{rows}
 use Rattle.tal_values.specs.tal_tree.specs.Shapes.{width}
 use Rattle.tal_values.specs.tal_tree.specs.Statements.{called_in}
 use Rattle.tal_values.specs.tal_tree.specs.declared.expression.Expr.{Expr}
 use Rattle.tal_values.specs.tal_tree.specs.declared.program.Procedure.{Procedure}
 use Rattle.tal_values.specs.tal_tree.specs.declared.program.Program.{Program}
 use Rattle.tal_values.specs.tal_tree.specs.declared.statement.Statement.{Statement}
-use Rattle.tal_values.specs.tal_tree.specs.declared.statement.What.{What, What-F, out-What}
+use Rattle.tal_values.specs.tal_tree.specs.declared.statement.What.{What, What-F, out-What, Assign, AssignCall, If'}
+use Rattle.tal_values.specs.tal_tree.specs.declared.statement.What.{While', For'}
+use Rattle.tal_values.specs.tal_tree.specs.declared.statement.What.{DoUntil', Call, Return, ReadUpdate, Reply}
+use Rattle.tal_values.specs.tal_tree.specs.declared.statement.What.{WriteRead, Checkpoint}
+use Rattle.tal_values.specs.tal_tree.specs.declared.statement.What.{CheckMonitor, Open, Stop, Row_of-Statement}
+use Rattle.tal_values.specs.tal_tree.specs.declared.statement.What.{end_of-Statement}
+use Rattle.tal_values.specs.tal_tree.specs.declared.statement.What.{more_of-Statement}
 use Rattle.tal_values.specs.Value.{Memory, value_of}
 
--- what remains to be done in a procedure: a statement, the test of a FOR, or the last assignment of a FOR
+-- what remains to be done in a procedure: a statement by its own number, which of an IF, a WHILE or a DO is its test; the
+-- test of a FOR; or the last assignment of a FOR
 pub data Entry : Type 0 where
   Run : Statement → Entry
   Test : Statement → Entry
@@ -39,9 +47,33 @@ pub record Execution : Type 0 where
 
 -- Beginning
 
--- the statements of a list as entries
+abbrev mutual
+  -- the statements of a list as entries. A DO's test comes after the entries of its body
+  pub runs_row : {n : _} → Row_of-Statement n → List Entry
+  runs_row end_of-Statement = []
+  runs_row (more_of-Statement number line what rest) =
+      runs_before what ++ (Run (record { number = number; line = line; what = what }) ∷ runs_row rest)
+
+  -- the entries that come before a statement's own: those of a DO's body
+  pub runs_before : What → List Entry
+  runs_before (DoUntil' _ body test) = runs_row body
+  runs_before (Assign to value) = []
+  runs_before (AssignCall to procedure arguments) = []
+  runs_before (If' test _ first _ second) = []
+  runs_before (While' test _ body) = []
+  runs_before (For' variable from to down step _ body last) = []
+  runs_before (Call procedure arguments) = []
+  runs_before (Return value) = []
+  runs_before (ReadUpdate buffer most got) = []
+  runs_before (Reply buffer count) = []
+  runs_before (WriteRead file buffer send room got) = []
+  runs_before (Checkpoint items files) = []
+  runs_before CheckMonitor = []
+  runs_before (Open file) = []
+  runs_before Stop = []
+
 abbrev pub runs_of : List Statement → List Entry
-runs_of statements = map Run statements
+runs_of statements = runs_row (rows statements)
 
 -- so many words, all 0
 abbrev pub zeros : ℕ → List ℤ

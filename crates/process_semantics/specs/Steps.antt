@@ -1,11 +1,13 @@
 -- The steps of a program at Inner: an assignment, a test, entering a procedure, its RETURN or its end, or a system call
 -- that no other process sees.
 use Rattle.std.specs.Option.{option_map, option_and_then, unwrap_or}
-use Rattle.std.specs.Prelude.{ℕ, ℤ, pos, ◌+ℤ◌, Bool, if◌then◌else◌, List, [], ◌∷◌, ◌++◌, drop, slice_get, Option, Some}
+use Rattle.std.specs.Prelude.{ℕ, ℤ, pos, ◌+ℤ◌, ◌-ℤ◌, Bool, true, false, if◌then◌else◌, List, [], ◌∷◌, ◌++◌, drop}
+use Rattle.std.specs.Prelude.{slice_get, Option, Some}
 use Rattle.std.specs.Prelude.{None}
 use Rattle.tal_values.specs.gd_words.specs.Arithmetic.{wrap}
 use Rattle.tal_values.specs.tal_tree.specs.declared.expression.Expr.{Expr}
-use Rattle.tal_values.specs.tal_tree.specs.declared.expression.Rel.TheVariants.{AtMost}
+use Rattle.tal_values.specs.tal_tree.specs.declared.expression.Rel.{Rel}
+use Rattle.tal_values.specs.tal_tree.specs.declared.expression.Rel.TheVariants.{AtMost, AtLeast}
 use Rattle.tal_values.specs.tal_tree.specs.declared.expression.Variable.{Variable}
 use Rattle.tal_values.specs.tal_tree.specs.declared.program.Procedure.{Procedure}
 use Rattle.tal_values.specs.tal_tree.specs.declared.program.Program.{Program}
@@ -87,8 +89,10 @@ inner_in program s statement (What-F.If test first second) =
     tested s (runs_of first) (runs_of second) (truth_of (memory_of program s) test)
 inner_in program s statement (What-F.While test body) =
     tested s (runs_of body ++ Run statement ∷ []) [] (truth_of (memory_of program s) test)
-inner_in program s statement (What-F.For variable from to body last) =
+inner_in program s statement (What-F.For variable from to down step body last) =
     for_begun s statement variable (value_of (memory_of program s) from)
+inner_in program s statement (What-F.DoUntil body test) =
+    tested s [] (runs_of body ++ Run statement ∷ []) (truth_of (memory_of program s) test)
 inner_in program s statement (What-F.Call procedure arguments) =
     entered program s procedure (values_of (memory_of program s) arguments)
 inner_in program s statement (What-F.Return value) = returned program s (result_of (memory_of program s) value)
@@ -100,27 +104,63 @@ inner_in program s statement (What-F.Reply buffer count) = None
 inner_in program s statement (What-F.WriteRead file buffer send room got) = None
 inner_in program s statement (What-F.Checkpoint items files) = None
 
+-- how a FOR's variable stands to its limit as long as the FOR goes round
+abbrev pub bound_by : Bool → Rel
+bound_by false = AtMost
+bound_by true = AtLeast
+
 -- whether a FOR goes round once more
-abbrev pub goes_round : Option ℤ → Option ℤ → Option Bool
-goes_round variable limit = both (λ i last. Some (holds AtMost i last)) variable limit
+abbrev pub goes_round : Bool → Option ℤ → Option ℤ → Option Bool
+goes_round down variable limit = both (λ i last. Some (holds (bound_by down) i last)) variable limit
 
 -- the step of a FOR's test
 abbrev pub tested_in : Program → ProgramState → Statement → What-F What Statement → Option ProgramState
-tested_in program s statement (What-F.For variable from to body last) =
+tested_in program s statement (What-F.For variable from to down step body last) =
     tested s (runs_of body ++ Last statement ∷ Test statement ∷ []) []
-    (goes_round (variable_of program s variable) (value_of (memory_of program s) to))
-tested_in program s statement _ = None
+    (goes_round down (variable_of program s variable) (value_of (memory_of program s) to))
+tested_in program s statement (What-F.Assign _ _) = None
+tested_in program s statement (What-F.AssignCall _ _ _) = None
+tested_in program s statement (What-F.If _ _ _) = None
+tested_in program s statement (What-F.While _ _) = None
+tested_in program s statement (What-F.DoUntil _ _) = None
+tested_in program s statement (What-F.Call _ _) = None
+tested_in program s statement (What-F.Return _) = None
+tested_in program s statement (What-F.ReadUpdate _ _ _) = None
+tested_in program s statement (What-F.Reply _ _) = None
+tested_in program s statement (What-F.WriteRead _ _ _ _ _) = None
+tested_in program s statement (What-F.Checkpoint _ _) = None
+tested_in program s statement What-F.CheckMonitor = None
+tested_in program s statement (What-F.Open _) = None
+tested_in program s statement What-F.Stop = None
 
--- a FOR's variable rose by 1
-abbrev pub counted_up : ProgramState → Cell → Option ℤ → Option ProgramState
-counted_up s variable None = None
-counted_up s variable (Some word) = Some (done (with_word variable (wrap (word +ℤ pos 1)) s))
+-- the word after one where a FOR counts by so much, up or down
+abbrev pub next_word : Bool → ℤ → ℤ → ℤ
+next_word false step word = wrap (word +ℤ step)
+next_word true step word = wrap (word -ℤ step)
+
+-- a FOR's variable was counted up or down
+abbrev pub counted : ProgramState → Cell → Bool → ℤ → Option ℤ → Option ProgramState
+counted s variable down step None = None
+counted s variable down step (Some word) = Some (done (with_word variable (next_word down step word) s))
 
 -- the step of a FOR's last assignment
 abbrev pub counted_in : Program → ProgramState → What-F What Statement → Option ProgramState
-counted_in program s (What-F.For variable from to body last) =
-    counted_up s (variable_cell variable) (variable_of program s variable)
-counted_in program s _ = None
+counted_in program s (What-F.For variable from to down step body last) =
+    counted s (variable_cell variable) down step (variable_of program s variable)
+counted_in program s (What-F.Assign _ _) = None
+counted_in program s (What-F.AssignCall _ _ _) = None
+counted_in program s (What-F.If _ _ _) = None
+counted_in program s (What-F.While _ _) = None
+counted_in program s (What-F.DoUntil _ _) = None
+counted_in program s (What-F.Call _ _) = None
+counted_in program s (What-F.Return _) = None
+counted_in program s (What-F.ReadUpdate _ _ _) = None
+counted_in program s (What-F.Reply _ _) = None
+counted_in program s (What-F.WriteRead _ _ _ _ _) = None
+counted_in program s (What-F.Checkpoint _ _) = None
+counted_in program s What-F.CheckMonitor = None
+counted_in program s (What-F.Open _) = None
+counted_in program s What-F.Stop = None
 
 -- the step of the next entry; a procedure's end returns 0
 abbrev pub inner_entry : Program → ProgramState → Option Entry → Option ProgramState

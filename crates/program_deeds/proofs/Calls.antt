@@ -70,7 +70,8 @@ module _ (program : Program) (s : ProgramState) (words : List ℤ) where
   run-told after statement (What-F.AssignCall to procedure arguments) = refl
   run-told after statement (What-F.If test first second) = refl
   run-told after statement (What-F.While test body) = refl
-  run-told after statement (What-F.For variable from to body last) = refl
+  run-told after statement (What-F.For variable from to down step body last) = refl
+  run-told after statement (What-F.DoUntil body test) = refl
   run-told after statement (What-F.Call procedure arguments) = refl
   run-told after statement (What-F.Return value) = refl
   run-told after statement (What-F.ReadUpdate buffer most got) = refl
@@ -87,7 +88,8 @@ module _ (program : Program) (s : ProgramState) (words : List ℤ) where
   test-told after statement (What-F.AssignCall to procedure arguments) = refl
   test-told after statement (What-F.If test first second) = refl
   test-told after statement (What-F.While test body) = refl
-  test-told after statement (What-F.For variable from to body last) = refl
+  test-told after statement (What-F.For variable from to down step body last) = refl
+  test-told after statement (What-F.DoUntil body test) = refl
   test-told after statement (What-F.Call procedure arguments) = refl
   test-told after statement (What-F.Return value) = refl
   test-told after statement (What-F.ReadUpdate buffer most got) = refl
@@ -104,7 +106,8 @@ module _ (program : Program) (s : ProgramState) (words : List ℤ) where
   last-told after statement (What-F.AssignCall to procedure arguments) = refl
   last-told after statement (What-F.If test first second) = refl
   last-told after statement (What-F.While test body) = refl
-  last-told after statement (What-F.For variable from to body last) = refl
+  last-told after statement (What-F.For variable from to down step body last) = refl
+  last-told after statement (What-F.DoUntil body test) = refl
   last-told after statement (What-F.Call procedure arguments) = refl
   last-told after statement (What-F.Return value) = refl
   last-told after statement (What-F.ReadUpdate buffer most got) = refl

@@ -42,7 +42,8 @@ module _ (program : Program) (word : ℤ) (s : ProgramState) (after : List Entry
   given-run (What-F.AssignCall to procedure arguments) = refl
   given-run (What-F.If test first second) = refl
   given-run (What-F.While test body) = refl
-  given-run (What-F.For variable from to body last) = refl
+  given-run (What-F.For variable from to down step body last) = refl
+  given-run (What-F.DoUntil body test) = refl
   given-run (What-F.Call procedure arguments) = refl
   given-run (What-F.Return value) = refl
   given-run (What-F.ReadUpdate buffer most got) = refl
@@ -59,7 +60,8 @@ module _ (program : Program) (word : ℤ) (s : ProgramState) (after : List Entry
   given-test (What-F.AssignCall to procedure arguments) = refl
   given-test (What-F.If test first second) = refl
   given-test (What-F.While test body) = refl
-  given-test (What-F.For variable from to body last) = refl
+  given-test (What-F.For variable from to down step body last) = refl
+  given-test (What-F.DoUntil body test) = refl
   given-test (What-F.Call procedure arguments) = refl
   given-test (What-F.Return value) = refl
   given-test (What-F.ReadUpdate buffer most got) = refl
@@ -75,7 +77,8 @@ module _ (program : Program) (word : ℤ) (s : ProgramState) (after : List Entry
   given-last (What-F.AssignCall to procedure arguments) = refl
   given-last (What-F.If test first second) = refl
   given-last (What-F.While test body) = refl
-  given-last (What-F.For variable from to body last) = refl
+  given-last (What-F.For variable from to down step body last) = refl
+  given-last (What-F.DoUntil body test) = refl
   given-last (What-F.Call procedure arguments) = refl
   given-last (What-F.Return value) = refl
   given-last (What-F.ReadUpdate buffer most got) = refl

@@ -2,7 +2,6 @@
 use Rattle.std.proofs.Common.{◌≡◌, pos, Bool, true, false, List, [], ◌∷◌, ◌++◌, Option, Some, None, ℤ, refl, ap, sym}
 use Rattle.std.proofs.Common.{◌∙◌, append_assoc}
 use Rattle.tal_tree.specs.declared.expression.Expr.TheVariants.{Number, Read}
-use Rattle.tal_tree.specs.declared.expression.Op.TheVariants.{Add}
 use Rattle.tal_tree.specs.declared.expression.Variable.{Variable}
 use Rattle.tal_tree.specs.declared.expression.Variable.TheVariants as variable
 use Rattle.tal_tree.specs.declared.program.Program.{Program}
@@ -12,10 +11,10 @@ use Rattle.tal_values.specs.Value.{Memory, value_of, cell_of, truth_of, both, re
 use Rattle.tal_values.proofs.ValueSteps.{value-read, value-two}
 use Rattle.process_semantics.specs.Changes.{variable_cell, variable_of}
 use Rattle.process_semantics.specs.State.{Entry, Run, Test, Last, Frame, ProgramState, memory_of, rest_of, runs_of}
-use Rattle.process_semantics.specs.Steps.{tested, for_begun, counted_up, tested_in, counted_in, goes_round, inner_in}
+use Rattle.process_semantics.specs.Steps.{tested, for_begun, counted, tested_in, counted_in, goes_round, inner_in}
 use Rattle.process_semantics.specs.Steps.{inner, or_ends, result_of}
 use Rattle.tal_values.specs.Spots.{spot_of}
-use Rattle.program_deeds.specs.Deed.{Deed, deed_run, deed_test, deed_last, deed_of}
+use Rattle.program_deeds.specs.Deed.{Deed, deed_run, counts_by, deed_test, deed_last, deed_of}
 use Rattle.program_deeds.specs.Doing.{stored, chosen, deed_inner}
 use Rattle.program_deeds.proofs.Given.{assigned-goes, returned-gives}
 
@@ -52,13 +51,16 @@ module _ (program : Program) (s : ProgramState) (frame : Frame) (callers : List 
   begun-is memory (variable.Local local) (Some word) = refl
   begun-is memory (variable.Simple item) (Some word) = refl
 
-  counted-is : (memory : Memory) (one : Variable) (word : Option ℤ)
-      → counted_up (at (Last statement)) (variable_cell one) word
-      ≡ stored after (at (Last statement)) (cell_of memory (spot_of one)) (both (operated Add) word (Some (pos 1)))
-  counted-is memory (variable.Local local) None = refl
-  counted-is memory (variable.Simple item) None = refl
-  counted-is memory (variable.Local local) (Some word) = refl
-  counted-is memory (variable.Simple item) (Some word) = refl
+  counted-is : (memory : Memory) (one : Variable) (down : Bool) (step : ℤ) (word : Option ℤ)
+      → counted (at (Last statement)) (variable_cell one) down step word
+      ≡ stored after (at (Last statement)) (cell_of memory (spot_of one))
+      (both (operated (counts_by down)) word (Some step))
+  counted-is memory (variable.Local local) down step None = refl
+  counted-is memory (variable.Simple item) down step None = refl
+  counted-is memory (variable.Local local) false step (Some word) = refl
+  counted-is memory (variable.Local local) true step (Some word) = refl
+  counted-is memory (variable.Simple item) false step (Some word) = refl
+  counted-is memory (variable.Simple item) true step (Some word) = refl
 
   run-is : (what : What-F What Statement)
       → or_ends (at (Run statement)) (inner_in program (at (Run statement)) statement what)
@@ -75,9 +77,14 @@ module _ (program : Program) (s : ProgramState) (frame : Frame) (callers : List 
       let holds = truth_of (memory_of program t) test in
       ap (or_ends t) (tested-is (Run statement) (runs_of body ++ Run statement ∷ []) [] holds
       ∙ ap (λ first. chosen first after t holds) (append_assoc (runs_of body) (Run statement ∷ []) after))
-  run-is (What-F.For variable from to body last) =
+  run-is (What-F.For variable from to down step body last) =
       let t = at (Run statement) in
       ap (or_ends t) (begun-is (memory_of program t) variable (value_of (memory_of program t) from))
+  run-is (What-F.DoUntil body test) =
+      let t = at (Run statement) in
+      let holds = truth_of (memory_of program t) test in
+      ap (or_ends t) (tested-is (Run statement) [] (runs_of body ++ Run statement ∷ []) holds
+      ∙ ap (λ second. chosen after second t holds) (append_assoc (runs_of body) (Run statement ∷ []) after))
   run-is (What-F.Call procedure arguments) = refl
   run-is (What-F.Return value) =
       let t = at (Run statement) in
@@ -97,14 +104,15 @@ module _ (program : Program) (s : ProgramState) (frame : Frame) (callers : List 
   test-is (What-F.AssignCall to procedure arguments) = refl
   test-is (What-F.If test first second) = refl
   test-is (What-F.While test body) = refl
-  test-is (What-F.For variable from to body last) =
+  test-is (What-F.DoUntil body test) = refl
+  test-is (What-F.For variable from to down step body last) =
       let t = at (Test statement) in
       let body_then = runs_of body ++ Last statement ∷ Test statement ∷ [] in
       let limit = value_of (memory_of program t) to in
       let here = value_of (memory_of program t) (Read (spot_of variable)) in
-      ap (or_ends t) (ap (λ word. tested t body_then [] (goes_round word limit)) (variable-read program t variable)
-      ∙ tested-is (Test statement) body_then [] (goes_round here limit)
-      ∙ ap (λ first. chosen first after t (goes_round here limit))
+      ap (or_ends t) (ap (λ word. tested t body_then [] (goes_round down word limit)) (variable-read program t variable)
+      ∙ tested-is (Test statement) body_then [] (goes_round down here limit)
+      ∙ ap (λ first. chosen first after t (goes_round down here limit))
       (append_assoc (runs_of body) (Last statement ∷ Test statement ∷ []) after))
   test-is (What-F.Call procedure arguments) = refl
   test-is (What-F.Return value) = refl
@@ -123,13 +131,15 @@ module _ (program : Program) (s : ProgramState) (frame : Frame) (callers : List 
   last-is (What-F.AssignCall to procedure arguments) = refl
   last-is (What-F.If test first second) = refl
   last-is (What-F.While test body) = refl
-  last-is (What-F.For variable from to body last) =
+  last-is (What-F.DoUntil body test) = refl
+  last-is (What-F.For variable from to down step body last) =
       let t = at (Last statement) in
       let memory = memory_of program t in
       let place = cell_of memory (spot_of variable) in
-      ap (or_ends t) (counted-is memory variable (variable_of program t variable)
-      ∙ ap (λ word. stored after t place (both (operated Add) word (Some (pos 1)))) (variable-read program t variable)
-      ∙ ap (stored after t place) (sym (value-two memory Add (Read (spot_of variable)) (Number (pos 1)))))
+      let by = operated (counts_by down) in
+      ap (or_ends t) (counted-is memory variable down step (variable_of program t variable)
+      ∙ ap (λ word. stored after t place (both by word (Some step))) (variable-read program t variable)
+      ∙ ap (stored after t place) (sym (value-two memory (counts_by down) (Read (spot_of variable)) (Number step))))
   last-is (What-F.Call procedure arguments) = refl
   last-is (What-F.Return value) = refl
   last-is (What-F.ReadUpdate buffer most got) = refl

@@ -88,13 +88,14 @@ abbrev pub waiting_of_answer : Option Expr → ℕ
 waiting_of_answer None = 0
 waiting_of_answer (Some value) = waiting_of value
 
--- while what a statement itself computes is; the variable of a FOR waits for the value after TO as a left side does
+-- while what a statement itself computes is; the variable of a FOR waits for its limit as a left side does
 abbrev pub waiting_at : What-F What Statement → ℕ
 waiting_at (What-F.Assign to value) = max (waiting_of_spot to) (waiting_of value)
 waiting_at (What-F.AssignCall to procedure arguments) = max (waiting_of_spot to) (waiting_of_all arguments)
 waiting_at (What-F.If test first second) = waiting_of_test test
 waiting_at (What-F.While test body) = waiting_of_test test
-waiting_at (What-F.For variable from to body last) = max (waiting_of from) (waiting_for to)
+waiting_at (What-F.For variable from to down step body last) = max (waiting_of from) (waiting_for to)
+waiting_at (What-F.DoUntil body test) = waiting_of_test test
 waiting_at (What-F.Call procedure arguments) = waiting_of_all arguments
 waiting_at (What-F.Return value) = waiting_of_answer value
 waiting_at (What-F.ReadUpdate buffer most got) = waiting_of most

@@ -1,4 +1,4 @@
-ghost use Rattle.std.specs.Prelude.{◌≡◌, ◌+◌, ◌<◌, ◌≤◌, pos, length, IfOk, OnOk, IfSome, IfNone};
+ghost use Rattle.std.specs.Prelude.{◌≡◌, ◌+◌, ◌<◌, ◌≤◌, length, IfOk, OnOk, IfSome, IfNone};
 ghost use Rattle.tal_tree.specs.declared.expression.Expr.TheVariants as expr;
 ghost use Rattle.tal_tree.specs.declared.expression.Cond.TheVariants as cond;
 ghost use Rattle.tal_values.specs.Chain.{expr_of, cond_of};
@@ -54,24 +54,29 @@ pub fn spot_code_of(alloc: Global, spot: &Spot) -> Result<SpotCode, NoMemory>
     }
 }
 
-/// The code of the test of a FOR: whether its variable is at most the value after TO.
-pub fn limit_code_of(alloc: Global, variable: Variable, to: &Expr) -> Result<TestCode, NoMemory>
+/// The code of the test of a FOR: how its variable stands to the limit.
+pub fn limit_code_of(
+    alloc: Global,
+    variable: Variable,
+    rel: Rel,
+    to: &Expr,
+) -> Result<TestCode, NoMemory>
     requires { waiting_for to.now < 80 }
-    ensures { IfOk result (λ code. code ≡ cond.Compare Rel.AtMost (expr.Read (spot_of variable)) to.now) }
+    ensures { IfOk result (λ code. code ≡ cond.Compare rel (expr.Read (spot_of variable)) to.now) }
 {
     let mut draft = Draft::new(alloc);
     draft.push(Instruction::Load(simple_variable(variable)))?;
-    put_compared(alloc, &mut draft, Rel::AtMost, to)?;
+    put_compared(alloc, &mut draft, rel, to)?;
     Ok(draft.finish_test())
 }
 
-/// The code of what the variable of a FOR becomes after each turn: one more.
-pub fn next_code_of(alloc: Global, variable: Variable) -> Result<Code, NoMemory>
-    ensures { IfOk result (λ code. code ≡ expr.Two Op.Add (expr.Read (spot_of variable)) (expr.Number (pos 1))) }
+/// The code of what the variable of a FOR becomes after each turn.
+pub fn next_code_of(alloc: Global, variable: Variable, op: Op, step: i16) -> Result<Code, NoMemory>
+    ensures { IfOk result (λ code. code ≡ expr.Two op (expr.Read (spot_of variable)) (expr.Number step)) }
 {
     let mut draft = Draft::new(alloc);
     draft.push(Instruction::Load(simple_variable(variable)))?;
-    draft.push(Instruction::With(Op::Add, Operand::Number(1)))?;
+    draft.push(Instruction::With(op, Operand::Number(step)))?;
     Ok(draft.finish())
 }
 

@@ -7,7 +7,7 @@ use std::test::Fail;
 use tal_code::{
     cell, code_of, limit_code_of, next_code_of, spot_code_of, test_code_of, truth, value,
 };
-use tal_tree::{Cond, Expr, Item, Op, Shape, Spot, Variable};
+use tal_tree::{Cond, Expr, Item, Op, Rel, Shape, Spot, Variable};
 use tal_values::{Cell, Memory};
 
 fn nothing() -> Memory<'static> {
@@ -115,9 +115,9 @@ fn spots_and_variables_have_code(rt: HostRuntime) -> Result<(), Fail> {
     let index = Expr::Number(2);
     let spot = spot_code_of(alloc, &Spot::Element { item: 0, index })?;
     assert!(rt; cell(memory, &spot).is_none());
-    let limit = limit_code_of(alloc, Variable::Local(0), &Expr::Number(1))?;
+    let limit = limit_code_of(alloc, Variable::Local(0), Rel::AtMost, &Expr::Number(1))?;
     assert!(rt; truth(memory, &limit) == Some(true));
-    let next = next_code_of(alloc, Variable::Local(1))?;
+    let next = next_code_of(alloc, Variable::Local(1), Op::Add, 1)?;
     assert!(rt; value(memory, &next) == Some(-32_768));
     Ok(())
 }

@@ -71,6 +71,37 @@ const PAIRS: &[u8] = b"
 INT PROC pairs(n); INT n; BEGIN INT a, b, sum;
 FOR a := 1 TO n DO BEGIN b := a; WHILE b <= n DO BEGIN sum := sum + 1; b := b + 1 END END; RETURN sum END;";
 
+/// A FOR that counts down ends below its limit, which is worked out before each turn.
+const DOWNWARDS: &[u8] = b"
+FOR i := 7 DOWNTO 2 BY 2 DO x := x + i; buf[0] := x; buf[1] := i;
+x := 0; FOR i := 5 DOWNTO 10 - i DO x := x + 1; FOR i := i DOWNTO i + 1 DO x := 9; buf[2] := x; buf[3] := i";
+
+/// No word is past the ends of the words: the fourth turn down from -32,766 is that of 32,767, and the fourth up by 2
+/// from 32,763 that of -32,767.
+const PAST_ENDS: &[u8] = b"
+INT PROC lower(from); INT from; BEGIN INT k, n;
+FOR k := from DOWNTO %100000 DO BEGIN n := n + 1; IF n = 4 THEN RETURN k END END;
+INT PROC upper(from); INT from; BEGIN INT k, n;
+FOR k := from TO 32767 BY 2 DO BEGIN n := n + 1; IF n = 4 THEN RETURN k END END;";
+
+/// By 32,767 the turns from 1 are those of 1, -32,768 and -1, and those down from -2 are those of -2, 32,767 and 0.
+const GREAT_STEPS: &[u8] = b"
+buf[0] := lower(buf[0]); buf[1] := upper(buf[1]);
+FOR i := 1 TO 1 BY 32767 DO x := x + 1; buf[2] := i - x;
+FOR i := -2 DOWNTO -2 BY 32767 DO x := x + 1; buf[3] := i + x";
+
+/// Procedures that return out of a DO, out of one DO in another, and out of a DO whose test is never reached.
+const OUT_OF_LOOPS: &[u8] = b"
+INT PROC over(a, n); INT a, n; BEGIN INT k; DO BEGIN k := k + 1; IF k * a > n THEN RETURN k END UNTIL 0 END;
+INT PROC both(n); INT n; BEGIN INT a, b; DO BEGIN a := a + 1; b := 0;
+DO BEGIN b := b + 1; IF a * b = n THEN RETURN a * 100 + b END UNTIL b = a END UNTIL a > n END;
+INT PROC once(a); INT a; BEGIN DO RETURN a + 1 UNTIL 1 END;";
+
+/// A DO is done once at least. The body of one may be another.
+const UNTILS: &[u8] = b"
+DO i := i + 1 UNTIL 1; DO UNTIL i = 1; DO DO x := x + 1 UNTIL x / 3 * 3 = x UNTIL x >= 10; buf[1] := x * 10 + i;
+buf[0] := once(buf[0]); buf[2] := over(3, 10); buf[3] := both(12)";
+
 /// Fifteen procedures: each adds its number to its argument, gives that to the one before, and adds its number to what
 /// comes back: of 5 come 5, twice the sum of 2 to 15, and 1.
 const CHAIN: &[u8] = b"
@@ -198,6 +229,19 @@ const CASES: &[Case] = &[
         &[&[]],
         &[ANSWERS, 1, 3, 6, 10, WAITS],
     ),
+    (b"", DOWNWARDS, &[&[]], &[ANSWERS, 15, 1, 1, 4, WAITS]),
+    (
+        PAST_ENDS,
+        GREAT_STEPS,
+        &[&[-32_766, 32_763]],
+        &[ANSWERS, 32_767, -32_767, 32_763, -32_761, WAITS],
+    ),
+    (
+        OUT_OF_LOOPS,
+        UNTILS,
+        &[&[3]],
+        &[ANSWERS, 4, 121, 4, 403, WAITS],
+    ),
     (
         CHAIN,
         b"buf[0] := p15(buf[0])",
@@ -245,6 +289,8 @@ const CASES: &[Case] = &[
     (TRAPS, b"WHILE 1 / x = 0 DO x := 1", ONE, TRAP),
     (TRAPS, b"FOR i := 1 / x TO 3 DO x := 1", ONE, TRAP),
     (TRAPS, b"FOR i := 1 TO 1 / x DO x := 1", ONE, TRAP),
+    (TRAPS, b"FOR i := 3 DOWNTO 1 / x DO x := 1", ONE, TRAP),
+    (TRAPS, b"DO x := 0 UNTIL 1 / x = 1", ONE, TRAP),
     (TRAPS, b"x := same(1 / x)", ONE, TRAP),
     (TRAPS, b"x := inverse(x)", ONE, TRAP),
     (TRAPS, b"CALL inverse(0)", ONE, TRAP),
@@ -308,6 +354,31 @@ BEGIN
   END;
 END;";
 
+/// Counts down by 2, and goes round until tests hold: one DO in another, and one that a procedure returns out of.
+const ROUNDS: &[u8] = b"INT rcv, got, i, total; INT buf[0:1];
+INT PROC above(a, n);
+INT a, n;
+BEGIN
+  INT k;
+  DO BEGIN k := k + 1; IF k * a > n THEN RETURN k END UNTIL k = 100;
+END;
+PROC serve MAIN;
+BEGIN
+  CALL CHECKMONITOR;
+  CALL OPEN(\"$RECEIVE\", rcv, 1);
+  DO
+  BEGIN
+    CALL READUPDATE(rcv, buf, 2, got);
+    total := 0;
+    FOR i := buf[0] DOWNTO 1 BY 2 DO total := total + i;
+    DO DO total := total + 1 UNTIL total / 3 * 3 = total UNTIL total > 12;
+    buf[0] := total;
+    buf[1] := above(3, buf[1]);
+    CALL CHECKPOINT(buf, got, i, total);
+    CALL REPLY(buf, 2);
+  END UNTIL 0;
+END;";
+
 /// A whole program, the words of its image at its beginning, the requests and replies that come, and what is told.
 type Whole = (
     &'static [u8],
@@ -316,7 +387,7 @@ type Whole = (
     &'static [i16],
 );
 
-const WHOLES: [Whole; 3] = [
+const WHOLES: [Whole; 4] = [
     (
         ADDER,
         &[1, 0, 1, 3, 0, 0, 1, 0, 3, 0],
@@ -336,6 +407,12 @@ const WHOLES: [Whole; 3] = [
         &[1, 2, 11, 3, 1, 0, 2, 0, 3, 0, 0],
         &[&[3, 2], &[2, -1], &[-2, 15]],
         &[ANSWERS, 9, ANSWERS, 0, ANSWERS, -32_768, WAITS],
+    ),
+    (
+        ROUNDS,
+        &[1, 1, 5, 4, 1, 0, 2, 0, 3, 0, 4, 0, 0],
+        &[&[7, 10], &[0, -1]],
+        &[ANSWERS, 18, 4, ANSWERS, 15, 1, WAITS],
     ),
 ];
 

@@ -85,11 +85,11 @@ module _ (program : Program) (limits : IsWithinLimits program) where
 
   few-test : (after : List Entry) (statement : Statement) (layer : What-F What Statement)
       → HasFew (deed_test after statement layer)
-  few-test after statement (What-F.For variable from to body last) = tt
+  few-test after statement (What-F.For variable from to down step body last) = tt
   few-test after statement _ = tt
 
   few-last : (after : List Entry) (layer : What-F What Statement) → HasFew (deed_last after layer)
-  few-last after (What-F.For variable from to body last) = tt
+  few-last after (What-F.For variable from to down step body last) = tt
   few-last after _ = tt
 
   few-rest : (procedure : Procedure) → IsRegularProcedure program procedure → (rest : List Entry)

@@ -1,26 +1,28 @@
 -- Nodes that are put for the parts of a procedure.
-use Rattle.std.proofs.Common.{◌≡◌, inl, inr, ℕ, zero, suc, pos, ◌+◌, ◌≤◌, ◌<◌, List, [], ◌∷◌, ◌++◌, length, get_or}
+use Rattle.std.proofs.Common.{◌≡◌, inl, inr, ℕ, ℤ, Bool, zero, suc, ◌+◌, ◌≤◌, ◌<◌, List, [], ◌∷◌, ◌++◌, length, get_or}
 use Rattle.std.proofs.Common.{drop, drop-cons, add-one, refl, ap, ap₂, sym, subst, ◌∙◌, append_assoc, append-nil, arith}
 use Rattle.std.specs.Prelude.{Result, Ok, Err, OnOk, Some, slice_get}
 use Rattle.gd_words.specs.Members.{IsAmong}
 use Rattle.gd_words.proofs.Among.{among-left, among-right}
-use Rattle.tal_tree.specs.Rows.{rows, if-is, while-is, for-is}
-use Rattle.tal_tree.specs.Statements.{last_of}
+use Rattle.tal_tree.specs.Statements.{body_before, last_of}
 use Rattle.tal_tree.specs.declared.expression.Cond.{Cond}
 use Rattle.tal_tree.specs.declared.expression.Cond.TheVariants as cond
 use Rattle.tal_tree.specs.declared.expression.Expr.{Expr}
 use Rattle.tal_tree.specs.declared.expression.Expr.TheVariants as expr
-use Rattle.tal_tree.specs.declared.expression.Op.TheVariants.{Add}
-use Rattle.tal_tree.specs.declared.expression.Rel.TheVariants.{AtMost}
 use Rattle.tal_tree.specs.declared.expression.Variable.{Variable}
 use Rattle.tal_tree.specs.declared.statement.Statement.{Statement}
-use Rattle.tal_tree.specs.declared.statement.What.{What, What-F, If, While, For, out-What, roll-What, out-roll-What}
-use Rattle.tal_tree.specs.declared.statement.What.TheViews.{rolls-If, rolls-While, rolls-For}
-use Rattle.process_semantics.specs.Rests.{next_number, runs_row, rests_in, rests}
+use Rattle.tal_tree.specs.declared.statement.What.{What, What-F, If, While, For, DoUntil, out-What, roll-What}
+use Rattle.tal_tree.specs.declared.statement.What.{out-roll-What}
+use Rattle.tal_tree.specs.declared.statement.What.TheViews.{rolls-If, rolls-While, rolls-For, rolls-DoUntil}
+use Rattle.process_semantics.specs.Rests.{next_number, rests_before, rests_in, rests}
 use Rattle.process_semantics.specs.State.{Entry, Run, Test, Last, runs_of}
-use Rattle.program_deeds.specs.Deed.{Assigns, Tests, deed_run, deed_test, deed_last}
+use Rattle.process_semantics.specs.Steps.{bound_by}
+use Rattle.process_semantics.proofs.Leading.{all-stay}
+use Rattle.process_semantics.proofs.Rests.{ahead-is, rests-is, rests_by, runs-more}
+use Rattle.program_deeds.specs.Deed.{Assigns, Tests, counts_by, deed_run, deed_test, deed_last}
 use Rattle.tal_values.specs.Spots.{spot_of}
-use Rattle.tal_table.specs.Loads.{Finds, FindsAll, IsNode, Each, Puts, rests_at, begins, IsLeaf}
+use Rattle.tal_table.specs.Loads.{Finds, FindsAll, IsNode, Each, Puts, rests_at, number_or, begins}
+use Rattle.tal_table.specs.Loads.{first_number, IsLeaf}
 use Rattle.tal_table.specs.Places.{rest_at}
 use Rattle.tal_table.specs.Seen.{seen}
 use Rattle.tal_table.specs.declared.node.Node.{Node}
@@ -70,28 +72,63 @@ each-at is (rest ∷ xs) (one ∷ nodes) (suc k) node each there = each-at is xs
 
 -- Beginnings
 
-runs-are : (statements : List Statement) → runs_row (rows statements) ≡ runs_of statements
-runs-are [] = refl
-runs-are (statement ∷ more) = ap (λ (later : List Entry). Run statement ∷ later) (runs-are more)
-
 -- from each entry of the first statement on, and from each of the others on
 first-rests : (statement : Statement) (more : List Statement) (rest : List Entry)
     → rests (statement ∷ more) rest ≡ rests_at statement (runs_of more ++ rest) ++ rests more rest
 first-rests statement more rest =
-    ap (λ (later : List Entry). rests_at statement (later ++ rest) ++ rests more rest) (runs-are more)
+    sym (append_assoc (rests_before statement.what (Run statement ∷ (runs_of more ++ rest)))
+    ((Run statement ∷ (runs_of more ++ rest)) ∷ rests_in statement.what statement (runs_of more ++ rest))
+    (rests more rest))
+
+-- what remains from each entry of a statement on, by its layer
+at-by : (statement : Statement) (rest : List Entry) (layer : What-F What Statement) → out-What statement.what ≡ layer
+    → rests_at statement rest
+    ≡ rests (body_before layer) (Run statement ∷ rest) ++ ((Run statement ∷ rest) ∷ rests_by layer statement rest)
+at-by statement rest layer is =
+    ap₂ (λ (before inner : List (List Entry)). before ++ ((Run statement ∷ rest) ∷ inner))
+    (ahead-is (Run statement ∷ rest) statement.what ∙ ap (λ (l : What-F What Statement). rests (body_before l)
+    (Run statement ∷ rest)) is)
+    (rests-is statement rest statement.what ∙ ap (λ (l : What-F What Statement). rests_by l statement rest) is)
+
+number-before : (entries : List Entry) (statement : Statement) (later : List Entry) (after : ℕ)
+    → number_or (entries ++ (Run statement ∷ later)) after ≡ number_or entries statement.number
+number-before [] statement later after = refl
+number-before (entry ∷ entries) statement later after = refl
+
+-- statements begin where the first of them does
+begins-more : (statement : Statement) (more : List Statement) (after : ℕ)
+    → begins (statement ∷ more) after ≡ first_number statement
+begins-more statement more after =
+    ap (λ (entries : List Entry). number_or entries after) (runs-more statement more)
+    ∙ number-before (runs_of (body_before (out-What statement.what))) statement (runs_of more) after
+
+-- where there are none the entry after them comes next
+pub begins-none : (statements : List Statement) (after : ℕ) → length statements < 1 → begins statements after ≡ after
+begins-none [] after none = refl
+begins-none (statement ∷ more) after none = absurd (omega arith)
+
+pub begins-first : (statements : List Statement) (first : Statement) (after : ℕ) → first ≡ get_or statements 0 first
+    → 1 ≤ length statements → begins statements after ≡ first_number first
+begins-first [] first after is some = absurd (omega arith)
+begins-first (statement ∷ more) first after is some =
+    begins-more statement more after ∙ sym (ap first_number is)
+
+next-or : (entries : List Entry) (after : ℕ) (rest : List Entry) → after ≡ next_number rest
+    → number_or entries after ≡ next_number (entries ++ rest)
+next-or [] after rest is = is
+next-or (entry ∷ entries) after rest is = refl
 
 begins-next : (statements : List Statement) (after : ℕ) (rest : List Entry) → after ≡ next_number rest
     → begins statements after ≡ next_number (runs_of statements ++ rest)
-begins-next [] after rest is = is
-begins-next (statement ∷ more) after rest is = refl
+begins-next statements after rest is = next-or (runs_of statements) after rest is
 
 begins-found : (places : List (List Entry)) (statements : List Statement) (rest : List Entry) → Finds places rest
     → FindsAll places (rests statements rest)
     → Finds places (runs_of statements ++ rest)
-begins-found places [] rest here found = here
-begins-found places (statement ∷ more) rest here found =
-    found (Run statement ∷ (runs_of more ++ rest))
-    (subst (IsAmong (Run statement ∷ (runs_of more ++ rest))) (sym (first-rests statement more rest)) (inl refl))
+begins-found places statements rest here found = elim (all-stay statements rest) [
+  | inl same ↦ subst (Finds places) (sym same) here
+  | inr among ↦ found (runs_of statements ++ rest) among
+]
 
 found-at : (places : List (List Entry)) (rest : List Entry) (number : ℕ) → number ≡ next_number rest
     → Finds places rest → rest_at places number ≡ rest
@@ -200,7 +237,7 @@ leaf-puts old new procedure statement after made leaf is = record {
   behind = is;
   are = λ places rest at here found.
       let there : rest_at places after ≡ rest = found-at places rest after at here in
-      subst (λ (inner : List (List Entry)). Each (IsNode places procedure) ((Run statement ∷ rest) ∷ inner)
+      subst (λ (all : List (List Entry)). Each (IsNode places procedure) all
       (record { procedure = procedure; work = made; after = after } ∷ []))
       (sym (leaf.alone rest)) (record { deed = leaf.deed places rest there; after = there; own = refl }, tt);
 }
@@ -218,18 +255,18 @@ while-puts old mid new procedure statement test body first after made is first_i
       behind = behind-one old mid new put.made node pushed put.behind;
       are = λ places rest at here found.
           let self : List Entry = Run statement ∷ rest in
-          let inside : rests_in statement.what statement rest ≡ rests body self =
-          ap (λ (what : What). rests_in what statement rest) (is ∙ while-is test body) in
-          let found_in : FindsAll places (rests body self) =
-          λ one among. found one (inr (subst (IsAmong one) (sym inside) among)) in
-          let self_there : Finds places self = found self (inl refl) in
+          let layer : out-What statement.what ≡ What-F.While test body =
+          layer-is statement.what (What-F.While test body) (rolls-While test body ∙ sym is) in
+          let inside : rests_at statement rest ≡ self ∷ rests body self =
+          at-by statement rest (What-F.While test body) layer in
+          let found_at : FindsAll places (self ∷ rests body self) =
+          λ one among. found one (subst (IsAmong one) (sym inside) among) in
+          let found_in : FindsAll places (rests body self) = λ one among. found_at one (inr among) in
+          let self_there : Finds places self = found_at self (inl refl) in
           let yes : rest_at places first ≡ runs_of body ++ self =
           ap (rest_at places) first_is ∙ begins-at places body statement.number self refl self_there found_in in
           let no : rest_at places after ≡ rest = found-at places rest after at here in
-          let layer : out-What statement.what ≡ What-F.While test body =
-          layer-is statement.what (What-F.While test body) (rolls-While test body ∙ sym is) in
-          subst (λ (inner : List (List Entry)). Each (IsNode places procedure) (self ∷ inner) (node ∷ put.made))
-          (sym inside) (
+          subst (λ (all : List (List Entry)). Each (IsNode places procedure) all (node ∷ put.made)) (sym inside) (
             record {
               deed = ap (seen places) made_is ∙ ap₂ (λ (xs ys : List Entry). Tests test xs ys) yes no
                   ∙ sym (ap (deed_run rest statement) layer);
@@ -257,19 +294,19 @@ if-puts old mid third new procedure statement test ones others first second afte
           ∙ append_assoc old (node ∷ put_ones.made) put_others.made;
       are = λ places rest at here found.
           let self : List Entry = Run statement ∷ rest in
-          let inside : rests_in statement.what statement rest ≡ rests ones rest ++ rests others rest =
-          ap (λ (what : What). rests_in what statement rest) (is ∙ if-is test ones others) in
+          let layer : out-What statement.what ≡ What-F.If test ones others =
+          layer-is statement.what (What-F.If test ones others) (rolls-If test ones others ∙ sym is) in
+          let inside : rests_at statement rest ≡ self ∷ rests ones rest ++ rests others rest =
+          at-by statement rest (What-F.If test ones others) layer in
           let in_ones : FindsAll places (rests ones rest) = λ one among. found one
-          (inr (subst (IsAmong one) (sym inside) (among-left one (rests ones rest) (rests others rest) among))) in
+          (subst (IsAmong one) (sym inside) (inr (among-left one (rests ones rest) (rests others rest) among))) in
           let in_others : FindsAll places (rests others rest) = λ one among. found one
-          (inr (subst (IsAmong one) (sym inside) (among-right one (rests ones rest) (rests others rest) among))) in
+          (subst (IsAmong one) (sym inside) (inr (among-right one (rests ones rest) (rests others rest) among))) in
           let yes : rest_at places first ≡ runs_of ones ++ rest =
           ap (rest_at places) first_is ∙ begins-at places ones after rest at here in_ones in
           let no : rest_at places second ≡ runs_of others ++ rest =
           ap (rest_at places) second_is ∙ begins-at places others after rest at here in_others in
-          let layer : out-What statement.what ≡ What-F.If test ones others =
-          layer-is statement.what (What-F.If test ones others) (rolls-If test ones others ∙ sym is) in
-          subst (λ (inner : List (List Entry)). Each (IsNode places procedure) (self ∷ inner)
+          subst (λ (all : List (List Entry)). Each (IsNode places procedure) all
           (node ∷ put_ones.made ++ put_others.made)) (sym inside) (
             record {
               deed = ap (seen places) made_is ∙ ap₂ (λ (xs ys : List Entry). Tests test xs ys) yes no
@@ -284,19 +321,20 @@ if-puts old mid third new procedure statement test ones others first second afte
     }
 
 pub for-puts : (old one two three new : List Node) (procedure : ℕ) (statement : Statement) (variable : Variable)
-    (from to : Expr) (body : List Statement) (last first test after : ℕ)
-    (from_work test_work last_work : Work) → statement.what ≡ For variable from to body last
+    (from to : Expr) (down : Bool) (step : ℤ) (body : List Statement) (last first test after : ℕ)
+    (from_work test_work last_work : Work) → statement.what ≡ For variable from to down step body last
     → test ≡ statement.number + 1 → first ≡ begins body last
     → from_work ≡ work.Assign (spot_of variable) from test
-    → test_work ≡ work.Test (cond.Compare AtMost (expr.Read (spot_of variable)) to) first after
-    → last_work ≡ work.Assign (spot_of variable) (expr.Two Add (expr.Read (spot_of variable)) (expr.Number (pos 1)))
-    test
+    → test_work ≡ work.Test (cond.Compare (bound_by down) (expr.Read (spot_of variable)) to) first after
+    → last_work
+    ≡ work.Assign (spot_of variable) (expr.Two (counts_by down) (expr.Read (spot_of variable)) (expr.Number step)) test
     → one ≡ old ++ record { procedure = procedure; work = from_work; after = after } ∷ []
     → two ≡ one ++ record { procedure = procedure; work = test_work; after = after } ∷ []
     → Puts two three procedure (rests body) last
     → new ≡ three ++ record { procedure = procedure; work = last_work; after = test } ∷ []
     → Puts old new procedure (rests_at statement) after
-for-puts old one two three new procedure statement variable from to body last first test after from_work test_work
+for-puts old one two three new procedure statement variable from to down step body last first test after from_work
+    test_work
     last_work is test_is first_is from_is limit_is last_is pushed1 pushed2 put pushed3 =
     let node1 : Node = record { procedure = procedure; work = from_work; after = after } in
     let node2 : Node = record { procedure = procedure; work = test_work; after = after } in
@@ -312,13 +350,13 @@ for-puts old one two three new procedure statement variable from to body last fi
           let tested : List Entry = Test statement ∷ rest in
           let again : List Entry = Last statement ∷ tested in
           let bodies : List (List Entry) = rests body again in
-          let inside : rests_in statement.what statement rest ≡ tested ∷ bodies ++ again ∷ [] =
-          ap (λ (what : What). rests_in what statement rest) (is ∙ for-is variable from to body last) in
-          let layer : out-What statement.what ≡ What-F.For variable from to body last =
-          layer-is statement.what (What-F.For variable from to body last)
-          (rolls-For variable from to body last ∙ sym is) in
+          let layer : out-What statement.what ≡ What-F.For variable from to down step body last =
+          layer-is statement.what (What-F.For variable from to down step body last)
+          (rolls-For variable from to down step body last ∙ sym is) in
+          let inside : rests_at statement rest ≡ self ∷ tested ∷ bodies ++ again ∷ [] =
+          at-by statement rest (What-F.For variable from to down step body last) layer in
           let found_in : FindsAll places (tested ∷ bodies ++ again ∷ []) =
-          λ part among. found part (inr (subst (IsAmong part) (sym inside) among)) in
+          λ part among. found part (subst (IsAmong part) (sym inside) (inr among)) in
           let in_body : FindsAll places bodies =
           λ part among. found_in part (inr (among-left part bodies (again ∷ []) among)) in
           let test_there : Finds places tested = found_in tested (inl refl) in
@@ -329,7 +367,7 @@ for-puts old one two three new procedure statement variable from to body last fi
           let at_after : rest_at places after ≡ rest = found-at places rest after at here in
           let at_first : rest_at places first ≡ runs_of body ++ again =
           ap (rest_at places) first_is ∙ begins-at places body last again last_next last_there in_body in
-          subst (λ (inner : List (List Entry)). Each (IsNode places procedure) (self ∷ inner)
+          subst (λ (all : List (List Entry)). Each (IsNode places procedure) all
           (node1 ∷ node2 ∷ put.made ++ node3 ∷ [])) (sym inside) (
             record {
               deed = ap (seen places) from_is ∙ ap (Assigns (spot_of variable) from) at_test
@@ -340,7 +378,7 @@ for-puts old one two three new procedure statement variable from to body last fi
             (
               record {
                 deed = ap (seen places) limit_is ∙ ap₂ (λ (xs ys : List Entry). Tests
-                    (cond.Compare AtMost (expr.Read (spot_of variable)) to) xs ys) at_first at_after
+                    (cond.Compare (bound_by down) (expr.Read (spot_of variable)) to) xs ys) at_first at_after
                     ∙ sym (ap (deed_test rest statement) layer);
                 after = at_after;
                 own = refl;
@@ -349,7 +387,7 @@ for-puts old one two three new procedure statement variable from to body last fi
                   (put.are places again last_next last_there in_body) (
                     record {
                       deed = ap (seen places) last_is ∙ ap (Assigns (spot_of variable)
-                          (expr.Two Add (expr.Read (spot_of variable)) (expr.Number (pos 1)))) at_test
+                          (expr.Two (counts_by down) (expr.Read (spot_of variable)) (expr.Number step))) at_test
                           ∙ sym (ap (deed_last tested) layer);
                       after = at_test;
                       own = refl;
@@ -358,4 +396,45 @@ for-puts old one two three new procedure statement variable from to body last fi
                   ),
             ),
           );
+    }
+
+-- the body of a DO, and its test behind it
+pub do-puts : (old mid new : List Node) (procedure : ℕ) (statement : Statement) (body : List Statement) (test : Cond)
+    (first after : ℕ) (made : Work)
+    → statement.what ≡ DoUntil body test → first ≡ begins body statement.number → made ≡ work.Test test after first
+    → Puts old mid procedure (rests body) statement.number
+    → new ≡ mid ++ record { procedure = procedure; work = made; after = after } ∷ []
+    → Puts old new procedure (rests_at statement) after
+do-puts old mid new procedure statement body test first after made is first_is made_is put pushed =
+    let node : Node = record { procedure = procedure; work = made; after = after } in
+    record {
+      made = put.made ++ node ∷ [];
+      behind = pushed ∙ ap (λ (nodes : List Node). nodes ++ node ∷ []) put.behind
+          ∙ append_assoc old put.made (node ∷ []);
+      are = λ places rest at here found.
+          let self : List Entry = Run statement ∷ rest in
+          let layer : out-What statement.what ≡ What-F.DoUntil body test =
+          layer-is statement.what (What-F.DoUntil body test) (rolls-DoUntil body test ∙ sym is) in
+          let inside : rests_at statement rest ≡ rests body self ++ self ∷ [] =
+          at-by statement rest (What-F.DoUntil body test) layer in
+          let found_at : FindsAll places (rests body self ++ self ∷ []) =
+          λ one among. found one (subst (IsAmong one) (sym inside) among) in
+          let in_body : FindsAll places (rests body self) =
+          λ one among. found_at one (among-left one (rests body self) (self ∷ []) among) in
+          let self_there : Finds places self =
+          found_at self (among-right self (rests body self) (self ∷ []) (inl refl)) in
+          let yes : rest_at places after ≡ rest = found-at places rest after at here in
+          let no : rest_at places first ≡ runs_of body ++ self =
+          ap (rest_at places) first_is ∙ begins-at places body statement.number self refl self_there in_body in
+          subst (λ (all : List (List Entry)). Each (IsNode places procedure) all (put.made ++ node ∷ [])) (sym inside)
+          (each-append (IsNode places procedure) (rests body self) (self ∷ []) put.made (node ∷ [])
+          (put.are places self refl self_there in_body) (
+            record {
+              deed = ap (seen places) made_is ∙ ap₂ (λ (xs ys : List Entry). Tests test xs ys) yes no
+                  ∙ sym (ap (deed_run rest statement) layer);
+              after = yes;
+              own = refl;
+            },
+            tt,
+          ));
     }

@@ -1,5 +1,6 @@
 -- Where few wait while statements compute what they do, few wait in each part of them.
-use Rattle.std.proofs.Common.{◌≡◌, inl, inr, ℕ, zero, suc, ◌<◌, ◌≤◌, List, [], ◌∷◌, get_or, slice_get, length, Some}
+use Rattle.std.proofs.Common.{◌≡◌, inl, inr, ℕ, ℤ, Bool, zero, suc, ◌<◌, ◌≤◌, List, [], ◌∷◌, get_or, slice_get, length}
+use Rattle.std.proofs.Common.{Some}
 use Rattle.std.proofs.Common.{refl, ap, subst, sym, ◌∙◌, arith}
 use Rattle.std.proofs.lemmas.Option.{slice_get-get_or}
 use Rattle.std.specs.Prelude.{max}
@@ -12,8 +13,8 @@ use Rattle.tal_tree.specs.declared.expression.Expr.{Expr}
 use Rattle.tal_tree.specs.declared.expression.Variable.{Variable}
 use Rattle.tal_tree.specs.declared.expression.Variable.TheVariants as variable
 use Rattle.tal_tree.specs.declared.statement.Statement.{Statement}
-use Rattle.tal_tree.specs.declared.statement.What.{What, What-F, If, While, For, out-What}
-use Rattle.tal_tree.specs.declared.statement.What.TheViews.{rolls-If, rolls-While, rolls-For}
+use Rattle.tal_tree.specs.declared.statement.What.{What, What-F, If, While, For, DoUntil, out-What}
+use Rattle.tal_tree.specs.declared.statement.What.TheViews.{rolls-If, rolls-While, rolls-For, rolls-DoUntil}
 use Rattle.tal_values.specs.Spots.{spot_of}
 use Rattle.tal_code.specs.Waiting.{waiting_of, waiting_of_spot, waiting_for, waiting_of_test, waiting_of_all}
 use Rattle.tal_code.specs.Waiting.{waiting_at}
@@ -63,14 +64,14 @@ module _ (statement : Statement) (few : FewWait (all_in statement)) where
     few-second =
         λ s among. inside-of (What-F.If test ones others) layer-if s (among-right s (all_of ones) (all_of others) among)
 
-  module _ (variable : Variable) (from to : Expr) (body : List Statement) (last : ℕ)
-      (is : statement.what ≡ For variable from to body last) where
-    layer-for : out-What statement.what ≡ What-F.For variable from to body last
-    layer-for = layer-is statement.what (What-F.For variable from to body last)
-        (rolls-For variable from to body last ∙ sym is)
+  module _ (variable : Variable) (from to : Expr) (down : Bool) (step : ℤ) (body : List Statement) (last : ℕ)
+      (is : statement.what ≡ For variable from to down step body last) where
+    layer-for : out-What statement.what ≡ What-F.For variable from to down step body last
+    layer-for = layer-is statement.what (What-F.For variable from to down step body last)
+        (rolls-For variable from to down step body last ∙ sym is)
 
     both-for : max (waiting_of from) (waiting_for to) < 80
-    both-for = own-of (What-F.For variable from to body last) layer-for
+    both-for = own-of (What-F.For variable from to down step body last) layer-for
 
     pub from-for : waiting_of from < 80
     from-for = omega (arith, both-for)
@@ -79,7 +80,17 @@ module _ (statement : Statement) (few : FewWait (all_in statement)) where
     to-for = omega (arith, both-for)
 
     pub few-for : FewWait (all_of body)
-    few-for = inside-of (What-F.For variable from to body last) layer-for
+    few-for = inside-of (What-F.For variable from to down step body last) layer-for
+
+  module _ (body : List Statement) (test : Cond) (is : statement.what ≡ DoUntil body test) where
+    layer-do : out-What statement.what ≡ What-F.DoUntil body test
+    layer-do = layer-is statement.what (What-F.DoUntil body test) (rolls-DoUntil body test ∙ sym is)
+
+    pub test-do : waiting_of_test test < 80
+    test-do = own-of (What-F.DoUntil body test) layer-do
+
+    pub few-do : FewWait (all_of body)
+    few-do = inside-of (What-F.DoUntil body test) layer-do
 
 -- each of some waits no more than all
 pub waits-at : (values : List Expr) (k : ℕ) (value : Expr) → slice_get values k ≡ Some value

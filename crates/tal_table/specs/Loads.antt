@@ -1,12 +1,12 @@
 -- The nodes that parts of a program get when it is loaded.
 use Rattle.std.specs.Prelude.{◌≡◌, ◌≤◌, ◌<◌, ℕ, List, [], ◌∷◌, ◌++◌, length, drop, flat_map, None}
 use Rattle.gd_words.specs.Members.{IsAmong}
-use Rattle.tal_tree.specs.Statements.{numbers_within}
+use Rattle.tal_tree.specs.Statements.{body_before, numbers_before, numbers_within}
 use Rattle.tal_tree.specs.declared.program.Procedure.{Procedure}
 use Rattle.tal_tree.specs.declared.statement.Statement.{Statement}
 use Rattle.tal_tree.specs.declared.statement.What.{What, What-F, out-What}
-use Rattle.process_semantics.specs.Rests.{next_number, rests_in, rests_of}
-use Rattle.process_semantics.specs.State.{Entry, Run}
+use Rattle.process_semantics.specs.Rests.{entry_number, next_number, rests_before, rests_in, rests_of}
+use Rattle.process_semantics.specs.State.{Entry, Run, runs_of}
 use Rattle.program_deeds.specs.Deed.{deed_of, deed_run}
 use Rattle.tal_code.specs.Waiting.{waiting_at}
 use Rattle.tal_table.specs.Places.{rest_at}
@@ -35,7 +35,8 @@ FewWait statements = (statement : Statement) → IsAmong statement statements �
 
 -- the numbers of a statement and of what stands in it
 abbrev pub numbers_at : Statement → List ℕ
-numbers_at statement = statement.number ∷ numbers_within statement.number statement.what
+numbers_at statement =
+    numbers_before statement.what ++ (statement.number ∷ numbers_within statement.number statement.what)
 
 -- a node of a procedure does what is done where this remains
 pub record IsNode (places : List (List Entry)) (procedure : ℕ) (rest : List Entry) (node : Node) : Type 0 where
@@ -67,12 +68,21 @@ pub record Puts (old new : List Node) (procedure : ℕ) (part : List Entry → L
 
 -- what remains from each entry of a statement on, where others come after it
 abbrev pub rests_at : Statement → List Entry → List (List Entry)
-rests_at statement rest = (Run statement ∷ rest) ∷ rests_in statement.what statement rest
+rests_at statement rest =
+    rests_before statement.what (Run statement ∷ rest)
+    ++ ((Run statement ∷ rest) ∷ rests_in statement.what statement rest)
 
 -- the number that comes next where statements stand before an entry of this number
+abbrev pub number_or : List Entry → ℕ → ℕ
+number_or [] after = after
+number_or (entry ∷ entries) after = entry_number entry
+
 abbrev pub begins : List Statement → ℕ → ℕ
-begins [] after = after
-begins (statement ∷ statements) after = statement.number
+begins statements after = number_or (runs_of statements) after
+
+-- the number of a statement's first entry: that of a DO's body, which is done before its test
+abbrev pub first_number : Statement → ℕ
+first_number statement = begins (body_before (out-What statement.what)) statement.number
 
 -- a statement is an IF
 abbrev pub IsIf : What-F What Statement → Type 0
@@ -86,21 +96,37 @@ IsWhile _ = ⊥
 
 -- a statement is a FOR
 abbrev pub IsFor : What-F What Statement → Type 0
-IsFor (What-F.For variable from to body last) = Unit {0}
+IsFor (What-F.For variable from to down step body last) = Unit {0}
 IsFor _ = ⊥
+
+-- a statement is a DO
+abbrev pub IsDo : What-F What Statement → Type 0
+IsDo (What-F.DoUntil body test) = Unit {0}
+IsDo _ = ⊥
 
 -- no others stand in a statement
 abbrev pub IsAlone : What-F What Statement → Type 0
 IsAlone (What-F.If test first second) = ⊥
 IsAlone (What-F.While test body) = ⊥
-IsAlone (What-F.For variable from to body last) = ⊥
-IsAlone _ = Unit {0}
+IsAlone (What-F.For variable from to down step body last) = ⊥
+IsAlone (What-F.DoUntil body test) = ⊥
+IsAlone (What-F.Assign _ _) = Unit {0}
+IsAlone (What-F.AssignCall _ _ _) = Unit {0}
+IsAlone (What-F.Call _ _) = Unit {0}
+IsAlone (What-F.Return _) = Unit {0}
+IsAlone (What-F.ReadUpdate _ _ _) = Unit {0}
+IsAlone (What-F.Reply _ _) = Unit {0}
+IsAlone (What-F.WriteRead _ _ _ _ _) = Unit {0}
+IsAlone (What-F.Checkpoint _ _) = Unit {0}
+IsAlone What-F.CheckMonitor = Unit {0}
+IsAlone (What-F.Open _) = Unit {0}
+IsAlone What-F.Stop = Unit {0}
 
 -- work is what is done at a statement in which no others stand, before an entry of this number
 pub record IsLeaf (statement : Statement) (after : ℕ) (made : Work) : Type 0 where
   pub deed : (places : List (List Entry)) (rest : List Entry) → rest_at places after ≡ rest
       → seen places made ≡ deed_run rest statement (out-What statement.what)
-  pub alone : (rest : List Entry) → rests_in statement.what statement rest ≡ []
+  pub alone : (rest : List Entry) → rests_at statement rest ≡ (Run statement ∷ rest) ∷ []
 
 -- what remains from each entry of procedures on
 abbrev pub rests_all : List Procedure → List (List Entry)

@@ -34,12 +34,24 @@ pub(crate) fn put_list(
 }
 
 /// The number that comes next where statements stand before an entry of number `after`.
+#[cycle(begin)]
 pub(crate) fn begins(statements: &[Statement], after: u16) -> u16
     ensures { result ≡ loads.begins statements.now after }
 {
     match statements {
         [] => after,
-        [first, ..] => first.number,
+        [first, ..] => first_number(first),
+    }
+}
+
+/// The number of the first entry of a statement: that of a DO's body, else its own.
+#[cycle(begin)]
+fn first_number(statement: &Statement) -> u16
+    ensures { result ≡ loads.first_number statement.now }
+{
+    match &statement.what {
+        What::DoUntil { body, test: _ } => begins(body.as_slice(), statement.number),
+        _ => statement.number,
     }
 }
 
@@ -59,6 +71,7 @@ fn put_statement(
         What::If { .. } => put_if(alloc, nodes, procedure, statement, after),
         What::While { .. } => put_while(alloc, nodes, procedure, statement, after),
         What::For { .. } => put_for(alloc, nodes, procedure, statement, after),
+        What::DoUntil { .. } => put_do(alloc, nodes, procedure, statement, after),
         _ => put_leaf(alloc, nodes, procedure, statement, after),
     }
 }
@@ -153,19 +166,44 @@ fn put_for(
         variable,
         from,
         to,
+        down,
+        step,
         body,
         last,
     } = &statement.what
     else {
         unreachable!()
     };
-    let (variable, body, last) = (*variable, body.as_slice(), *last);
+    let (variable, down, body, last) = (*variable, *down, body.as_slice(), *last);
     let test = statement.number + 1;
     let start = from_work(alloc, variable, from, test)?;
     push(nodes, procedure, start, after)?;
-    let limit = limit_work(alloc, variable, to, begins(body, last), after)?;
+    let limit = limit_work(alloc, variable, down, to, begins(body, last), after)?;
     push(nodes, procedure, limit, after)?;
     put_list(alloc, nodes, procedure, body, last)?;
-    let again = last_work(alloc, variable, test)?;
+    let again = last_work(alloc, variable, down, *step, test)?;
     push(nodes, procedure, again, test)
+}
+
+/// A DO's body leads to its test, and the test into the body again.
+#[cycle(put)]
+fn put_do(
+    alloc: Global,
+    nodes: &mut Vec<Node>,
+    procedure: u16,
+    statement: &Statement,
+    after: u16,
+) -> Result<(), NoMemory>
+    requires kind { loads.IsDo (out-What statement.now.what) }
+    requires small { AreSmall (numbers_at statement.now) }
+    requires few { FewWait (all_in statement.now) }
+    ensures { OnOk result (Puts nodes.old.items nodes.new.items procedure (rests_at statement.now) after) }
+{
+    let What::DoUntil { body, test } = &statement.what else {
+        unreachable!()
+    };
+    let body = body.as_slice();
+    put_list(alloc, nodes, procedure, body, statement.number)?;
+    let work = test_work(alloc, test, after, begins(body, statement.number))?;
+    push(nodes, procedure, work, after)
 }

@@ -1,7 +1,9 @@
-ghost use Rattle.std.specs.Prelude.{◌≡◌, ◌<◌, pos, Some, None, IfOk};
+ghost use Rattle.std.specs.Prelude.{◌≡◌, ◌<◌, Some, None, IfOk};
 ghost use Rattle.tal_tree.specs.declared.expression.Cond.TheVariants as cond;
 ghost use Rattle.tal_tree.specs.declared.expression.Expr.TheVariants as expr;
 ghost use Rattle.tal_tree.specs.declared.statement.What.{out-What};
+ghost use Rattle.process_semantics.specs.Steps.{bound_by};
+ghost use Rattle.program_deeds.specs.Deed.{counts_by};
 ghost use Rattle.tal_values.specs.Spots.{spot_of};
 ghost use Rattle.tal_code.specs.Waiting.{waiting_of, waiting_of_spot, waiting_for, waiting_of_test, waiting_of_all};
 ghost use Rattle.tal_code.specs.Waiting.{waiting_of_answer, waiting_at};
@@ -47,7 +49,9 @@ pub(crate) fn leaf_work(alloc: Global, statement: &Statement, after: u16) -> Res
         }
         What::CheckMonitor | What::Open(_) => Ok(Work::Pass),
         What::Stop => Ok(Work::Stop),
-        What::If { .. } | What::While { .. } | What::For { .. } => unreachable!(),
+        What::If { .. } | What::While { .. } | What::For { .. } | What::DoUntil { .. } => {
+            unreachable!()
+        }
     }
 }
 
@@ -172,7 +176,7 @@ fn codes_of(alloc: Global, arguments: &[Expr]) -> Result<List<Code>, NoMemory>
     Ok(codes)
 }
 
-/// The work of an IF or a WHILE, with the numbers that come next where the test is true and where it is false.
+/// The work of an IF, a WHILE or a DO, with the numbers that come next where the test is true and where it is false.
 pub(crate) fn test_work(alloc: Global, test: &Cond, yes: u16, no: u16) -> Result<Work, NoMemory>
     requires { waiting_of_test test.now < 80 }
     ensures { IfOk result (λ made. made ≡ work.Test test.now yes no) }
@@ -199,31 +203,52 @@ pub(crate) fn from_work(
 pub(crate) fn limit_work(
     alloc: Global,
     variable: Variable,
+    down: bool,
     to: &Expr,
     yes: u16,
     no: u16,
 ) -> Result<Work, NoMemory>
     requires { waiting_for to.now < 80 }
-    ensures { IfOk result (λ made. made ≡ work.Test (cond.Compare Rel.AtMost (expr.Read (spot_of variable)) to.now) yes
-        no) }
+    ensures { IfOk result (λ made. made
+        ≡ work.Test (cond.Compare (bound_by down) (expr.Read (spot_of variable)) to.now) yes no) }
 {
-    let test = limit_code_of(alloc, variable, to)?;
+    let test = limit_code_of(alloc, variable, bound(down), to)?;
     Ok(Work::Test { test, yes, no })
 }
 
 /// The last assignment of a FOR, before its test.
-pub(crate) fn last_work(alloc: Global, variable: Variable, test: u16) -> Result<Work, NoMemory>
+pub(crate) fn last_work(
+    alloc: Global,
+    variable: Variable,
+    down: bool,
+    step: i16,
+    test: u16,
+) -> Result<Work, NoMemory>
     ensures { IfOk result (λ made. made ≡ work.Assign (spot_of variable)
-        (expr.Two Op.Add (expr.Read (spot_of variable)) (expr.Number (pos 1))) test) }
+        (expr.Two (counts_by down) (expr.Read (spot_of variable)) (expr.Number step)) test) }
 {
     let spot = spot(variable);
     let to = spot_code_of(alloc, &spot)?;
-    let value = next_code_of(alloc, variable)?;
+    let value = next_code_of(alloc, variable, operator(down), step)?;
     Ok(Work::Assign {
         to,
         value,
         next: test,
     })
+}
+
+/// How the variable of a FOR that counts up or down stands to its limit as long as it goes round.
+fn bound(down: bool) -> Rel
+    ensures { result ≡ bound_by down }
+{
+    if down { Rel::AtLeast } else { Rel::AtMost }
+}
+
+/// By which operator a FOR counts up or down.
+fn operator(down: bool) -> Op
+    ensures { result ≡ counts_by down }
+{
+    if down { Op::Sub } else { Op::Add }
 }
 
 fn spot(variable: Variable) -> Spot

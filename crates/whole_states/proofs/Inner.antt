@@ -18,7 +18,7 @@ use Rattle.process_semantics.specs.Remains.{ways_into, ways_round, leads_to}
 use Rattle.process_semantics.specs.State.{Entry, Run, Test, Last, Frame, ProgramState, runs_of, first_of, next_of}
 use Rattle.process_semantics.specs.State.{rest_of, memory_of}
 use Rattle.process_semantics.specs.Steps.{values_of, assigned, tested, entered_by, entered, given_in, given, given_to}
-use Rattle.process_semantics.specs.Steps.{returned, for_begun, inner_in, tested_in, counted_up, counted_in, inner_entry}
+use Rattle.process_semantics.specs.Steps.{returned, for_begun, inner_in, tested_in, counted, counted_in, inner_entry}
 use Rattle.process_semantics.specs.Steps.{or_ends, inner}
 use Rattle.process_semantics.specs.declared.point.Point.TheVariants as point
 use Rattle.process_semantics.proofs.Points.{AtCall, at_ask}
@@ -61,10 +61,11 @@ begun-awake {s = s} statement variable (Some word) is leads =
     (subst (λ (rest : List Entry). LeadsTo rest (Test statement ∷ []))
     (sym (word-rest (variable_cell variable) word s)) leads)
 
-counted-awake : {program : Program} {s : ProgramState} (to : Cell) (value : Option ℤ) → IsAwake program s
-    → IfAwake program (counted_up s to value)
-counted-awake to None is = tt
-counted-awake to (Some word) is = done-awake (word-awake to _ is)
+counted-awake : {program : Program} {s : ProgramState} (to : Cell) (down : Bool) (step : ℤ) (value : Option ℤ)
+    → IsAwake program s
+    → IfAwake program (counted s to down step value)
+counted-awake to down step None is = tt
+counted-awake to down step (Some word) is = done-awake (word-awake to _ is)
 
 -- Calls
 
@@ -163,9 +164,14 @@ module _ (program : Program) (regular : IsRegular program) (s : ProgramState) (f
         (into (What-F.While test body) ((runs_of body ++ Run statement ∷ []) ++ tail) same
         (inr (inl (append_assoc (runs_of body) (Run statement ∷ []) tail))))
         (into (What-F.While test body) tail same (inl refl))
-    run-awake (What-F.For variable from to body last) procedure same there is =
-        begun-awake statement variable _ is (into (What-F.For variable from to body last) (Test statement ∷ tail) same
-        (inr (inl refl)))
+    run-awake (What-F.For variable from to down step body last) procedure same there is =
+        begun-awake statement variable _ is
+        (into (What-F.For variable from to down step body last) (Test statement ∷ tail) same (inr (inl refl)))
+    run-awake (What-F.DoUntil body test) procedure same there is =
+        tested-awake [] (runs_of body ++ Run statement ∷ []) _ is
+        (into (What-F.DoUntil body test) tail same (inl refl))
+        (into (What-F.DoUntil body test) ((runs_of body ++ Run statement ∷ []) ++ tail) same
+        (inr (inl (append_assoc (runs_of body) (Run statement ∷ []) tail))))
     run-awake (What-F.Call number arguments) procedure same there is =
         entered-awake number arguments _ refl there (ap called_in same) is.ended is
     run-awake (What-F.Return value) procedure same there is = returned-awake (Run statement ∷ tail) _ is
@@ -180,7 +186,7 @@ module _ (program : Program) (regular : IsRegular program) (s : ProgramState) (f
     test-awake : (layer : What-F What Statement) → out-What statement.what ≡ layer
         → IsAwake program (at (Test statement ∷ tail))
         → IfAwake program (tested_in program (at (Test statement ∷ tail)) statement layer)
-    test-awake (What-F.For variable from to body last) same is =
+    test-awake (What-F.For variable from to down step body last) same is =
         tested-awake (runs_of body ++ Last statement ∷ Test statement ∷ []) [] _ is
         (subst (λ (l : What-F What Statement). IsAmong ((runs_of body ++ Last statement ∷ Test statement ∷ []) ++ tail)
         (tail ∷ ways_round statement tail l)) (sym same)
@@ -189,7 +195,8 @@ module _ (program : Program) (regular : IsRegular program) (s : ProgramState) (f
 
     last-awake : (layer : What-F What Statement) → IsAwake program (at (Last statement ∷ tail))
         → IfAwake program (counted_in program (at (Last statement ∷ tail)) layer)
-    last-awake (What-F.For variable from to body last) is = counted-awake (variable_cell variable) _ is
+    last-awake (What-F.For variable from to down step body last) is =
+        counted-awake (variable_cell variable) down step _ is
     last-awake _ is = tt
 
   entry-awake : (rest : List Entry) → IsAwake program (at rest)

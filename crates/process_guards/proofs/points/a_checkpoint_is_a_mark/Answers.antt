@@ -21,3 +21,8 @@ pub returns-clause-stop : goal.returns-clause-stop
 unfolding int_wrap out-What out shape-the_row-Statement-0 hidden-the_row-Statement-0 shape-the_row-Spot-0
     hidden-the_row-Spot-0 shape-the_row-Expr-1 hidden-the_row-Expr-1 hidden
 returns-clause-stop c = refl
+
+pub returns-clause-until : goal.returns-clause-until
+unfolding int_wrap out-What out shape-the_row-Statement-0 hidden-the_row-Statement-0 shape-the_row-Spot-0
+    hidden-the_row-Spot-0 shape-the_row-Expr-1 hidden-the_row-Expr-1 hidden
+returns-clause-until c = refl

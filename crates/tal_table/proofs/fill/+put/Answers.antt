@@ -1,11 +1,18 @@
-use Rattle.std.proofs.Common.{rules, ◌≡◌, ◌≤◌, ◌+◌, List, ◌∷◌, drop, refl, ap, ap₂, sym, ◌∙◌, arith}
+use Rattle.std.proofs.Common.{rules, ◌≡◌, ◌≤◌, ◌+◌, ℤ, List, ◌∷◌, drop, refl, ap, ap₂, sym, ◌∙◌, arith, to_z, of_z}
+use Rattle.std.proofs.lemmas.Int.{wraps}
+use Rattle.std.specs.Int.{w16}
+use Rattle.tal_tree.specs.declared.expression.Expr.TheVariants as expr
 use Rattle.tal_tree.specs.declared.statement.Statement.{Statement}
-use Rattle.tal_tree.specs.declared.statement.What.{If, While, For}
+use Rattle.tal_tree.specs.declared.statement.What.{If, While, For, DoUntil}
+use Rattle.tal_values.specs.Spots.{spot_of}
+use Rattle.program_deeds.specs.Deed.{counts_by}
 use Rattle.tal_table.specs.Loads.{begins}
+use Rattle.tal_table.specs.declared.node.Work.TheVariants as work
 use Rattle.tal_table.proofs.Nodes.{left-is, drop-past, on-ok, listing-next, listing-end, while-puts, if-puts, for-puts}
-use Rattle.tal_table.proofs.Small.{count-at, count-while, count-if, count-for, small-at, small-own, small-while}
-use Rattle.tal_table.proofs.Small.{small-first, small-second, small-for}
-use Rattle.tal_table.proofs.Waits.{few-at, few-while, few-first, few-second, few-for}
+use Rattle.tal_table.proofs.Nodes.{do-puts}
+use Rattle.tal_table.proofs.Small.{count-at, count-while, count-if, count-for, count-do, small-at, small-own}
+use Rattle.tal_table.proofs.Small.{small-while, small-first, small-second, small-for, small-do}
+use Rattle.tal_table.proofs.Waits.{few-at, few-while, few-first, few-second, few-for, few-do}
 use Rattle.tal_table.proofs.fill.+put.Goals as goal
 
 pub put_for-overflow_add-test : goal.put_for-overflow_add-test
@@ -15,19 +22,23 @@ put_for-overflow_add-test t c =
 pub put_for-put_list-requires : goal.put_for-put_list-requires
 put_for-put_list-requires t c =
     let body = c.as_slice-body.result.now in
-    let is : c.args.statement.now.what ≡ For c.in-For.variable c.in-For.from c.in-For.to body c.in-For.last =
-    c.in-For.is ∙ ap (λ (ss : List Statement). For c.in-For.variable c.in-For.from c.in-For.to ss c.in-For.last)
+    let is : c.args.statement.now.what ≡ For c.in-For.variable c.in-For.from c.in-For.to c.in-For.down c.in-For.step
+    body c.in-For.last =
+    c.in-For.is ∙ ap (λ (ss : List Statement). For c.in-For.variable c.in-For.from c.in-For.to c.in-For.down
+    c.in-For.step ss c.in-For.last)
     (sym c.as_slice-body.ensures) in (
       omega (
         arith,
         c.decreases,
-        count-for c.args.statement.now c.in-For.variable c.in-For.from c.in-For.to body
+        count-for c.args.statement.now c.in-For.variable c.in-For.from c.in-For.to c.in-For.down c.in-For.step body
             c.in-For.last is,
       ),
       (
-        small-for c.args.statement.now c.requires.small c.in-For.variable c.in-For.from c.in-For.to body c.in-For.last
+        small-for c.args.statement.now c.requires.small c.in-For.variable c.in-For.from c.in-For.to c.in-For.down
+            c.in-For.step body c.in-For.last
             is,
-        few-for c.args.statement.now c.requires.few c.in-For.variable c.in-For.from c.in-For.to body c.in-For.last is,
+        few-for c.args.statement.now c.requires.few c.in-For.variable c.in-For.from c.in-For.to c.in-For.down
+            c.in-For.step body c.in-For.last is,
       ),
     )
 
@@ -130,14 +141,44 @@ put_if-returns t c =
 
 pub put_for-returns : goal.put_for-returns
 put_for-returns t c =
+    let kept : to_z w16 (of_z w16 c.in-For.step) ≡ c.in-For.step = first_of (search (rules, wraps), search rules) in
+    let again : c.in_ok-again.again ≡ work.Assign (spot_of c.in-For.variable) (expr.Two (counts_by c.in-For.down)
+    (expr.Read (spot_of c.in-For.variable)) (expr.Number c.in-For.step)) (c.args.statement.now.number + 1) =
+    c.in_ok-again.ensures ∙ ap (λ (step : ℤ). work.Assign (spot_of c.in-For.variable)
+    (expr.Two (counts_by c.in-For.down) (expr.Read (spot_of c.in-For.variable)) (expr.Number step))
+    (c.args.statement.now.number + 1)) kept in
     let body = c.as_slice-body.result.now in
-    let is : c.args.statement.now.what ≡ For c.in-For.variable c.in-For.from c.in-For.to body c.in-For.last =
-    c.in-For.is ∙ ap (λ (ss : List Statement). For c.in-For.variable c.in-For.from c.in-For.to ss c.in-For.last)
+    let is : c.args.statement.now.what ≡ For c.in-For.variable c.in-For.from c.in-For.to c.in-For.down c.in-For.step
+    body c.in-For.last =
+    c.in-For.is ∙ ap (λ (ss : List Statement). For c.in-For.variable c.in-For.from c.in-For.to c.in-For.down
+    c.in-For.step ss c.in-For.last)
     (sym c.as_slice-body.ensures) in
     on-ok c.push-3.result (λ pushed. for-puts c.args.nodes.now.items c.push.new.nodes.items c.push-2.new.nodes.items
     c.put_list.new.nodes.items c.push-3.new.nodes.items
-    c.args.procedure c.args.statement.now c.in-For.variable c.in-For.from c.in-For.to body c.in-For.last
+    c.args.procedure c.args.statement.now c.in-For.variable c.in-For.from c.in-For.to c.in-For.down c.in-For.step body
+    c.in-For.last
     c.begins.result (c.args.statement.now.number + 1) c.args.after
     c.in_ok-start.start c.in_ok-limit.limit c.in_ok-again.again is refl c.begins.ensures c.in_ok-start.ensures
     c.in_ok-limit.ensures
-    c.in_ok-again.ensures c.in_ok-push.ensures c.in_ok-push-2.ensures c.in_ok-put_list.ensures pushed) c.push-3.ensures
+    again c.in_ok-push.ensures c.in_ok-push-2.ensures c.in_ok-put_list.ensures pushed) c.push-3.ensures
+
+pub put_do-put_list-requires : goal.put_do-put_list-requires
+put_do-put_list-requires t c =
+    let body = c.as_slice-body.result.now in
+    let is : c.args.statement.now.what ≡ DoUntil body c.in-DoUntil.test =
+    c.in-DoUntil.is ∙ ap (λ (ss : List Statement). DoUntil ss c.in-DoUntil.test) (sym c.as_slice-body.ensures) in (
+      omega (arith, c.decreases, count-do c.args.statement.now body c.in-DoUntil.test is),
+      (
+        small-do c.args.statement.now c.requires.small body c.in-DoUntil.test is,
+        few-do c.args.statement.now c.requires.few body c.in-DoUntil.test is,
+      ),
+    )
+
+pub put_do-returns : goal.put_do-returns
+put_do-returns t c =
+    let body = c.as_slice-body.result.now in
+    let is : c.args.statement.now.what ≡ DoUntil body c.in-DoUntil.test =
+    c.in-DoUntil.is ∙ ap (λ (ss : List Statement). DoUntil ss c.in-DoUntil.test) (sym c.as_slice-body.ensures) in
+    on-ok c.push.result (λ pushed. do-puts c.args.nodes.now.items c.put_list.new.nodes.items c.push.new.nodes.items
+    c.args.procedure c.args.statement.now body c.in-DoUntil.test c.begins.result c.args.after c.in_ok-work.work is
+    c.begins.ensures c.in_ok-work.ensures c.in_ok-put_list.ensures pushed) c.push.ensures

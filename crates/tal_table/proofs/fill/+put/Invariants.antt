@@ -19,6 +19,9 @@ decreases-put_while l = 3 * length (numbers_at l.statement.now)
 abbrev pub decreases-put_for : goal.decreases-put_for
 decreases-put_for l = 3 * length (numbers_at l.statement.now)
 
+abbrev pub decreases-put_do : goal.decreases-put_do
+decreases-put_do l = 3 * length (numbers_at l.statement.now)
+
 abbrev pub invariant-put_list-loop-k : goal.invariant-put_list-loop-k
 invariant-put_list-loop-k l =
     Listing l.fn.nodes.items l.nodes.items l.procedure l.statements (drop l.k l.statements) l.after

@@ -1,0 +1,17 @@
+use Rattle.std.proofs.Common.{refl}
+use Rattle.tal_tree.specs.declared.statement.What.{out-What}
+use Rattle.tal_tree.specs.declared.statement.What.TheBlock.{shown-the_row-Statement-0, shape-the_row-Statement-0}
+use Rattle.tal_tree.specs.declared.statement.What.TheBlock.{hidden-the_row-Statement-0}
+use denote.Hole.Carrier.{shown, hidden, out}
+use Rattle.process_guards.proofs.images.a_loop_stands_by_its_numbers.Goals as goal
+
+pub returns : goal.returns
+unfolding shown-the_row-Statement-0 shown out-What out shape-the_row-Statement-0 hidden-the_row-Statement-0 hidden
+returns c = record {
+  body = refl;
+  body_restored = refl;
+  inner_test_restored = refl;
+  outer_test_restored = refl;
+  test_restored = refl;
+  last_restored = refl;
+}
