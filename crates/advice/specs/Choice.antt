@@ -9,8 +9,9 @@ use Rattle.tal_tree.specs.declared.program.Procedure.{Procedure}
 use Rattle.tal_tree.specs.declared.program.Program.{Program}
 use Rattle.tal_tree.specs.declared.program.Target.TheVariants as target
 use Rattle.tal_tree.specs.declared.statement.Statement.{Statement}
-use Rattle.tal_tree.specs.declared.statement.What.{What, Assign, AssignCall, If', While', For', Call, Return}
-use Rattle.tal_tree.specs.declared.statement.What.{ReadUpdate, Reply, WriteRead, Checkpoint, CheckMonitor, Open, Stop}
+use Rattle.tal_tree.specs.declared.statement.What.{What, Assign, AssignCall, If', While', For', DoUntil', Call}
+use Rattle.tal_tree.specs.declared.statement.What.{Return, ReadUpdate, Reply, WriteRead, Checkpoint, CheckMonitor}
+use Rattle.tal_tree.specs.declared.statement.What.{Open, Stop}
 use Rattle.tal_tree.specs.declared.statement.What.{Row_of-Statement, end_of-Statement, more_of-Statement}
 
 -- the globals and the files that a CHECKPOINT names, by its number, and the depth of a file, by its place among the
@@ -26,7 +27,9 @@ abbrev mutual
   what_with choice number (Checkpoint _ _) = Checkpoint (choice.items number) (choice.files number)
   what_with choice number (If' test s first t second) = If' test s (row_with choice first) t (row_with choice second)
   what_with choice number (While' test s body) = While' test s (row_with choice body)
-  what_with choice number (For' variable from to s body last) = For' variable from to s (row_with choice body) last
+  what_with choice number (For' variable from to down step s body last) =
+      For' variable from to down step s (row_with choice body) last
+  what_with choice number (DoUntil' s body test) = DoUntil' s (row_with choice body) test
   what_with choice number (Assign to value) = Assign to value
   what_with choice number (AssignCall to procedure arguments) = AssignCall to procedure arguments
   what_with choice number (Call procedure arguments) = Call procedure arguments

@@ -5,13 +5,14 @@ use Rattle.tal_tree.specs.declared.statement.What.{out-What}
 use Rattle.tal_tree.specs.declared.statement.What.TheBlock.{shown-the_row-Statement-0}
 use Rattle.advice.specs.Choice.{deepest}
 use Rattle.advice_guards.specs.Programs.{two_lists, elements, asking_once, asking_twice, asking_four, asking_five}
-use Rattle.advice_guards.specs.Programs.{unreached, branching, calling, targeting, shared, again, serving}
+use Rattle.advice_guards.specs.Programs.{unreached, branching, calling, targeting, shared, again, until}
+use Rattle.advice_guards.specs.Programs.{serving}
 use Rattle.advice_guards.proofs.Listed.{AreAll}
 use Rattle.advice_guards.proofs.Stands.{again_stands, again_ways, branching_stands, branching_ways, calling_stands}
 use Rattle.advice_guards.proofs.Stands.{element_stands, five_stands, four_stands, four_ways, once_stands}
 use Rattle.advice_guards.proofs.Stands.{serving_stands, serving_ways, shared_stands, shared_ways, targeting_stands}
 use Rattle.advice_guards.proofs.Stands.{three_ways, twice_stands, two_stands, two_ways, unreached_stands}
-use Rattle.advice_guards.proofs.Stands.{unreached_ways}
+use Rattle.advice_guards.proofs.Stands.{unreached_ways, until_stands, until_ways}
 
 pub two_lists-all : AreAll two_lists two_stands two_ways
 unfolding out-What shown-the_row-Statement-0 shown out
@@ -56,6 +57,10 @@ shared-all = record { begins = refl; lead = refl }
 pub again-all : AreAll again again_stands again_ways
 unfolding out-What shown-the_row-Statement-0 shown out
 again-all = record { begins = refl; lead = refl }
+
+pub until-all : AreAll until until_stands until_ways
+unfolding out-What shown-the_row-Statement-0 shown out
+until-all = record { begins = refl; lead = refl }
 
 pub serving-all : AreAll serving serving_stands serving_ways
 unfolding out-What shown-the_row-Statement-0 shown out

@@ -5,8 +5,8 @@ use Rattle.path_semantics.specs.declared.dues.Dues.{Dues}
 use Rattle.path_semantics.specs.Dues.{no_dues, after_entry}
 use Rattle.path_semantics.specs.Place.{Place, Stand, body_of}
 use Rattle.advice_guards.specs.Programs.{two_lists, stopping, unreached, calling, targeting, shared, elements}
-use Rattle.advice_guards.specs.Programs.{first_branch, second_branch, branching, round, again, asking_once}
-use Rattle.advice_guards.specs.Programs.{asking_twice, asking_four, asking_five, turn, serving}
+use Rattle.advice_guards.specs.Programs.{first_branch, second_branch, branching, round, again, until}
+use Rattle.advice_guards.specs.Programs.{asking_once, asking_twice, asking_four, asking_five, turn, serving}
 
 -- at a place, where these globals are due, these files were asked, and a request was read or not
 abbrev stand : Place → List ℕ → List ℕ → Bool → Stand
@@ -131,6 +131,20 @@ again_stands =
 
 abbrev pub again_ways : List (List ℕ)
 again_ways = (1 ∷ 2 ∷ []) ∷ (3 ∷ []) ∷ [] ∷ (4 ∷ []) ∷ (5 ∷ 6 ∷ []) ∷ (3 ∷ []) ∷ [] ∷ []
+
+-- in a DO, whose body begins again where its test is false
+
+abbrev until_body : List Entry
+until_body = body_of until 0
+
+abbrev pub until_stands : List Stand
+until_stands =
+    main_after until_body 0 [] ∷ main_after until_body 1 (0 ∷ []) ∷ main_after until_body 2 []
+    ∷ main_after until_body 3 (1 ∷ []) ∷ main_after until_body 4 (1 ∷ []) ∷ main_after until_body 1 (1 ∷ [])
+    ∷ ended [] ∷ []
+
+abbrev pub until_ways : List (List ℕ)
+until_ways = (1 ∷ []) ∷ (2 ∷ []) ∷ (3 ∷ []) ∷ (4 ∷ 5 ∷ []) ∷ (6 ∷ []) ∷ (2 ∷ []) ∷ [] ∷ []
 
 -- a server
 

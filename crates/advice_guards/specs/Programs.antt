@@ -13,8 +13,8 @@ use Rattle.tal_tree.specs.declared.program.Program.{Program}
 use Rattle.tal_tree.specs.declared.program.Shape.TheVariants as shape
 use Rattle.tal_tree.specs.declared.program.Target.TheVariants as target
 use Rattle.tal_tree.specs.declared.statement.Statement.{Statement}
-use Rattle.tal_tree.specs.declared.statement.What.{What, Assign, AssignCall, If', While', Call, ReadUpdate, Reply}
-use Rattle.tal_tree.specs.declared.statement.What.{WriteRead, Checkpoint, Stop}
+use Rattle.tal_tree.specs.declared.statement.What.{What, Assign, AssignCall, If', While', DoUntil', Call, ReadUpdate}
+use Rattle.tal_tree.specs.declared.statement.What.{Reply, WriteRead, Checkpoint, Stop}
 
 -- X and Y are simple, A and BUF arrays of two words, RCV is opened to `$RECEIVE` and DISK to a process, GOT counts
 -- words
@@ -117,6 +117,13 @@ round = at 2 marks ∷ at 3 (sets 0) ∷ []
 
 abbrev pub again : Program
 again = main_alone (at 1 (While' always (places round) (rows round)) ∷ [])
+
+-- x := 1; DO BEGIN CHECKPOINT; y := 1 END UNTIL ..; CHECKPOINT
+abbrev pub first_round : List Statement
+first_round = at 2 marks ∷ at 3 (sets 1) ∷ []
+
+abbrev pub until : Program
+until = main_alone (at 1 (sets 0) ∷ at 4 (DoUntil' (places first_round) (rows first_round) always) ∷ at 5 marks ∷ [])
 
 -- WRITEREAD; CHECKPOINT; WRITEREAD
 abbrev pub asking_once : Program

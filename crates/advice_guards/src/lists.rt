@@ -2,7 +2,7 @@ ghost use Rattle.std.specs.Prelude.{◌↔◌, ℕ, IsTrue, [], ◌∷◌};
 ghost use Rattle.gd_words.specs.Members.{is_among};
 ghost use Rattle.advice.specs.Due.{IsItemDue, IsFileDue};
 ghost use Rattle.advice_guards.specs.Programs.{two_lists, unreached, calling, targeting, shared, elements, branching};
-ghost use Rattle.advice_guards.specs.Programs.{again, asking_once};
+ghost use Rattle.advice_guards.specs.Programs.{again, until, asking_once};
 
 /// Each CHECKPOINT has what is due since the one before it, and the second of two in a row nothing.
 pub fn checkpoints_have_lists_of_their_own()
@@ -44,6 +44,13 @@ pub fn branches_come_together()
 /// In a loop a global that is set behind the CHECKPOINT is due there in the next round.
 pub fn a_loop_comes_back()
     ensures { (item : ℕ) → IsTrue (is_among item (0 ∷ [])) ↔ IsItemDue again 2 item }
+{}
+
+/// A DO's body is done before its test: its CHECKPOINT names what was set before the DO, which then isn't due behind the
+/// DO, and what the body sets behind it is due there in the next round.
+pub fn a_body_is_done_before_its_test()
+    ensures inside { (item : ℕ) → IsTrue (is_among item (0 ∷ 1 ∷ [])) ↔ IsItemDue until 2 item }
+    ensures behind { (item : ℕ) → IsTrue (is_among item (1 ∷ [])) ↔ IsItemDue until 5 item }
 {}
 
 /// After a WRITEREAD its buffer, its count and its file are due, and no other file.

@@ -2,15 +2,15 @@
 use Rattle.std.proofs.Common.{◌≡◌, ℕ, List, [], ◌∷◌, refl, ap, sym, ◌∙◌}
 use mathlib.Core.Former.{this, arity}
 use Rattle.gd_words.specs.formers.list.List as list
-use Rattle.tal_tree.specs.Rows.{places, rows, if-is, while-is, for-is}
+use Rattle.tal_tree.specs.Rows.{places, rows, if-is, while-is, for-is, do-is}
 use Rattle.tal_tree.specs.declared.statement.Statement.{Statement}
 use Rattle.tal_tree.specs.declared.statement.What.{What, What-F, out-What, roll-What, roll-out-What, If', While', For'}
-use Rattle.tal_tree.specs.declared.statement.What.{Row_of-Statement, more_of-Statement}
+use Rattle.tal_tree.specs.declared.statement.What.{DoUntil', Row_of-Statement, more_of-Statement}
 use Rattle.tal_tree.specs.declared.statement.What.TheViews.{out-roll-What, rolls-Assign, rolls-AssignCall, rolls-If}
-use Rattle.tal_tree.specs.declared.statement.What.TheViews.{rolls-While, rolls-For, rolls-Call, rolls-Return}
-use Rattle.tal_tree.specs.declared.statement.What.TheViews.{rolls-ReadUpdate, rolls-Reply, rolls-WriteRead}
-use Rattle.tal_tree.specs.declared.statement.What.TheViews.{rolls-Checkpoint, rolls-CheckMonitor, rolls-Open}
-use Rattle.tal_tree.specs.declared.statement.What.TheViews.{rolls-Stop}
+use Rattle.tal_tree.specs.declared.statement.What.TheViews.{rolls-While, rolls-For, rolls-DoUntil, rolls-Call}
+use Rattle.tal_tree.specs.declared.statement.What.TheViews.{rolls-Return, rolls-ReadUpdate, rolls-Reply}
+use Rattle.tal_tree.specs.declared.statement.What.TheViews.{rolls-WriteRead, rolls-Checkpoint, rolls-CheckMonitor}
+use Rattle.tal_tree.specs.declared.statement.What.TheViews.{rolls-Open, rolls-Stop}
 use Rattle.advice.specs.Choice.{Choice, what_with, row_with, body_with}
 
 -- a layer in which each CHECKPOINT, at any level, names what is chosen
@@ -19,8 +19,9 @@ layer_with choice number (What-F.Checkpoint items files) = What-F.Checkpoint (ch
 layer_with choice number (What-F.If test first second) =
     What-F.If test (body_with choice first) (body_with choice second)
 layer_with choice number (What-F.While test body) = What-F.While test (body_with choice body)
-layer_with choice number (What-F.For variable from to body last) =
-    What-F.For variable from to (body_with choice body) last
+layer_with choice number (What-F.For variable from to down step body last) =
+    What-F.For variable from to down step (body_with choice body) last
+layer_with choice number (What-F.DoUntil body test) = What-F.DoUntil (body_with choice body) test
 layer_with choice number (What-F.Assign to value) = What-F.Assign to value
 layer_with choice number (What-F.AssignCall to procedure arguments) = What-F.AssignCall to procedure arguments
 layer_with choice number (What-F.Call procedure arguments) = What-F.Call procedure arguments
@@ -63,11 +64,15 @@ module _ (choice : Choice) (number : ℕ) where
       ap chosen (rolls-While test body ∙ while-is test body)
       ∙ (λ i. While' test (row-is choice body i).0 (row-is choice body i).1)
       ∙ sym (rolls-While test (body_with choice body) ∙ while-is test (body_with choice body))
-  rolled (What-F.For variable from to body last) =
-      ap chosen (rolls-For variable from to body last ∙ for-is variable from to body last)
-      ∙ (λ i. For' variable from to (row-is choice body i).0 (row-is choice body i).1 last)
-      ∙ sym (rolls-For variable from to (body_with choice body) last
-      ∙ for-is variable from to (body_with choice body) last)
+  rolled (What-F.For variable from to down step body last) =
+      ap chosen (rolls-For variable from to down step body last ∙ for-is variable from to down step body last)
+      ∙ (λ i. For' variable from to down step (row-is choice body i).0 (row-is choice body i).1 last)
+      ∙ sym (rolls-For variable from to down step (body_with choice body) last
+      ∙ for-is variable from to down step (body_with choice body) last)
+  rolled (What-F.DoUntil body test) =
+      ap chosen (rolls-DoUntil body test ∙ do-is body test)
+      ∙ (λ i. DoUntil' (row-is choice body i).0 (row-is choice body i).1 test)
+      ∙ sym (rolls-DoUntil (body_with choice body) test ∙ do-is (body_with choice body) test)
   rolled (What-F.Checkpoint items files) =
       ap chosen (rolls-Checkpoint items files) ∙ sym (rolls-Checkpoint (choice.items number) (choice.files number))
   rolled (What-F.Assign to value) = ap chosen (rolls-Assign to value) ∙ sym (rolls-Assign to value)

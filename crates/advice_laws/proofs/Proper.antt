@@ -100,7 +100,7 @@ module _ (program : Program) where
         asked = λ file among. absurd among;
         asks = λ file is. never is;
       }
-  regular-sound locals gives (What-F.For one from to body last) regular =
+  regular-sound locals gives (What-F.For one from to down step body last) regular =
       record {
         changed = variable-listable locals one regular.0;
         target = λ item among. absurd among;
@@ -167,8 +167,10 @@ module _ (program : Program) where
   layer-proper dues (What-F.If test first second) sound proper =
       effects-proper dues (What-F.If test first second) sound proper
   layer-proper dues (What-F.While test body) sound proper = effects-proper dues (What-F.While test body) sound proper
-  layer-proper dues (What-F.For one from to body last) sound proper =
-      effects-proper dues (What-F.For one from to body last) sound proper
+  layer-proper dues (What-F.DoUntil body test) sound proper =
+      effects-proper dues (What-F.DoUntil body test) sound proper
+  layer-proper dues (What-F.For one from to down step body last) sound proper =
+      effects-proper dues (What-F.For one from to down step body last) sound proper
   layer-proper dues (What-F.Call procedure arguments) sound proper =
       effects-proper dues (What-F.Call procedure arguments) sound proper
   layer-proper dues (What-F.Return value) sound proper = effects-proper dues (What-F.Return value) sound proper

@@ -3,13 +3,15 @@ use Rattle.std.proofs.Common.{◌≡◌, ◌≤◌, ℕ, ◌+◌, List, [], ◌�
 use Rattle.std.proofs.Common.{sym, ◌∙◌}
 use Rattle.std.specs.Option.{unwrap_or}
 use Rattle.tal_tree.specs.Rows.{rows}
-use Rattle.tal_tree.specs.Statements.{all_of, numbers_row, numbers_within, numbers_of, call_in, own_calls, calls_of}
+use Rattle.tal_tree.specs.Statements.{all_of, numbers_row, numbers_before, numbers_within, numbers_of, call_in}
+use Rattle.tal_tree.specs.Statements.{own_calls, calls_of}
 use Rattle.tal_tree.specs.declared.program.Procedure.{Procedure}
 use Rattle.tal_tree.specs.declared.program.Program.{Program}
 use Rattle.tal_tree.specs.declared.statement.Statement.{Statement}
-use Rattle.tal_tree.specs.declared.statement.What.{What, What-F, out-What, If', While', For', Assign, AssignCall, Call}
-use Rattle.tal_tree.specs.declared.statement.What.{Return, ReadUpdate, Reply, WriteRead, Checkpoint, CheckMonitor, Open}
-use Rattle.tal_tree.specs.declared.statement.What.{Stop, Row_of-Statement, end_of-Statement, more_of-Statement}
+use Rattle.tal_tree.specs.declared.statement.What.{What, What-F, out-What, If', While', For', DoUntil', Assign}
+use Rattle.tal_tree.specs.declared.statement.What.{AssignCall}
+use Rattle.tal_tree.specs.declared.statement.What.{Call, Return, ReadUpdate, Reply, WriteRead, Checkpoint, CheckMonitor}
+use Rattle.tal_tree.specs.declared.statement.What.{Open, Stop, Row_of-Statement, end_of-Statement, more_of-Statement}
 use Rattle.path_semantics.specs.Bounds.{depth_from, size_from, in_order, depths, sizes, IsWithinBounds}
 use Rattle.advice.specs.Choice.{Choice, what_with, row_with, statement_with, body_with, procedure_with, with_choice}
 use Rattle.advice_laws.proofs.Layers.{Row, row-is, layer_with, layer-is}
@@ -20,15 +22,36 @@ module _ (choice : Choice) where
     numbers-row : {n : _} (row : Row_of-Statement n) → numbers_row (row_with choice row) ≡ numbers_row row
     numbers-row end_of-Statement = refl
     numbers-row (more_of-Statement number line what rest) =
-        ap₂ (λ (own later : List ℕ). number ∷ own ++ later) (numbers-within number what) (numbers-row rest)
+        ap₂ (λ (before own : List ℕ). before ++ (number ∷ own ++ numbers_row (row_with choice rest)))
+        (numbers-before number what) (numbers-within number what)
+        ∙ ap (λ (later : List ℕ). numbers_before what ++ (number ∷ numbers_within number what ++ later))
+        (numbers-row rest)
+
+    numbers-before : (number : ℕ) (what : What) → numbers_before (what_with choice number what) ≡ numbers_before what
+    numbers-before number (DoUntil' s body test) = numbers-row body
+    numbers-before number (If' test s first t second) = refl
+    numbers-before number (While' test s body) = refl
+    numbers-before number (For' variable from to down step s body last) = refl
+    numbers-before number (Assign to value) = refl
+    numbers-before number (AssignCall to procedure arguments) = refl
+    numbers-before number (Call procedure arguments) = refl
+    numbers-before number (Return value) = refl
+    numbers-before number (ReadUpdate buffer most got) = refl
+    numbers-before number (Reply buffer count) = refl
+    numbers-before number (WriteRead file buffer send room got) = refl
+    numbers-before number (Checkpoint items files) = refl
+    numbers-before number CheckMonitor = refl
+    numbers-before number (Open file) = refl
+    numbers-before number Stop = refl
 
     numbers-within : (number : ℕ) (what : What)
         → numbers_within number (what_with choice number what) ≡ numbers_within number what
     numbers-within number (If' test s first t second) =
         ap₂ (λ (one other : List ℕ). one ++ other) (numbers-row first) (numbers-row second)
     numbers-within number (While' test s body) = numbers-row body
-    numbers-within number (For' variable from to s body last) =
+    numbers-within number (For' variable from to down step s body last) =
         ap (λ (inner : List ℕ). (number + 1) ∷ inner ++ last ∷ []) (numbers-row body)
+    numbers-within number (DoUntil' s body test) = refl
     numbers-within number (Assign to value) = refl
     numbers-within number (AssignCall to procedure arguments) = refl
     numbers-within number (Call procedure arguments) = refl

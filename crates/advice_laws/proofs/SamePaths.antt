@@ -4,13 +4,17 @@ use Rattle.std.proofs.Common.{option_map, refl, ap, ap₂, subst, sym, ◌∙◌
 use Rattle.std.proofs.lemmas.List.{map-append}
 use Rattle.std.proofs.lemmas.Option.{slice_get-map}
 use Rattle.gd_words.specs.Members.{IsAmong}
+use Rattle.tal_tree.specs.Rows.{rows}
 use Rattle.tal_tree.specs.Statements.{last_of}
 use Rattle.tal_tree.specs.declared.program.Procedure.{Procedure}
 use Rattle.tal_tree.specs.declared.program.Program.{Program}
 use Rattle.tal_tree.specs.declared.statement.Statement.{Statement}
-use Rattle.tal_tree.specs.declared.statement.What.{What, What-F, out-What}
+use Rattle.tal_tree.specs.declared.statement.What.{What, What-F, out-What, If', While', For', DoUntil', Assign}
+use Rattle.tal_tree.specs.declared.statement.What.{AssignCall, Call, Return, ReadUpdate, Reply, WriteRead, Checkpoint}
+use Rattle.tal_tree.specs.declared.statement.What.{CheckMonitor, Open, Stop, Row_of-Statement, end_of-Statement}
+use Rattle.tal_tree.specs.declared.statement.What.{more_of-Statement}
 use Rattle.process_semantics.specs.Rests.{entry_number}
-use Rattle.process_semantics.specs.State.{Entry, Run, Test, Last, runs_of, first_of}
+use Rattle.process_semantics.specs.State.{Entry, Run, Test, Last, runs_row, runs_before, runs_of, first_of}
 use Rattle.path_semantics.specs.declared.dues.Dues.{Dues}
 use Rattle.path_semantics.specs.Dues.{no_dues, with_changed, changed_by, after_statement, after_entry, target_of}
 use Rattle.path_semantics.specs.Dues.{changed_by_return}
@@ -18,9 +22,10 @@ use Rattle.path_semantics.specs.Path.{number_at, Walks, Leads}
 use Rattle.path_semantics.specs.Place.{Place, Stand, body_in, body_of, next_in, ways_of, rounds_of, ways, stand_at}
 use Rattle.path_semantics.specs.Place.{settled, stands_after, successors, first_stand}
 use Rattle.path_semantics.proofs.Kept.{one-mapped}
-use Rattle.advice.specs.Choice.{Choice, statement_with, body_with, procedure_with, with_choice}
+use Rattle.advice.specs.Choice.{Choice, what_with, row_with, statement_with, body_with, procedure_with}
+use Rattle.advice.specs.Choice.{with_choice}
 use Rattle.advice_laws.specs.Stands.{entry_with, frame_with, place_with, stand_with}
-use Rattle.advice_laws.proofs.Layers.{layer_with, layer-is}
+use Rattle.advice_laws.proofs.Layers.{Row, row-is, layer_with, layer-is}
 
 -- one of these gives one of what all give
 pub among-mapped : {A B : Type 0} (f : A → B) (x : A) (xs : List A) → IsAmong x xs → IsAmong (f x) (map f xs)
@@ -32,7 +37,7 @@ module _ (choice : Choice) where
   -- Numbers and dues of an entry
 
   last-layer : (number : ℕ) (layer : What-F What Statement) → last_of (layer_with choice number layer) ≡ last_of layer
-  last-layer number (What-F.For variable from to body last) = refl
+  last-layer number (What-F.For variable from to down step body last) = refl
   last-layer number _ = refl
 
   number-kept : (entry : Entry) → entry_number (entry_with choice entry) ≡ entry_number entry
@@ -94,10 +99,35 @@ module _ (choice : Choice) where
 
   -- Places
 
+  mutual
+    runs-row : {n : _} (row : Row_of-Statement n) → runs_row (row_with choice row) ≡ frame_with choice (runs_row row)
+    runs-row end_of-Statement = refl
+    runs-row (more_of-Statement number line what rest) =
+        let self : Statement = record { number = number; line = line; what = what } in
+        ap₂ (λ (before later : List Entry). before ++ (Run (statement_with choice self) ∷ later))
+        (runs-first number what) (runs-row rest)
+        ∙ sym (map-append (entry_with choice) (runs_before what) (Run self ∷ runs_row rest))
+
+    runs-first : (number : ℕ) (what : What)
+        → runs_before (what_with choice number what) ≡ frame_with choice (runs_before what)
+    runs-first number (DoUntil' s body test) = runs-row body
+    runs-first number (If' test s first t second) = refl
+    runs-first number (While' test s body) = refl
+    runs-first number (For' variable from to down step s body last) = refl
+    runs-first number (Assign to value) = refl
+    runs-first number (AssignCall to procedure arguments) = refl
+    runs-first number (Call procedure arguments) = refl
+    runs-first number (Return value) = refl
+    runs-first number (ReadUpdate buffer most got) = refl
+    runs-first number (Reply buffer count) = refl
+    runs-first number (WriteRead file buffer send room got) = refl
+    runs-first number (Checkpoint items files) = refl
+    runs-first number CheckMonitor = refl
+    runs-first number (Open file) = refl
+    runs-first number Stop = refl
+
   runs-kept : (body : List Statement) → runs_of (body_with choice body) ≡ frame_with choice (runs_of body)
-  runs-kept [] = refl
-  runs-kept (statement ∷ rest) =
-      ap (λ (later : List Entry). Run (statement_with choice statement) ∷ later) (runs-kept rest)
+  runs-kept body = ap (λ (row : Row). runs_row row.1) (sym (row-is choice body)) ∙ runs-row (rows body)
 
   runs-before : (body : List Statement) (rest : List Entry)
       → runs_of (body_with choice body) ++ frame_with choice rest ≡ frame_with choice (runs_of body ++ rest)
@@ -153,6 +183,9 @@ module _ (choice : Choice) where
     ways-layer self rest callers (What-F.While test body) =
         ap (λ (one : List Entry). (one ∷ place_with choice callers)
         ∷ (frame_with choice rest ∷ place_with choice callers) ∷ []) (runs-before body (Run self ∷ rest))
+    ways-layer self rest callers (What-F.DoUntil body test) =
+        ap (λ (one : List Entry). (frame_with choice rest ∷ place_with choice callers)
+        ∷ (one ∷ place_with choice callers) ∷ []) (runs-before body (Run self ∷ rest))
     ways-layer self rest callers (What-F.AssignCall to procedure arguments) =
         ap (λ (one : List Entry). (one ∷ frame_with choice (Run self ∷ rest) ∷ place_with choice callers) ∷ [])
         (called-kept procedure)
@@ -165,7 +198,7 @@ module _ (choice : Choice) where
         → rounds_of (statement_with choice self) (frame_with choice rest) (place_with choice callers)
         (layer_with choice self.number layer)
         ≡ map (place_with choice) (rounds_of self rest callers layer)
-    rounds-layer self rest callers (What-F.For variable from to body last) =
+    rounds-layer self rest callers (What-F.For variable from to down step body last) =
         ap (λ (one : List Entry). (one ∷ place_with choice callers)
         ∷ (frame_with choice rest ∷ place_with choice callers) ∷ [])
         (runs-before body (Last self ∷ Test self ∷ rest))

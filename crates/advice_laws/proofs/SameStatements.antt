@@ -7,9 +7,10 @@ use Rattle.tal_tree.specs.Statements.{within, within_row, all_of}
 use Rattle.tal_tree.specs.declared.program.Procedure.{Procedure}
 use Rattle.tal_tree.specs.declared.program.Program.{Program}
 use Rattle.tal_tree.specs.declared.statement.Statement.{Statement}
-use Rattle.tal_tree.specs.declared.statement.What.{What, What-F, out-What, If', While', For', Assign, AssignCall, Call}
-use Rattle.tal_tree.specs.declared.statement.What.{Return, ReadUpdate, Reply, WriteRead, Checkpoint, CheckMonitor, Open}
-use Rattle.tal_tree.specs.declared.statement.What.{Stop, Row_of-Statement, end_of-Statement, more_of-Statement}
+use Rattle.tal_tree.specs.declared.statement.What.{What, What-F, out-What, If', While', For', DoUntil', Assign}
+use Rattle.tal_tree.specs.declared.statement.What.{AssignCall, Call, Return, ReadUpdate, Reply, WriteRead, Checkpoint}
+use Rattle.tal_tree.specs.declared.statement.What.{CheckMonitor, Open, Stop, Row_of-Statement, end_of-Statement}
+use Rattle.tal_tree.specs.declared.statement.What.{more_of-Statement}
 use Rattle.advice.specs.Answer.{statements_of, marks, checkpoints_of}
 use Rattle.advice.specs.Choice.{Choice, what_with, row_with, statement_with, body_with, procedure_with, with_choice}
 use Rattle.advice.specs.Due.{is_checkpoint}
@@ -38,7 +39,8 @@ module _ (choice : Choice) where
         both-with (within_row (row_with choice first)) (within_row (row_with choice second)) (within_row first)
         (within_row second) (row-within first) (row-within second)
     what-within number (While' test s body) = row-within body
-    what-within number (For' variable from to s body last) = row-within body
+    what-within number (For' variable from to down step s body last) = row-within body
+    what-within number (DoUntil' s body test) = row-within body
     what-within number (Assign to value) = refl
     what-within number (AssignCall to procedure arguments) = refl
     what-within number (Call procedure arguments) = refl

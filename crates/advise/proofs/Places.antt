@@ -8,16 +8,17 @@ use Rattle.gd_words.specs.Members.{IsAmong}
 use Rattle.gd_words.proofs.Among.{among-left, among-right, among-either, among-given, among-giver}
 use Rattle.tal_tree.specs.ByStatements.{HoldsInside, by-statements}
 use Rattle.tal_tree.specs.Limits.{IsWithinLimits}
-use Rattle.tal_tree.specs.Statements.{within, all_in, all_of, numbers_of}
+use Rattle.tal_tree.specs.Statements.{body_before, within, all_in, all_of, numbers_of}
 use Rattle.tal_tree.specs.declared.expression.Cond.{Cond}
 use Rattle.tal_tree.specs.declared.expression.Expr.{Expr}
 use Rattle.tal_tree.specs.declared.expression.Variable.{Variable}
 use Rattle.tal_tree.specs.declared.program.Procedure.{Procedure}
 use Rattle.tal_tree.specs.declared.program.Program.{Program}
 use Rattle.tal_tree.specs.declared.statement.Statement.{Statement}
-use Rattle.tal_tree.specs.declared.statement.What.{What, What-F, out-What, If, While, For}
+use Rattle.tal_tree.specs.declared.statement.What.{What, What-F, out-What, If, While, For, DoUntil}
 use Rattle.tal_tree.specs.declared.statement.What.TheViews.{out-roll-What, rolls-If, rolls-While, rolls-For}
-use Rattle.tal_tree.proofs.Numbers.{numbers_inside, numbers-more}
+use Rattle.tal_tree.specs.declared.statement.What.TheViews.{rolls-DoUntil}
+use Rattle.tal_tree.proofs.Numbers.{numbers_inside, numbers_by, numbers-by}
 use Rattle.tal_tree.proofs.Within.{within_of, within-is}
 use Rattle.advice.specs.Answer.{checkpoints_of, marks, statements_of}
 use Rattle.advice.specs.Due.{is_checkpoint}
@@ -38,7 +39,8 @@ abbrev places_by : Statement → What-F What Statement → List Checkpoint
 places_by statement (What-F.Checkpoint items files) = place_of statement ∷ []
 places_by statement (What-F.If test first second) = places_of first ++ places_of second
 places_by statement (What-F.While test body) = places_of body
-places_by statement (What-F.For variable from to body last) = places_of body
+places_by statement (What-F.DoUntil body test) = places_of body
+places_by statement (What-F.For variable from to down step body last) = places_of body
 places_by statement _ = []
 
 places-both : (first second : List Statement)
@@ -53,7 +55,8 @@ by-layer : (statement : Statement) (layer : What-F What Statement)
 by-layer statement (What-F.Checkpoint items files) = refl
 by-layer statement (What-F.If test first second) = places-both (all_of first) (all_of second)
 by-layer statement (What-F.While test body) = refl
-by-layer statement (What-F.For variable from to body last) = refl
+by-layer statement (What-F.DoUntil body test) = refl
+by-layer statement (What-F.For variable from to down step body last) = refl
 by-layer statement (What-F.Assign to value) = refl
 by-layer statement (What-F.AssignCall to procedure arguments) = refl
 by-layer statement (What-F.Call procedure arguments) = refl
@@ -88,13 +91,20 @@ places-while statement test body is =
     layer-is statement (What-F.While test body)
     (ap out-What (is ∙ sym (rolls-While test body)) ∙ out-roll-What (What-F.While test body))
 
-pub places-for : (statement : Statement) (variable : Variable) (from to : Expr) (body : List Statement) (last : ℕ)
-    → statement.what ≡ For variable from to body last
+pub places-for : (statement : Statement) (variable : Variable) (from to : Expr) (down : Bool) (step : _)
+    (body : List Statement) (last : ℕ)
+    → statement.what ≡ For variable from to down step body last
     → places_of (statement ∷ []) ≡ places_of body
-places-for statement variable from to body last is =
-    layer-is statement (What-F.For variable from to body last)
-    (ap out-What (is ∙ sym (rolls-For variable from to body last))
-    ∙ out-roll-What (What-F.For variable from to body last))
+places-for statement variable from to down step body last is =
+    layer-is statement (What-F.For variable from to down step body last)
+    (ap out-What (is ∙ sym (rolls-For variable from to down step body last))
+    ∙ out-roll-What (What-F.For variable from to down step body last))
+
+pub places-do : (statement : Statement) (body : List Statement) (test : Cond) → statement.what ≡ DoUntil body test
+    → places_of (statement ∷ []) ≡ places_of body
+places-do statement body test is =
+    layer-is statement (What-F.DoUntil body test)
+    (ap out-What (is ∙ sym (rolls-DoUntil body test)) ∙ out-roll-What (What-F.DoUntil body test))
 
 -- those of one statement more
 pub one-more : (statements : List Statement) (k : ℕ) (statement : Statement)
@@ -123,15 +133,17 @@ AreNumbered statements =
 
 inside-numbered : (number : ℕ) (layer : What-F What Statement) → HoldsInside AreNumbered layer
     → (statement : Statement) → IsAmong statement (within_of layer)
-    → IsAmong statement.number (numbers_inside number layer)
+    → IsAmong statement.number (numbers_by number layer)
 inside-numbered number (What-F.If test first second) inside statement among =
     elim (among-either statement (all_of first) (all_of second) among) [
-      | inl one ↦ among-left statement.number (numbers_of first) (numbers_of second) (inside.0 statement one)
-      | inr other ↦ among-right statement.number (numbers_of first) (numbers_of second) (inside.1 statement other)
+      | inl one ↦ inr (among-left statement.number (numbers_of first) (numbers_of second) (inside.0 statement one))
+      | inr other ↦ inr (among-right statement.number (numbers_of first) (numbers_of second) (inside.1 statement other))
     ]
-inside-numbered number (What-F.While test body) inside statement among = inside statement among
-inside-numbered number (What-F.For variable from to body last) inside statement among =
-    inr (among-left statement.number (numbers_of body) (last ∷ []) (inside statement among))
+inside-numbered number (What-F.While test body) inside statement among = inr (inside statement among)
+inside-numbered number (What-F.DoUntil body test) inside statement among =
+    among-left statement.number (numbers_of body) (number ∷ []) (inside statement among)
+inside-numbered number (What-F.For variable from to down step body last) inside statement among =
+    inr (inr (among-left statement.number (numbers_of body) (last ∷ []) (inside statement among)))
 inside-numbered number (What-F.Assign to value) inside statement among = absurd among
 inside-numbered number (What-F.AssignCall to procedure arguments) inside statement among = absurd among
 inside-numbered number (What-F.Call procedure arguments) inside statement among = absurd among
@@ -147,23 +159,22 @@ inside-numbered number What-F.Stop inside statement among = absurd among
 more-numbered : (first : Statement) (rest : List Statement) → HoldsInside AreNumbered (out-What first.what)
     → AreNumbered rest → AreNumbered (first ∷ rest)
 more-numbered first rest inside later statement among =
-    subst (IsAmong statement.number) (sym (numbers-more first rest))
-    (by_part (among-either statement (all_in first) (all_of rest) among))
+    subst (IsAmong statement.number) (sym (numbers-by first rest))
+    (elim (among-either statement (all_in first) (all_of rest) among) [
+      | inl own ↦ among-left statement.number all (numbers_of rest) (by_own own)
+      | inr behind ↦ among-right statement.number all (numbers_of rest) (later statement behind)
+    ])
   where
-    inner : List ℕ
-    inner = numbers_inside first.number (out-What first.what)
+    all : List ℕ
+    all = numbers_by first.number (out-What first.what)
 
-    by_own : IsAmong statement (all_in first) → IsAmong statement.number (first.number ∷ inner ++ numbers_of rest)
-    by_own (inl same) = inl (ap (λ (s : Statement). s.number) same)
+    by_own : IsAmong statement (all_in first) → IsAmong statement.number all
+    by_own (inl same) =
+        among-right statement.number (numbers_of (body_before (out-What first.what)))
+        (first.number ∷ numbers_inside first.number (out-What first.what)) (inl (ap (λ (s : Statement). s.number) same))
     by_own (inr within_it) =
-        inr (among-left statement.number inner (numbers_of rest)
-        (inside-numbered first.number (out-What first.what) inside statement
-        (subst (IsAmong statement) (within-is first.what) within_it)))
-
-    by_part : IsAmong statement (all_in first) ⊎ IsAmong statement (all_of rest)
-        → IsAmong statement.number (first.number ∷ inner ++ numbers_of rest)
-    by_part (inl own) = by_own own
-    by_part (inr behind) = inr (among-right statement.number inner (numbers_of rest) (later statement behind))
+        inside-numbered first.number (out-What first.what) inside statement
+        (subst (IsAmong statement) (within-is first.what) within_it)
 
 numbered : (statements : List Statement) → AreNumbered statements
 numbered = by-statements AreNumbered (record { none = λ statement among. absurd among; more = more-numbered })

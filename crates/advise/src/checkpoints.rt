@@ -57,9 +57,12 @@ fn push_in(statement: &Statement, found: &mut List<Checkpoint>) -> Result<(), No
             variable: _,
             from: _,
             to: _,
+            down: _,
+            step: _,
             body,
             last: _,
         } => push_all(body.as_slice(), found)?,
+        What::DoUntil { body, test: _ } => push_all(body.as_slice(), found)?,
         _ => {}
     }
     Ok(())

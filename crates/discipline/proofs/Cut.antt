@@ -4,7 +4,7 @@ use Rattle.std.specs.Prelude.{nat_le, min, is_some}
 use Rattle.gd_words.specs.Members.{is_among}
 use Rattle.tal_tree.specs.declared.program.FileUse.{FileUse}
 use Rattle.tal_tree.specs.declared.program.Program.{Program}
-use Rattle.tal_tree.specs.declared.statement.What.{What, out-What}
+use Rattle.tal_tree.specs.declared.statement.What.{out-What}
 use Rattle.process_semantics.specs.State.{Entry, Run, Test, Last}
 use Rattle.path_semantics.specs.declared.dues.Dues.{Dues}
 use Rattle.path_semantics.specs.declared.reason.Reason.{Reason}

@@ -1,16 +1,17 @@
 -- Entries that are found by their numbers.
 use Rattle.std.proofs.Common.{◌≡◌, ◌≤◌, ◌<◌, ℕ, zero, suc, ◌+◌, ◌==◌, Bool, true, false, if◌then◌else◌, List, [], ◌∷◌}
-use Rattle.std.proofs.Common.{◌++◌, Option, Some, None, eq-eqb, refl, ap, subst, sym, ◌∙◌, append-nil, drop, length}
-use Rattle.std.proofs.Common.{get_or, arith}
+use Rattle.std.proofs.Common.{◌++◌, Option, Some, None, eq-eqb, refl, ap, subst, sym, ◌∙◌, append-nil, append_assoc}
+use Rattle.std.proofs.Common.{drop, length, get_or, slice_get, arith}
 use Rattle.std.proofs.lemmas.Bool.{eqb-true}
-use Rattle.tal_tree.specs.Statements.{last_of}
+use Rattle.tal_tree.specs.Rows.{if-is, while-is, for-is, do-is}
+use Rattle.tal_tree.specs.Statements.{body_before, last_of}
 use Rattle.tal_tree.specs.declared.statement.Statement.{Statement}
-use Rattle.tal_tree.specs.declared.statement.What.{What, What-F, out-What, roll-What, If, While, For}
-use Rattle.tal_tree.specs.declared.statement.What.TheViews.{out-roll-What, rolls-If, rolls-While, rolls-For}
-use Rattle.process_semantics.specs.Rests.{next_number, rests, rest_among}
+use Rattle.tal_tree.specs.declared.statement.What.{What, What-F, out-What, roll-What, If, While, For, DoUntil}
+use Rattle.tal_tree.specs.declared.statement.What.TheViews.{out-roll-What, rolls-For, rolls-DoUntil}
+use Rattle.process_semantics.specs.Rests.{next_number, rests, rests_before, rests_in, rest_among}
 use Rattle.process_semantics.specs.SeenEntries.{entry_of}
-use Rattle.process_semantics.specs.State.{Entry, Run, Test, Last}
-use Rattle.process_semantics.proofs.Rests.{rests_by, behind, rests-more}
+use Rattle.process_semantics.specs.State.{Entry, Run, Test, Last, runs_of}
+use Rattle.process_semantics.proofs.Rests.{behind, behind-more}
 use Rattle.discipline.specs.declared.find.Found.{Found}
 use Rattle.discipline.specs.Finding.{IsFoundAmong, IsFoundIn, IsFirstNumber}
 
@@ -75,41 +76,97 @@ found-either number front all None second found later result otherwise holds =
 found-either number front all (Some one) second found later result otherwise holds =
     subst (IsFoundAmong number (front ++ all)) (sym (holds one refl)) (front-found number front all one found)
 
--- One statement, by its layers
+-- One statement: what comes before its own entry, its own, and what comes inside it
 
-one-alone : (statement : Statement) (later : List Entry)
-    → rests (statement ∷ []) later ≡ (Run statement ∷ later) ∷ rests_by (out-What statement.what) statement later
-one-alone statement later = rests-more statement [] later
-    ∙ ap (λ (all : List (List Entry)). (Run statement ∷ later) ∷ all)
-    (append-nil (rests_by (out-What statement.what) statement later))
+layer-of : (what : What) (layer : What-F What Statement) → roll-What layer ≡ what → out-What what ≡ layer
+layer-of what layer rolls = ap out-What (sym rolls) ∙ out-roll-What layer
 
-pub found-here : (statement : Statement) (later : List Entry) (after number : ℕ) (found : Found)
-    → next_number later ≡ after → statement.number ≡ number → entry_of found.entry ≡ Run statement
-    → found.after ≡ after → IsFoundAmong number (rests (statement ∷ []) later) (Some found)
-found-here statement later after number found is_after is entry same = (
-  later,
-  ap (rest_among number) (one-alone statement later)
-      ∙ first-found number (Run statement ∷ later) (rests_by (out-What statement.what) statement later) is
-      ∙ ap (λ (e : Entry). Some (e ∷ later)) (sym entry),
-  same ∙ sym is_after,
-)
+module _ (statement : Statement) (after number : ℕ) where
+  abbrev before : List Entry → List (List Entry)
+  before later = rests_before statement.what (Run statement ∷ later)
 
-pub found-inside : (statement : Statement) (later : List Entry) (number : ℕ) (layer : What-F What Statement)
-    (result : Option Found) → (statement.number ≡ number → ⊥) → out-What statement.what ≡ layer
-    → IsFoundAmong number (rests_by layer statement later) result
-    → IsFoundAmong number (rests (statement ∷ []) later) result
-found-inside statement later number layer result other is found =
-    same-found number (rests_by layer statement later) (rests (statement ∷ []) later) result
-    (ap (rest_among number) (one-alone statement later)
-    ∙ not-first number (Run statement ∷ later) (rests_by (out-What statement.what) statement later) other
-    ∙ ap (λ (l : What-F What Statement). rest_among number (rests_by l statement later)) is) found
+  abbrev own : List Entry → List (List Entry)
+  own later = (Run statement ∷ later) ∷ []
+
+  abbrev inside : List Entry → List (List Entry)
+  inside later = rests_in statement.what statement later
+
+  whole : (later : List Entry) (result : Option Found)
+      → IsFoundAmong number (before later ++ (own later ++ inside later)) result
+      → IsFoundAmong number (rests (statement ∷ []) later) result
+  whole later result =
+      subst (λ (all : List (List Entry)). IsFoundAmong number (before later ++ (own later ++ all)) result)
+      (sym (append-nil (inside later)))
+
+  pub found-before : (found : Found) → IsFoundIn before after number (Some found)
+      → IsFoundIn (rests (statement ∷ [])) after number (Some found)
+  found-before found is later same =
+      whole later (Some found) (front-found number (before later) (own later ++ inside later) found (is later same))
+
+  pub found-own : (found : Found) → IsFoundIn before after number None → IsFoundIn own after number (Some found)
+      → IsFoundIn (rests (statement ∷ [])) after number (Some found)
+  found-own found not_before is later same =
+      whole later (Some found)
+      (same-found number (own later ++ inside later) (before later ++ (own later ++ inside later)) (Some found)
+      (not-in-front number (before later) (own later ++ inside later) (not_before later same))
+      (front-found number (own later) (inside later) found (is later same)))
+
+  pub found-inside : (result : Option Found) → IsFoundIn before after number None → IsFoundIn own after number None
+      → IsFoundIn inside after number result
+      → IsFoundIn (rests (statement ∷ [])) after number result
+  found-inside result not_before not_own is later same =
+      whole later result
+      (same-found number (inside later) (before later ++ (own later ++ inside later)) result
+      (not-in-front number (before later) (own later ++ inside later) (not_before later same)
+      ∙ not-in-front number (own later) (inside later) (not_own later same))
+      (is later same))
+
+-- where statements begin
+first-more : (statement : Statement) (rest : List Statement) (after number : ℕ)
+    → ((other : ℕ) → IsFirstNumber (statement ∷ []) other number) → IsFirstNumber (statement ∷ rest) after number
+first-more statement rest after number first later is =
+    first (next_number (behind rest later)) (behind rest later) refl
+    ∙ ap next_number (behind-more statement [] (behind rest later) ∙ sym (behind-more statement rest later))
+
+pub first-none : (statements : List Statement) (after : ℕ) → None ≡ slice_get statements 0
+    → IsFirstNumber statements after after
+first-none [] after none later is = sym is
+first-none (one ∷ rest) after none later is = absurd (cc)
+
+pub first-some : (statements : List Statement) (statement : Statement) (after number : ℕ)
+    → Some statement ≡ slice_get statements 0 → ((other : ℕ) → IsFirstNumber (statement ∷ []) other number)
+    → IsFirstNumber statements after number
+first-some [] statement after number is first = absurd (cc)
+first-some (one ∷ rest) statement after number is first =
+    let same : one ≡ statement = cc in
+    first-more one rest after number
+    (subst (λ (s : Statement). (other : ℕ) → IsFirstNumber (s ∷ []) other number) (sym same) first)
+
+pub first-plain : (statement : Statement) (number : ℕ) → body_before (out-What statement.what) ≡ []
+    → number ≡ statement.number → (after : ℕ) → IsFirstNumber (statement ∷ []) after number
+first-plain statement number first own after later is =
+    own ∙ ap next_number (sym (behind-more statement [] later
+    ∙ ap (λ (body : List Statement). runs_of body ++ (Run statement ∷ later)) first))
+
+pub first-do : (statement : Statement) (body inner : List Statement) (test : _) (number : ℕ)
+    → statement.what ≡ DoUntil body test → inner ≡ body → IsFirstNumber inner statement.number number
+    → (after : ℕ) → IsFirstNumber (statement ∷ []) after number
+first-do statement body inner test number is inner_is first after later _ =
+    first (Run statement ∷ later) refl
+    ∙ ap next_number (ap (λ (ss : List Statement). runs_of ss ++ (Run statement ∷ later)) inner_is
+    ∙ ap (λ (layer : What-F What Statement). runs_of (body_before layer) ++ (Run statement ∷ later))
+    (sym (ap out-What is ∙ layer-of _ (What-F.DoUntil body test) (rolls-DoUntil body test)))
+    ∙ sym (behind-more statement [] later))
 
 -- from one statement on to those behind it
 pub found-more : (statement : Statement) (rest : List Statement) (later : List Entry)
     → rests (statement ∷ rest) later ≡ rests (statement ∷ []) (behind rest later) ++ rests rest later
 found-more statement rest later =
-    rests-more statement rest later ∙ ap (λ (all : List (List Entry)). all ++ rests rest later)
-    (sym (one-alone statement (behind rest later)))
+    let before : List (List Entry) = rests_before statement.what (Run statement ∷ behind rest later) in
+    let inner : List (List Entry) = rests_in statement.what statement (behind rest later) in
+    let own : List (List Entry) = (Run statement ∷ behind rest later) ∷ [] in
+    ap (λ (all : List (List Entry)). before ++ (own ++ (all ++ rests rest later))) (sym (append-nil inner))
+    ∙ sym (append_assoc before (own ++ (inner ++ [])) (rests rest later))
 
 -- Lists of statements
 
@@ -168,46 +225,41 @@ past-end (statement ∷ statements) zero after number past later is = absurd (om
 past-end (statement ∷ statements) (suc k) after number past later is =
     past-end statements k after number (omega arith) later is
 
--- Layers, as `find_in` meets them
+-- Inside a statement, as `find_within` meets it, and before its own entry
 
-layer-of : (what : What) (layer : What-F What Statement) → roll-What layer ≡ what → out-What what ≡ layer
-layer-of what layer rolls = ap out-What (sym rolls) ∙ out-roll-What layer
-
-module _ (statement : Statement) (after number own : ℕ) (own_is : own ≡ statement.number)
-    (other : own ≡ number → ⊥) where
-  inside : (layer : What-F What Statement) (result : Option Found) → out-What statement.what ≡ layer
-      → ((later : List Entry) → next_number later ≡ after
-      → IsFoundAmong number (rests_by layer statement later) result)
-      → IsFoundIn (rests (statement ∷ [])) after number result
-  inside layer result is found later same =
-      found-inside statement later number layer result (λ equal. other (own_is ∙ equal)) is (found later same)
+module _ (statement : Statement) (after number : ℕ) where
+  in-layer : (what : What) (result : Option Found) → statement.what ≡ what
+      → IsFoundIn (rests_in what statement) after number result
+      → IsFoundIn (rests_in statement.what statement) after number result
+  in-layer what result is =
+      subst (λ (w : What). IsFoundIn (rests_in w statement) after number result) (sym is)
 
   pub found-if : (test : _) (one_body other_body first second : List Statement)
       → statement.what ≡ If test one_body other_body → first ≡ one_body → second ≡ other_body
       → (one two result : Option Found) → IsFoundIn (rests first) after number one
       → (one ≡ None → IsFoundIn (rests second) after number two) → (one ≡ None → result ≡ two)
       → ((found : Found) → one ≡ Some found → result ≡ Some found)
-      → IsFoundIn (rests (statement ∷ [])) after number result
+      → IsFoundIn (rests_in statement.what statement) after number result
   found-if test one_body other_body first second is first_is second_is one two result found later_found otherwise
       holds =
-      inside (What-F.If test one_body other_body) result
-      (ap out-What is ∙ layer-of _ (What-F.If test one_body other_body) (rolls-If test one_body other_body))
+      in-layer _ result (is ∙ if-is test one_body other_body)
       (λ later same. found-either number (rests one_body later) (rests other_body later) one two
       (subst (λ (ss : List Statement). IsFoundAmong number (rests ss later) one) first_is (found later same))
       (λ none. subst (λ (ss : List Statement). IsFoundAmong number (rests ss later) two) second_is
       (later_found none later same)) result otherwise holds)
 
   pub found-while : (test : _) (body inner : List Statement) → statement.what ≡ While test body → inner ≡ body
+      → (own : ℕ) → own ≡ statement.number
       → (result : Option Found) → IsFoundIn (rests inner) own number result
-      → IsFoundIn (rests (statement ∷ [])) after number result
-  found-while test body inner is inner_is result found =
-      inside (What-F.While test body) result (ap out-What is
-      ∙ layer-of _ (What-F.While test body) (rolls-While test body))
+      → IsFoundIn (rests_in statement.what statement) after number result
+  found-while test body inner is inner_is own own_is result found =
+      in-layer _ result (is ∙ while-is test body)
       (λ later same. subst (λ (ss : List Statement). IsFoundAmong number (rests ss (Run statement ∷ later)) result)
       inner_is (found (Run statement ∷ later) (sym own_is)))
 
-  pub found-for : (variable : _) (from to : _) (body inner : List Statement) (last last_number : ℕ)
-      → statement.what ≡ For variable from to body last → inner ≡ body → last_number ≡ last
+  pub found-for : (variable : _) (from to : _) (down : Bool) (step : _) (body inner : List Statement)
+      (last last_number : ℕ)
+      → statement.what ≡ For variable from to down step body last → inner ≡ body → last_number ≡ last
       → (one two three result : Option Found) → IsFoundIn (λ later. (Test statement ∷ later) ∷ []) after number one
       → (one ≡ None → IsFoundIn (rests inner) last_number number two)
       → (one ≡ None → two ≡ None → IsFoundIn (λ later. (Last statement ∷ Test statement ∷ later) ∷ []) after number
@@ -215,20 +267,18 @@ module _ (statement : Statement) (after number own : ℕ) (own_is : own ≡ stat
       → ((found : Found) → one ≡ Some found → result ≡ Some found)
       → ((found : Found) → one ≡ None → two ≡ Some found → result ≡ Some found)
       → (one ≡ None → two ≡ None → result ≡ three)
-      → IsFoundIn (rests (statement ∷ [])) after number result
-  found-for variable from to body inner last last_number is inner_is last_is one two three result found_test found_body
-      found_last at_test at_body at_last =
-      inside (What-F.For variable from to body last) result layer-is in_round
+      → IsFoundIn (rests_in statement.what statement) after number result
+  found-for variable from to down step body inner last last_number is inner_is last_is one two three result found_test
+      found_body found_last at_test at_body at_last =
+      in-layer _ result (is ∙ for-is variable from to down step body last) in_round
     where
-      layer-is : out-What statement.what ≡ What-F.For variable from to body last
-      layer-is = ap out-What is ∙ layer-of _ (What-F.For variable from to body last)
-          (rolls-For variable from to body last)
-
       last-of : last_of (out-What statement.what) ≡ last
-      last-of = ap last_of layer-is
+      last-of = ap last_of (ap out-What is ∙ layer-of _ (What-F.For variable from to down step body last)
+          (rolls-For variable from to down step body last))
 
       in_round : (later : List Entry) → next_number later ≡ after
-          → IsFoundAmong number (rests_by (What-F.For variable from to body last) statement later) result
+          → IsFoundAmong number ((Test statement ∷ later) ∷ rests body (Last statement ∷ Test statement ∷ later)
+          ++ (Last statement ∷ Test statement ∷ later) ∷ []) result
       in_round later same = by_test one refl (found_test later same)
         where
           again : List Entry
@@ -247,6 +297,16 @@ module _ (statement : Statement) (after number own : ℕ) (own_is : own ≡ stat
                   (found_body none again (last-of ∙ sym last_is)))
                   (λ no_body. found_last none no_body later same) result (λ no_body. at_last none no_body)
                   (λ here in_body. at_body here none in_body)
+
+  pub found-do : (body inner : List Statement) (test : _) → statement.what ≡ DoUntil body test → inner ≡ body
+      → (own : ℕ) → own ≡ statement.number
+      → (result : Option Found) → IsFoundIn (rests inner) own number result
+      → IsFoundIn (λ later. rests_before statement.what (Run statement ∷ later)) after number result
+  found-do body inner test is inner_is own own_is result found =
+      subst (λ (w : What). IsFoundIn (λ later. rests_before w (Run statement ∷ later)) after number result)
+      (sym (is ∙ do-is body test))
+      (λ later same. subst (λ (ss : List Statement). IsFoundAmong number (rests ss (Run statement ∷ later)) result)
+      inner_is (found (Run statement ∷ later) (sym own_is)))
 
 pub found-last : (statement : Statement) (last number next : ℕ) → last ≡ last_of (out-What statement.what)
     → last ≡ number → next ≡ statement.number + 1

@@ -83,7 +83,8 @@ module _ (items files : ℕ) where
   statement-own dues (What-F.AssignCall _ _ _) touches own = effects-own dues _ touches own
   statement-own dues (What-F.If _ _ _) touches own = effects-own dues _ touches own
   statement-own dues (What-F.While _ _) touches own = effects-own dues _ touches own
-  statement-own dues (What-F.For _ _ _ _ _) touches own = effects-own dues _ touches own
+  statement-own dues (What-F.DoUntil _ _) touches own = effects-own dues _ touches own
+  statement-own dues (What-F.For _ _ _ _ _ _ _) touches own = effects-own dues _ touches own
   statement-own dues (What-F.Call _ _) touches own = effects-own dues _ touches own
   statement-own dues (What-F.Return _) touches own = effects-own dues _ touches own
   statement-own dues (What-F.ReadUpdate _ _ _) touches own = effects-own dues _ touches own
@@ -195,7 +196,7 @@ touches-own program locals gives (What-F.AssignCall to procedure arguments) is =
       target = spot-there program locals to is.0;
       asked = λ file among. absurd among;
     }
-touches-own program locals gives (What-F.For variable from to body last) is =
+touches-own program locals gives (What-F.For variable from to down step body last) is =
     record {
       changed = variable-there program locals variable is.0;
       target = λ item among. absurd among;
@@ -220,6 +221,12 @@ touches-own program locals gives (What-F.If test first second) is =
       asked = λ file among. absurd among;
     }
 touches-own program locals gives (What-F.While test body) is =
+    record {
+      changed = λ item among. absurd among;
+      target = λ item among. absurd among;
+      asked = λ file among. absurd among;
+    }
+touches-own program locals gives (What-F.DoUntil body test) is =
     record {
       changed = λ item among. absurd among;
       target = λ item among. absurd among;

@@ -1,13 +1,12 @@
 -- Marks on nodes, each with how much is due there, that hold at the start and along edges: where none of them breaks
 -- within some numbers of entries, no path of so many breaks.
-use Rattle.std.proofs.Common.{◌≡◌, ◌<◌, inl, inr, ℕ, ◌+◌, false, arith, List, length, Some, slice_get, ap, subst, sym}
+use Rattle.std.proofs.Common.{◌≡◌, ◌<◌, inl, inr, ℕ, ◌+◌, false, List, length, Some, slice_get, ap, subst, sym}
 use Rattle.std.proofs.Common.{◌∙◌}
 use Rattle.std.specs.Prelude.{min}
 use Rattle.gd_words.specs.Members.{IsAmong}
 use Rattle.tal_tree.specs.declared.program.Program.{Program}
 use Rattle.path_semantics.specs.declared.dues.Dues.{Dues}
 use Rattle.path_semantics.specs.declared.reason.Reason.{Reason}
-use Rattle.path_semantics.specs.Dues.{no_dues}
 use Rattle.path_semantics.specs.Place.{Place, Stand, next_in}
 use Rattle.path_semantics.specs.Path.{Leads}
 use Rattle.path_semantics.specs.Break.{breaks_entry, breaks_at}

@@ -321,7 +321,8 @@ module _ (program : Program) (ordered : IsOrdered program) (limits : IsWithinLim
                   ap (λ (k : ℕ). rest_at program (record { procedure = k; number = one.after }))
                       (ap (λ (p : Position). p.procedure) caller_is)
                       ∙ onward-at second call rest rest one.after below_is after_is (inr (first-way call rest)),
-                  subst (λ (k : ℕ). k + length below ≤ program.main) (ap (λ (p : Position). p.procedure) (sym caller_is))
+                  subst (λ (k : ℕ). k + length below ≤ program.main) (ap (λ (p : Position). p.procedure) (sym
+                      caller_is))
                       below_room,
                   below_tells,
                 ),

@@ -1,6 +1,6 @@
 ghost use Rattle.std.specs.Prelude.{◌≡◌, ℕ, ◌∷◌, []};
-ghost use Rattle.process_semantics.specs.Rests.{next_number, rests};
-ghost use Rattle.process_semantics.specs.State.{Test, Last};
+ghost use Rattle.process_semantics.specs.Rests.{next_number, rests, rests_before, rests_in};
+ghost use Rattle.process_semantics.specs.State.{Run, Test, Last};
 ghost use Rattle.discipline.specs.Finding.{IsFirstNumber, IsFoundIn};
 
 use process_semantics::Entry;
@@ -14,12 +14,26 @@ pub(crate) struct Found<'a> {
 }
 
 /// The number with which statements begin, or what comes after them where there are none.
+#[cycle(first)]
 pub(crate) fn first_number(statements: &[Statement], after: u32) -> u32
     ensures { IsFirstNumber statements.now after result }
 {
     match statements.first() {
         None => after,
-        Some(statement) => u32::from(statement.number),
+        Some(statement) => first_of(statement),
+    }
+}
+
+/// The number with which a statement begins: that of a DO's body, else its own.
+#[cycle(first)]
+fn first_of(statement: &Statement) -> u32
+    ensures { (after : ℕ) → IsFirstNumber (statement.now ∷ []) after result }
+{
+    match &statement.what {
+        What::DoUntil { body, test: _ } => {
+            first_number(body.as_slice(), u32::from(statement.number))
+        }
+        _ => u32::from(statement.number),
     }
 }
 
@@ -38,26 +52,53 @@ pub(crate) fn find(statements: &[Statement], after: u32, number: u32) -> Option<
     None
 }
 
-/// The entry of a number in one statement, and those inside it.
+/// The entry of a number in one statement: among those before its own, its own, and those inside it.
 #[cycle(find)]
 fn find_in(statement: &Statement, after: u32, number: u32) -> Option<Found<'_>>
     ensures { IsFoundIn (rests (statement.now ∷ [])) after number result }
 {
-    let own = u32::from(statement.number);
-    if own == number {
-        let entry = Entry::Run(statement);
-        return Some(Found { entry, after });
+    if let Some(found) = find_before(statement, number) {
+        return Some(found);
     }
+    if let Some(found) = find_own(statement, after, number) {
+        return Some(found);
+    }
+    find_within(statement, after, number)
+}
+
+/// The entry of a number among those that come before a statement's own, which are those of a DO's body.
+#[cycle(find)]
+fn find_before(statement: &Statement, number: u32) -> Option<Found<'_>>
+    ensures { (after : ℕ) → IsFoundIn (λ later. rests_before statement.now.what (Run statement.now ∷ later)) after number
+        result }
+{
+    match &statement.what {
+        What::DoUntil { body, test: _ } => {
+            find(body.as_slice(), u32::from(statement.number), number)
+        }
+        _ => None,
+    }
+}
+
+/// The entry of a number among those inside a statement that come after its own.
+#[cycle(find)]
+fn find_within(statement: &Statement, after: u32, number: u32) -> Option<Found<'_>>
+    ensures { IsFoundIn (rests_in statement.now.what statement.now) after number result }
+{
     match &statement.what {
         What::If { test: _, yes, no } => match find(yes.as_slice(), after, number) {
             Some(found) => Some(found),
             None => find(no.as_slice(), after, number),
         },
-        What::While { test: _, body } => find(body.as_slice(), own, number),
+        What::While { test: _, body } => {
+            find(body.as_slice(), u32::from(statement.number), number)
+        }
         What::For {
             variable: _,
             from: _,
             to: _,
+            down: _,
+            step: _,
             body,
             last,
         } => match find_test(statement, after, number) {
@@ -68,6 +109,18 @@ fn find_in(statement: &Statement, after: u32, number: u32) -> Option<Found<'_>>
             },
         },
         _ => None,
+    }
+}
+
+/// A statement's own entry, where it has this number.
+fn find_own(statement: &Statement, after: u32, number: u32) -> Option<Found<'_>>
+    ensures { IsFoundIn (λ later. (Run statement.now ∷ later) ∷ []) after number result }
+{
+    if u32::from(statement.number) == number {
+        let entry = Entry::Run(statement);
+        Some(Found { entry, after })
+    } else {
+        None
     }
 }
 

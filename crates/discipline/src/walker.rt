@@ -79,10 +79,16 @@ fn run_ways(statement: &Statement, after: u32) -> Ways
             first_number(body.as_slice(), u32::from(statement.number)),
             after,
         ),
+        What::DoUntil { body, test: _ } => Ways::either(
+            after,
+            first_number(body.as_slice(), u32::from(statement.number)),
+        ),
         What::For {
             variable: _,
             from: _,
             to: _,
+            down: _,
+            step: _,
             body: _,
             last: _,
         } => Ways::one(Way::Onward(u32::from(statement.number) + 1)),
@@ -97,7 +103,13 @@ fn run_ways(statement: &Statement, after: u32) -> Ways
         } => Ways::one(Way::Into(*procedure)),
         What::Return(_) => Ways::one(Way::Onward(0)),
         What::Stop => Ways::one(Way::End),
-        _ => Ways::one(Way::Onward(after)),
+        What::Assign { .. }
+        | What::ReadUpdate { .. }
+        | What::Reply { .. }
+        | What::WriteRead { .. }
+        | What::Checkpoint { .. }
+        | What::CheckMonitor
+        | What::Open(_) => Ways::one(Way::Onward(after)),
     }
 }
 
@@ -109,6 +121,8 @@ fn test_ways(statement: &Statement, after: u32) -> Ways
             variable: _,
             from: _,
             to: _,
+            down: _,
+            step: _,
             body,
             last,
         } => Ways::either(first_number(body.as_slice(), u32::from(*last)), after),

@@ -1,5 +1,5 @@
 -- What statements call, by layers, and how large they are: by rows, and as the sizes of programs count it.
-use Rattle.std.proofs.Common.{◌≡◌, inl, ℕ, suc, ◌+◌, arith, List, [], ◌∷◌, ◌++◌, map, length, flat_map, refl, ap, ap₂}
+use Rattle.std.proofs.Common.{◌≡◌, inl, ℕ, ◌+◌, arith, List, [], ◌∷◌, ◌++◌, map, length, flat_map, refl, ap}
 use Rattle.std.proofs.Common.{subst, sym, ◌∙◌}
 use Rattle.std.specs.Prelude.{sum}
 use Rattle.std.proofs.lemmas.Grind.{flat_map-append}
@@ -8,14 +8,10 @@ use Rattle.std.proofs.lemmas.List.Sums.{sum-map, sum_by-cons}
 use Rattle.gd_words.specs.Members.{IsAmong}
 use Rattle.gd_words.proofs.Among.{among-left, among-right}
 use Rattle.tal_tree.specs.ByStatements.{HoldsInside, by-statements}
-use Rattle.tal_tree.specs.Rows.{if-is, while-is, for-is}
-use Rattle.tal_tree.specs.Statements.{within, all_of, numbers_within, numbers_of, call_in, own_calls, calls_of}
+use Rattle.tal_tree.specs.Statements.{within, all_of, numbers_of, call_in, own_calls, calls_of}
 use Rattle.tal_tree.specs.declared.statement.Statement.{Statement}
-use Rattle.tal_tree.specs.declared.statement.What.{What, What-F, out-What, roll-What, roll-out-What}
-use Rattle.tal_tree.specs.declared.statement.What.TheViews.{rolls-Assign, rolls-AssignCall, rolls-If, rolls-While}
-use Rattle.tal_tree.specs.declared.statement.What.TheViews.{rolls-For, rolls-Call, rolls-Return, rolls-ReadUpdate}
-use Rattle.tal_tree.specs.declared.statement.What.TheViews.{rolls-Reply, rolls-WriteRead, rolls-Checkpoint}
-use Rattle.tal_tree.specs.declared.statement.What.TheViews.{rolls-CheckMonitor, rolls-Open, rolls-Stop}
+use Rattle.tal_tree.specs.declared.statement.What.{What, What-F, out-What}
+use Rattle.tal_tree.proofs.Numbers.{numbers_by, numbers-by}
 use Rattle.tal_tree.proofs.Within.{within_of, within-is}
 use Rattle.path_semantics.specs.Bounds.{size_from}
 use Rattle.flow_paths.specs.Layout.{size_in, size_at}
@@ -29,7 +25,8 @@ Calls Good statements = (procedure : ℕ) → IsAmong procedure (calls_of statem
 abbrev pub CallsBy : (ℕ → Type 0) → What-F What Statement → Type 0
 CallsBy Good (What-F.If test first second) = Calls Good first × Calls Good second
 CallsBy Good (What-F.While test body) = Calls Good body
-CallsBy Good (What-F.For variable from to body last) = Calls Good body
+CallsBy Good (What-F.DoUntil body test) = Calls Good body
+CallsBy Good (What-F.For variable from to down step body last) = Calls Good body
 CallsBy Good (What-F.AssignCall to procedure arguments) = Good procedure
 CallsBy Good (What-F.Call procedure arguments) = Good procedure
 CallsBy Good _ = Unit {0}
@@ -50,7 +47,8 @@ calls-layer Good (What-F.If test first second) good = (
       (among-right procedure (calls_of first) (calls_of second) among))),
 )
 calls-layer Good (What-F.While test body) good = good
-calls-layer Good (What-F.For variable from to body last) good = good
+calls-layer Good (What-F.DoUntil body test) good = good
+calls-layer Good (What-F.For variable from to down step body last) good = good
 calls-layer Good (What-F.AssignCall to procedure arguments) good = good procedure (inl refl)
 calls-layer Good (What-F.Call procedure arguments) good = good procedure (inl refl)
 calls-layer Good _ good = tt
@@ -86,37 +84,6 @@ total-append f [] ys = omega arith
 total-append f (x ∷ xs) ys =
     let rest : total f (xs ++ ys) ≡ total f xs + total f ys = total-append f xs ys in omega arith
 
--- the numbers within a statement, by one layer of it
-abbrev numbers_by : ℕ → What-F What Statement → List ℕ
-numbers_by number (What-F.If test first second) = numbers_of first ++ numbers_of second
-numbers_by number (What-F.While test body) = numbers_of body
-numbers_by number (What-F.For variable from to body last) = (number + 1) ∷ numbers_of body ++ last ∷ []
-numbers_by number _ = []
-
-numbers-roll : (number : ℕ) (layer : What-F What Statement)
-    → numbers_within number (roll-What layer) ≡ numbers_by number layer
-numbers-roll number (What-F.If test first second) =
-    ap (numbers_within number) (rolls-If test first second ∙ if-is test first second)
-numbers-roll number (What-F.While test body) = ap (numbers_within number) (rolls-While test body ∙ while-is test body)
-numbers-roll number (What-F.For variable from to body last) =
-    ap (numbers_within number) (rolls-For variable from to body last ∙ for-is variable from to body last)
-numbers-roll number (What-F.Assign to value) = ap (numbers_within number) (rolls-Assign to value)
-numbers-roll number (What-F.AssignCall to procedure arguments) =
-    ap (numbers_within number) (rolls-AssignCall to procedure arguments)
-numbers-roll number (What-F.Call procedure arguments) = ap (numbers_within number) (rolls-Call procedure arguments)
-numbers-roll number (What-F.Return value) = ap (numbers_within number) (rolls-Return value)
-numbers-roll number (What-F.ReadUpdate buffer most got) = ap (numbers_within number) (rolls-ReadUpdate buffer most got)
-numbers-roll number (What-F.Reply buffer count) = ap (numbers_within number) (rolls-Reply buffer count)
-numbers-roll number (What-F.WriteRead file buffer send room got) =
-    ap (numbers_within number) (rolls-WriteRead file buffer send room got)
-numbers-roll number (What-F.Checkpoint items files) = ap (numbers_within number) (rolls-Checkpoint items files)
-numbers-roll number What-F.CheckMonitor = ap (numbers_within number) rolls-CheckMonitor
-numbers-roll number (What-F.Open file) = ap (numbers_within number) (rolls-Open file)
-numbers-roll number What-F.Stop = ap (numbers_within number) rolls-Stop
-
-numbers-are : (number : ℕ) (what : What) → numbers_within number what ≡ numbers_by number (out-What what)
-numbers-are number what = ap (numbers_within number) (sym (roll-out-What what)) ∙ numbers-roll number (out-What what)
-
 module _ (before : List ℕ) where
   abbrev called_sizes : List ℕ → ℕ
   called_sizes procedures = total (size_at before) procedures
@@ -126,7 +93,7 @@ module _ (before : List ℕ) where
       size_of (size_at before) statements ≡ length (numbers_of statements) + called_sizes (calls_of statements)
 
   sized-by : (number : ℕ) (layer : What-F What Statement) → HoldsInside Sized layer
-      → size_by (size_at before) layer ≡ suc (length (numbers_by number layer))
+      → size_by (size_at before) layer ≡ length (numbers_by number layer)
       + called_sizes (call_in layer ++ flat_map own_calls (within_of layer))
   sized-by number (What-F.If test first second) parts =
       let calls : called_sizes (flat_map own_calls (all_of first ++ all_of second))
@@ -140,10 +107,15 @@ module _ (before : List ℕ) where
       let two : Sized second = parts.1 in
       omega arith
   sized-by number (What-F.While test body) parts = let one : Sized body = parts in omega arith
-  sized-by number (What-F.For variable from to body last) parts =
+  sized-by number (What-F.For variable from to down step body last) parts =
       let one : Sized body = parts in
       let numbers : length (numbers_of body ++ last ∷ []) ≡ length (numbers_of body) + 1 =
       length-append (numbers_of body) (last ∷ []) in
+      omega arith
+  sized-by number (What-F.DoUntil body test) parts =
+      let one : Sized body = parts in
+      let numbers : length (numbers_of body ++ number ∷ []) ≡ length (numbers_of body) + 1 =
+      length-append (numbers_of body) (number ∷ []) in
       omega arith
   sized-by number (What-F.AssignCall to procedure arguments) parts = omega arith
   sized-by number (What-F.Call procedure arguments) parts = omega arith
@@ -162,17 +134,16 @@ module _ (before : List ℕ) where
   sized-more statement rest parts later =
       let own : List ℕ = own_calls statement ++ flat_map own_calls (within statement.what) in
       let first : size_in (size_at before) statement.what
-      ≡ suc (length (numbers_within statement.number statement.what)) + called_sizes own =
+      ≡ length (numbers_by statement.number (out-What statement.what)) + called_sizes own =
       size-is (size_at before) statement.what ∙ sized-by statement.number (out-What statement.what) parts
-      ∙ ap₂ (λ (numbers calls : List ℕ). suc (length numbers) + called_sizes calls)
-      (sym (numbers-are statement.number statement.what))
-      (ap (λ (inside : List Statement). own_calls statement ++ flat_map own_calls inside)
-      (sym (within-is statement.what))) in
+      ∙ ap (λ (inside : List Statement). length (numbers_by statement.number (out-What statement.what))
+      + called_sizes (own_calls statement ++ flat_map own_calls inside)) (sym (within-is statement.what)) in
       let calls : called_sizes (calls_of (statement ∷ rest)) ≡ called_sizes own + called_sizes (calls_of rest) =
       ap called_sizes (calls-more statement rest) ∙ total-append (size_at before) own (calls_of rest) in
-      let numbers : length (numbers_within statement.number statement.what ++ numbers_of rest)
-      ≡ length (numbers_within statement.number statement.what) + length (numbers_of rest) =
-      length-append (numbers_within statement.number statement.what) (numbers_of rest) in
+      let numbers : length (numbers_of (statement ∷ rest))
+      ≡ length (numbers_by statement.number (out-What statement.what)) + length (numbers_of rest) =
+      ap length (numbers-by statement rest)
+      ∙ length-append (numbers_by statement.number (out-What statement.what)) (numbers_of rest) in
       omega arith
 
   -- the size by rows is the one that programs count

@@ -14,7 +14,6 @@ use Rattle.tal_tree.specs.declared.program.Program.{Program}
 use Rattle.tal_tree.specs.declared.statement.Statement.{Statement}
 use Rattle.tal_tree.specs.declared.statement.What.{What, What-F, out-What}
 use Rattle.process_semantics.specs.State.{Entry, runs_of}
-use Rattle.process_semantics.specs.Rests.{runs_row}
 use Rattle.path_semantics.specs.Bounds.{size_from}
 use Rattle.path_semantics.specs.Bounds.{sizes as program_sizes}
 use Rattle.path_semantics.specs.Place.{body_in, body_of}
@@ -70,7 +69,8 @@ module _ (one other : ℕ → ℕ) where
       → CallsBy (λ procedure. one procedure ≡ other procedure) layer → size_by one layer ≡ size_by other layer
   same-by (What-F.If test first second) parts calls = ap₂ (λ (m n : ℕ). 1 + (m + n)) (parts.0 calls.0) (parts.1 calls.1)
   same-by (What-F.While test body) parts calls = ap (λ (n : ℕ). 1 + n) (parts calls)
-  same-by (What-F.For variable from to body last) parts calls = ap (λ (n : ℕ). 2 + (n + 1)) (parts calls)
+  same-by (What-F.DoUntil body test) parts calls = ap (λ (n : ℕ). n + 1) (parts calls)
+  same-by (What-F.For variable from to down step body last) parts calls = ap (λ (n : ℕ). 2 + (n + 1)) (parts calls)
   same-by (What-F.AssignCall to procedure arguments) parts calls = ap (λ (n : ℕ). 1 + n) calls
   same-by (What-F.Call procedure arguments) parts calls = ap (λ (n : ℕ). 1 + n) calls
   same-by (What-F.Assign to value) parts calls = refl
@@ -118,7 +118,7 @@ begins-own : (called : ℕ → List Placed) (statements : List Statement) (later
 begins-own called [] later = refl
 begins-own called (statement ∷ rest) later =
     let after = start_row (rows rest) (0 + size_in (sizes called) statement.what) leaving in
-    let remains = runs_row (rows rest) ++ later in
+    let remains = runs_of rest ++ later in
     let first = first-laid called (out-What statement.what) statement 0 after remains in
     let split : place_in called statement.what statement 0 after remains ≡ first.first ∷ first.others =
     place-is called statement 0 after remains statement.what ∙ first.split in

@@ -1,13 +1,14 @@
 -- How code lays out statements: one by one, and by the parts of each.
-use Rattle.std.proofs.Common.{◌≡◌, ℕ, zero, suc, ◌+◌, ◌-◌, ◌<◌, ◌≤◌, arith, List, [], ◌∷◌, ◌++◌, length, drop, get_or}
+use Rattle.std.proofs.Common.{◌≡◌, ℕ, ℤ, Bool, zero, suc, ◌+◌, ◌-◌, ◌<◌, ◌≤◌, arith, List, [], ◌∷◌, ◌++◌, length, drop}
+use Rattle.std.proofs.Common.{get_or}
 use Rattle.std.proofs.Common.{refl, ap, ap₂, sym, ◌∙◌}
 use Rattle.std.proofs.lemmas.List.{append-nil, append_assoc, at_drop_more, drop_all}
-use Rattle.tal_tree.specs.Rows.{rows, if-is, while-is, for-is}
+use Rattle.tal_tree.specs.Rows.{rows, if-is, while-is, for-is, do-is}
 use Rattle.tal_tree.specs.declared.expression.Cond.{Cond}
 use Rattle.tal_tree.specs.declared.expression.Expr.{Expr}
 use Rattle.tal_tree.specs.declared.expression.Variable.{Variable}
 use Rattle.tal_tree.specs.declared.statement.Statement.{Statement}
-use Rattle.tal_tree.specs.declared.statement.What.{What, If, While, For}
+use Rattle.tal_tree.specs.declared.statement.What.{What, If, While, For, DoUntil}
 use Rattle.process_semantics.specs.State.{Run, Test, Last}
 use Rattle.flow_paths.specs.declared.graph.Edge.{Edge}
 use Rattle.flow_paths.specs.Graph.{Node}
@@ -61,15 +62,17 @@ module _ (called : ℕ → List Node) (self : Statement) (at : ℕ) (after : Edg
       again-is
       ∙ ap (λ (w : What). old ++ lay_in called w self at after) (sym (while-is test body))
 
-  pub lays-for : (variable : Variable) (from to : Expr) (last : ℕ) (body : List Statement) (count : ℕ)
+  pub lays-for : (variable : Variable) (from to : Expr) (down : Bool) (step : ℤ) (last : ℕ) (body : List Statement)
+      (count : ℕ)
       (x y counts start tests : Edge) (first second begun final : List Node)
       → count ≡ at + 2 + size body → counts ≡ to_node count → x ≡ start_at (length body) (at + 2) counts → y ≡ after
       → start ≡ to_node (at + 1) → tests ≡ to_node (at + 1)
       → first ≡ old ++ one_way (Run self) start ∷ [] → second ≡ first ++ two_ways (Test self) x y ∷ []
       → begun ≡ second ++ all body (at + 2) counts
       → final ≡ begun ++ one_way (Last self) tests ∷ []
-      → final ≡ old ++ lay_in called (For variable from to body last) self at after
-  lays-for variable from to last body count x y counts start tests first second begun final count-is counts-is x-is
+      → final ≡ old ++ lay_in called (For variable from to down step body last) self at after
+  lays-for variable from to down step last body count x y counts start tests first second begun final count-is
+      counts-is x-is
       y-is start-is tests-is first-is second-is begun-is final-is =
       final-is
       ∙ ap (λ (nodes : List Node). nodes ++ one_way (Last self) tests ∷ [])
@@ -88,7 +91,21 @@ module _ (called : ℕ → List Node) (self : Statement) (at : ℕ) (after : Edg
       ∷ two_ways (Test self) (start_row (rows body) (at + 2) e) after
       ∷ (all body (at + 2) e ++ one_way (Last self) (to_node (at + 1)) ∷ []))
       (counts-is ∙ ap to_node count-is)
-      ∙ ap (λ (w : What). old ++ lay_in called w self at after) (sym (for-is variable from to body last))
+      ∙ ap (λ (w : What). old ++ lay_in called w self at after) (sym (for-is variable from to down step body last))
+
+  pub lays-do : (test : Cond) (body : List Statement) (tests : ℕ) (again x y : Edge) (begun final : List Node)
+      → tests ≡ at + size body → again ≡ to_node tests → x ≡ after → y ≡ start_at (length body) at again
+      → begun ≡ old ++ all body at again → final ≡ begun ++ two_ways (Run self) x y ∷ []
+      → final ≡ old ++ lay_in called (DoUntil body test) self at after
+  lays-do test body tests again x y begun final tests-is again-is x-is y-is begun-is final-is =
+      final-is
+      ∙ ap (λ (nodes : List Node). nodes ++ two_ways (Run self) x y ∷ []) begun-is
+      ∙ append_assoc old (all body at again) (two_ways (Run self) x y ∷ [])
+      ∙ ap₂ (λ (a b : Edge). old ++ (all body at again ++ two_ways (Run self) a b ∷ [])) x-is
+      (y-is ∙ start-counted body at again)
+      ∙ ap (λ (e : Edge). old ++ (all body at e ++ two_ways (Run self) after (start_row (rows body) at e) ∷ []))
+      (again-is ∙ ap to_node tests-is)
+      ∙ ap (λ (w : What). old ++ lay_in called w self at after) (sym (do-is body test))
 
 -- so many statements are laid out: with those that are left there will be all
 module _ (called : ℕ → List Node) where

@@ -1,11 +1,11 @@
 -- The nodes of a procedure's graph with their places in it.
 use Rattle.std.proofs.Common.{◌≡◌, ℕ, ◌+◌, List, [], ◌∷◌, ◌++◌, map, length, refl, ap, ap₂, ◌∙◌}
 use Rattle.tal_tree.specs.declared.statement.Statement.{Statement}
-use Rattle.tal_tree.specs.declared.statement.What.{What, Assign, AssignCall, If', While', For', Call, Return}
-use Rattle.tal_tree.specs.declared.statement.What.{ReadUpdate, Reply, WriteRead, Checkpoint, CheckMonitor, Open, Stop}
+use Rattle.tal_tree.specs.declared.statement.What.{What, Assign, AssignCall, If', While', For', DoUntil', Call}
+use Rattle.tal_tree.specs.declared.statement.What.{Return, ReadUpdate, Reply, WriteRead, Checkpoint, CheckMonitor}
+use Rattle.tal_tree.specs.declared.statement.What.{Open, Stop}
 use Rattle.tal_tree.specs.declared.statement.What.{Row_of-Statement, end_of-Statement, more_of-Statement}
-use Rattle.process_semantics.specs.State.{Entry, Run, Test, Last}
-use Rattle.process_semantics.specs.Rests.{runs_row}
+use Rattle.process_semantics.specs.State.{Entry, Run, Test, Last, runs_row}
 use Rattle.path_semantics.specs.Dues.{global_of_spot}
 use Rattle.path_semantics.specs.Place.{Place}
 use Rattle.flow_paths.specs.declared.graph.Edge.{Edge}
@@ -49,11 +49,14 @@ module _ (called : ℕ → List Placed) where
     place_in (While' test _ body) self base after rest =
         own_two (Run self) rest (start_row body (base + 1) (to_node base)) after
         ∷ place_row body (base + 1) (to_node base) (Run self ∷ rest)
-    place_in (For' variable from to _ body last) self base after rest =
+    place_in (For' variable from to down step _ body last) self base after rest =
         own_one (Run self) rest (to_node (base + 1))
         ∷ own_two (Test self) rest (start_row body (base + 2) (to_node (base + 2 + size_row sizes body))) after
         ∷ (place_row body (base + 2) (to_node (base + 2 + size_row sizes body)) (Last self ∷ Test self ∷ rest)
         ++ own_one (Last self) (Test self ∷ rest) (to_node (base + 1)) ∷ [])
+    place_in (DoUntil' _ body test) self base after rest =
+        place_row body base (to_node (base + size_row sizes body)) (Run self ∷ rest)
+        ++ own_two (Run self) rest after (start_row body base (to_node (base + size_row sizes body))) ∷ []
     place_in (AssignCall to procedure arguments) self base after rest =
         place_call (called procedure) self base (with_targets (global_of_spot to) after) rest
     place_in (Call procedure arguments) self base after rest = place_call (called procedure) self base after rest
@@ -109,7 +112,7 @@ module _ (called : ℕ → List Placed) where
     shown-in (While' test _ body) self base after rest =
         ap (λ (zs : List Node). two_ways (Run self) (start_row body (base + 1) (to_node base)) after ∷ zs)
         (shown-row body (base + 1) (to_node base) (Run self ∷ rest))
-    shown-in (For' variable from to _ body last) self base after rest =
+    shown-in (For' variable from to down step _ body last) self base after rest =
         let final = base + 2 + size_row (sizes called) body in
         ap (λ (zs : List Node). one_way (Run self) (to_node (base + 1))
         ∷ two_ways (Test self) (start_row body (base + 2) (to_node final)) after ∷ zs)
@@ -117,6 +120,12 @@ module _ (called : ℕ → List Placed) where
         (own_one (Last self) (Test self ∷ rest) (to_node (base + 1)) ∷ [])
         ∙ ap (λ (xs : List Node). xs ++ one_way (Last self) (to_node (base + 1)) ∷ [])
         (shown-row body (base + 2) (to_node final) (Last self ∷ Test self ∷ rest)))
+    shown-in (DoUntil' _ body test) self base after rest =
+        let final = base + size_row (sizes called) body in
+        shown-append (place_row called body base (to_node final) (Run self ∷ rest))
+        (own_two (Run self) rest after (start_row body base (to_node final)) ∷ [])
+        ∙ ap (λ (xs : List Node). xs ++ two_ways (Run self) after (start_row body base (to_node final)) ∷ [])
+        (shown-row body base (to_node final) (Run self ∷ rest))
     shown-in (AssignCall to procedure arguments) self base after rest =
         shown-call procedure self base (with_targets (global_of_spot to) after) rest
     shown-in (Call procedure arguments) self base after rest = shown-call procedure self base after rest

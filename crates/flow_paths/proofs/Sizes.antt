@@ -2,12 +2,12 @@
 use Rattle.std.proofs.Common.{◌≡◌, ℕ, zero, suc, ◌+◌, ◌<◌, ◌≤◌, arith, List, [], ◌∷◌, ◌++◌, map, length, take, get_or}
 use Rattle.std.proofs.Common.{refl, ap, sym, ◌∙◌}
 use Rattle.std.proofs.lemmas.List.{take_more}
-use Rattle.tal_tree.specs.Rows.{rows, if-is, while-is, for-is}
+use Rattle.tal_tree.specs.Rows.{rows, if-is, while-is, for-is, do-is}
 use Rattle.tal_tree.specs.declared.expression.Cond.{Cond}
 use Rattle.tal_tree.specs.declared.expression.Expr.{Expr}
 use Rattle.tal_tree.specs.declared.expression.Variable.{Variable}
 use Rattle.tal_tree.specs.declared.statement.Statement.{Statement}
-use Rattle.tal_tree.specs.declared.statement.What.{What, If, While, For}
+use Rattle.tal_tree.specs.declared.statement.What.{What, If, While, For, DoUntil}
 use Rattle.flow_paths.specs.Graph.{Node}
 use Rattle.flow_paths.specs.Layout.{size_in, size_row, size_at, graph_sizes}
 
@@ -23,10 +23,16 @@ module _ (called : ℕ → ℕ) where
       → size_in called what ≡ 1 + all body
   size-while what test body is = ap (size_in called) (is ∙ while-is test body)
 
-  pub size-for : (what : What) (variable : Variable) (from to : Expr) (body : List Statement) (last : ℕ)
-      → what ≡ For variable from to body last
+  pub size-for : (what : What) (variable : Variable) (from to : Expr) (down : _) (step : _) (body : List Statement)
+      (last : ℕ)
+      → what ≡ For variable from to down step body last
       → size_in called what ≡ 2 + (all body + 1)
-  size-for what variable from to body last is = ap (size_in called) (is ∙ for-is variable from to body last)
+  size-for what variable from to down step body last is = ap (size_in called) (is
+      ∙ for-is variable from to down step body last)
+
+  pub size-do : (what : What) (body : List Statement) (test : Cond) → what ≡ DoUntil body test
+      → size_in called what ≡ all body + 1
+  size-do what body test is = ap (size_in called) (is ∙ do-is body test)
 
   size-append : (xs ys : List Statement) → all (xs ++ ys) ≡ all xs + all ys
   size-append [] ys = omega arith

@@ -22,7 +22,8 @@ module _ (one other : ℕ → ℕ) (same : (procedure : ℕ) → told (one proce
   alike-by (What-F.If test first second) parts =
       let left : Alike first = parts.0 in let right : Alike second = parts.1 in omega arith
   alike-by (What-F.While test body) parts = let inner : Alike body = parts in omega arith
-  alike-by (What-F.For variable from to body last) parts = let inner : Alike body = parts in omega arith
+  alike-by (What-F.DoUntil body test) parts = let inner : Alike body = parts in omega arith
+  alike-by (What-F.For variable from to down step body last) parts = let inner : Alike body = parts in omega arith
   alike-by (What-F.AssignCall to procedure arguments) parts =
       let called : told (one procedure) ≡ told (other procedure) = same procedure in omega arith
   alike-by (What-F.Call procedure arguments) parts =

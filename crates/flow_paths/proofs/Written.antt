@@ -8,16 +8,17 @@ use Rattle.tal_tree.specs.Rows.{rows}
 use Rattle.tal_tree.specs.declared.program.Program.{Program}
 use Rattle.tal_tree.specs.declared.statement.Statement.{Statement}
 use Rattle.tal_tree.specs.declared.statement.What.{What, What-F, out-What}
+use Rattle.tal_tree.specs.Statements.{body_before}
 use Rattle.process_semantics.specs.State.{Entry, Run, Test, Last, runs_of}
-use Rattle.process_semantics.specs.Rests.{runs_row}
+use Rattle.process_semantics.proofs.Rests.{behind-more}
 use Rattle.path_semantics.specs.declared.dues.Dues.{Dues}
 use Rattle.path_semantics.specs.Dues.{after_entry, after_statement, target_of, global_of_spot}
 use Rattle.path_semantics.specs.Place.{Place, body_of, ways_of, rounds_of, settled, stand_at}
 use Rattle.flow_paths.specs.declared.graph.Edge.{Edge}
 use Rattle.flow_paths.specs.Layout.{size_in, to_node, leaving, ending, with_targets, moved, start_row, start_in}
 use Rattle.flow_paths.proofs.Called.{Calls, CallsBy, calls-first, calls-rest}
-use Rattle.flow_paths.proofs.Layers.{size_of, runs-are, size_by, size-is, place, place_by, place-is}
-use Rattle.flow_paths.proofs.Placed.{Placed, shown, own_one, placed_moved, place_call, sizes, place_in}
+use Rattle.flow_paths.proofs.Layers.{size_of, size_by, size-is, place, place_by, place-is}
+use Rattle.flow_paths.proofs.Placed.{Placed, shown, own_one, own_two, placed_moved, place_call, sizes, place_in}
 use Rattle.flow_paths.proofs.Right.{ArrivesIn, AllArriveIn, IsRightIn, AreRight, Follows, nothing-changed, Holds}
 use Rattle.flow_paths.proofs.Right.{holds-at, holds-left, holds-right, right-append, follows-node, follows-leaving}
 use Rattle.flow_paths.proofs.Right.{IsTemplate, nodes-moved, begins-moved}
@@ -54,7 +55,7 @@ module _ (called : ℕ → List Placed) where
   long-by (What-F.While test body) self base after rest parts =
       let one : length (place called body (base + 1) (to_node base) (Run self ∷ rest)) ≡ size_of (sizes called) body =
       parts (base + 1) (to_node base) (Run self ∷ rest) in omega arith
-  long-by (What-F.For variable from to body last) self base after rest parts =
+  long-by (What-F.For variable from to down step body last) self base after rest parts =
       let one : length (place called body (base + 2) (to_node (base + 2 + size_of (sizes called) body))
       (Last self ∷ Test self ∷ rest)) ≡ size_of (sizes called) body =
       parts (base + 2) (to_node (base + 2 + size_of (sizes called) body)) (Last self ∷ Test self ∷ rest) in
@@ -62,6 +63,16 @@ module _ (called : ℕ → List Placed) where
         arith,
         length-append (place called body (base + 2) (to_node (base + 2 + size_of (sizes called) body))
             (Last self ∷ Test self ∷ rest)) (own_one (Last self) (Test self ∷ rest) (to_node (base + 1)) ∷ []),
+      )
+  long-by (What-F.DoUntil body test) self base after rest parts =
+      let final = base + size_of (sizes called) body in
+      let one : length (place called body base (to_node final) (Run self ∷ rest)) ≡ size_of (sizes called) body =
+      parts base (to_node final) (Run self ∷ rest) in
+      omega (
+        arith,
+        one,
+        length-append (place called body base (to_node final) (Run self ∷ rest))
+            (own_two (Run self) rest after (start_row (rows body) base (to_node final)) ∷ []),
       )
   long-by (What-F.AssignCall to procedure arguments) self base after rest parts =
       long-call procedure self base (with_targets (global_of_spot to) after) rest
@@ -90,11 +101,11 @@ module _ (called : ℕ → List Placed) where
     none = λ base next later. refl;
     more = λ statement rest parts longer base next later.
         length-append (place_in called statement.what statement base
-        (start_row (rows rest) (base + size_in (sizes called) statement.what) next) (runs_row (rows rest) ++ later))
+        (start_row (rows rest) (base + size_in (sizes called) statement.what) next) (runs_of rest ++ later))
         (place called rest (base + size_in (sizes called) statement.what) next later)
         ∙ ap (λ (n : ℕ). n + length (place called rest (base + size_in (sizes called) statement.what) next later))
         (long-one statement base (start_row (rows rest) (base + size_in (sizes called) statement.what) next)
-        (runs_row (rows rest) ++ later) parts)
+        (runs_of rest ++ later) parts)
         ∙ ap (λ (n : ℕ). size_in (sizes called) statement.what + n)
         (longer (base + size_in (sizes called) statement.what) next later);
   }
@@ -105,7 +116,8 @@ module _ (called : ℕ → List Placed) where
   parts-long : (layer : What-F What Statement) → HoldsInside Long layer
   parts-long (What-F.If test first second) = (long first, long second)
   parts-long (What-F.While test body) = long body
-  parts-long (What-F.For variable from to body last) = long body
+  parts-long (What-F.DoUntil body test) = long body
+  parts-long (What-F.For variable from to down step body last) = long body
   parts-long _ = tt
 
   pub long-own : (statement : Statement) (base : ℕ) (after : Edge) (rest : List Entry)
@@ -114,57 +126,124 @@ module _ (called : ℕ → List Placed) where
 
 -- Where statements begin
 
-pub record BeginsWith (entry : Entry) (rest : List Entry) (laid : List Placed) : Type 0 where
+-- there is a first of these
+pub record HasFirst (laid : List Placed) : Type 0 where
   pub first : Placed
   pub others : List Placed
   pub split : laid ≡ first ∷ others
-  pub place : first.place ≡ (entry ∷ rest) ∷ []
+
+first-before : (laid : List Placed) (last : Placed) → HasFirst (laid ++ last ∷ [])
+first-before [] last = record { first = last; others = []; split = refl }
+first-before (one ∷ laid) last = record { first = one; others = laid ++ last ∷ []; split = refl }
+
+-- a DO begins where its body does, or where its test does
+start-do : (size : List Statement → ℕ) → size [] ≡ 0 → (body : List Statement) (base : ℕ)
+    → start_row (rows body) base (to_node (base + size body)) ≡ to_node base
+start-do size none [] base = ap to_node (let same : base + size [] ≡ base = omega (arith, none) in same)
+start-do size none (statement ∷ rest) base = refl
 
 module _ (called : ℕ → List Placed) where
   pub first-laid : (layer : What-F What Statement) (self : Statement) (base : ℕ) (after : Edge) (rest : List Entry)
-      → BeginsWith (Run self) rest (place_by called layer self base after rest)
+      → HasFirst (place_by called layer self base after rest)
   first-laid (What-F.If test first second) self base after rest =
-      record { first = _; others = _; split = refl; place = refl }
+      record { first = _; others = _; split = refl }
   first-laid (What-F.While test body) self base after rest =
-      record { first = _; others = _; split = refl; place = refl }
-  first-laid (What-F.For variable from to body last) self base after rest =
-      record { first = _; others = _; split = refl; place = refl }
+      record { first = _; others = _; split = refl }
+  first-laid (What-F.For variable from to down step body last) self base after rest =
+      record { first = _; others = _; split = refl }
   first-laid (What-F.AssignCall to procedure arguments) self base after rest =
-      record { first = _; others = _; split = refl; place = refl }
+      record { first = _; others = _; split = refl }
   first-laid (What-F.Call procedure arguments) self base after rest =
-      record { first = _; others = _; split = refl; place = refl }
+      record { first = _; others = _; split = refl }
   first-laid (What-F.Assign to value) self base after rest =
-      record { first = _; others = _; split = refl; place = refl }
-  first-laid (What-F.Return value) self base after rest = record { first = _; others = _; split = refl; place = refl }
+      record { first = _; others = _; split = refl }
+  first-laid (What-F.Return value) self base after rest =
+      record { first = _; others = _; split = refl }
   first-laid (What-F.ReadUpdate buffer most got) self base after rest =
-      record { first = _; others = _; split = refl; place = refl }
+      record { first = _; others = _; split = refl }
   first-laid (What-F.Reply buffer count) self base after rest =
-      record { first = _; others = _; split = refl; place = refl }
+      record { first = _; others = _; split = refl }
   first-laid (What-F.WriteRead file buffer send room got) self base after rest =
-      record { first = _; others = _; split = refl; place = refl }
+      record { first = _; others = _; split = refl }
   first-laid (What-F.Checkpoint items files) self base after rest =
-      record { first = _; others = _; split = refl; place = refl }
-  first-laid What-F.CheckMonitor self base after rest = record { first = _; others = _; split = refl; place = refl }
-  first-laid (What-F.Open file) self base after rest = record { first = _; others = _; split = refl; place = refl }
-  first-laid What-F.Stop self base after rest = record { first = _; others = _; split = refl; place = refl }
+      record { first = _; others = _; split = refl }
+  first-laid What-F.CheckMonitor self base after rest =
+      record { first = _; others = _; split = refl }
+  first-laid (What-F.Open file) self base after rest =
+      record { first = _; others = _; split = refl }
+  first-laid What-F.Stop self base after rest =
+      record { first = _; others = _; split = refl }
+  first-laid (What-F.DoUntil body test) self base after rest =
+      first-before (place called body base (to_node (base + size_of (sizes called) body)) (Run self ∷ rest))
+      (own_two (Run self) rest after (start_row (rows body) base (to_node (base + size_of (sizes called) body))))
 
-  pub begins : (nodes : List Placed) (statements : List Statement) (base : ℕ) (next : Edge) (later : List Entry)
-      → Holds nodes base (place called statements base next later)
-      → Follows nodes next later → Follows nodes (start_row (rows statements) base next) (runs_of statements ++ later)
-  begins nodes [] base next later holds follows = follows
-  begins nodes (statement ∷ rest) base next later holds follows =
-      let after = start_row (rows rest) (base + size_in (sizes called) statement.what) next in
-      let own_part : Holds nodes base (place_in called statement.what statement base after
-      (runs_row (rows rest) ++ later)) =
-      holds-left nodes (place_in called statement.what statement base after (runs_row (rows rest) ++ later))
-      (place called rest (base + size_in (sizes called) statement.what) next later) base holds in
-      let first = first-laid (out-What statement.what) statement base after (runs_row (rows rest) ++ later) in
-      let there : Holds nodes base (first.first ∷ first.others) =
-      subst (Holds nodes base) (place-is called statement base after (runs_row (rows rest) ++ later) statement.what
-      ∙ first.split) own_part in
-      subst (λ (entries : List Entry). Follows nodes (to_node base) (Run statement ∷ (entries ++ later)))
-      (runs-are rest)
-      (follows-node nodes base first.first (Run statement) (runs_row (rows rest) ++ later) there.0 first.place)
+  module _ (nodes : List Placed) where
+    abbrev Begin : List Statement → Type 0
+    Begin statements = (base : ℕ) (next : Edge) (later : List Entry)
+        → Holds nodes base (place called statements base next later)
+        → Follows nodes next later → Follows nodes (start_row (rows statements) base next) (runs_of statements ++ later)
+
+    begin-layer : (layer : What-F What Statement) (self : Statement) (base : ℕ) (after : Edge) (rest : List Entry)
+        → HoldsInside Begin layer → Holds nodes base (place_by called layer self base after rest)
+        → Follows nodes (to_node base) (runs_of (body_before layer) ++ Run self ∷ rest)
+    begin-layer (What-F.If test first second) self base after rest parts holds =
+        follows-node nodes base _ (Run self) rest holds.0 refl
+    begin-layer (What-F.While test body) self base after rest parts holds =
+        follows-node nodes base _ (Run self) rest holds.0 refl
+    begin-layer (What-F.For variable from to down step body last) self base after rest parts holds =
+        follows-node nodes base _ (Run self) rest holds.0 refl
+    begin-layer (What-F.AssignCall to procedure arguments) self base after rest parts holds =
+        follows-node nodes base _ (Run self) rest holds.0 refl
+    begin-layer (What-F.Call procedure arguments) self base after rest parts holds =
+        follows-node nodes base _ (Run self) rest holds.0 refl
+    begin-layer (What-F.Assign to value) self base after rest parts holds =
+        follows-node nodes base _ (Run self) rest holds.0 refl
+    begin-layer (What-F.Return value) self base after rest parts holds =
+        follows-node nodes base _ (Run self) rest holds.0 refl
+    begin-layer (What-F.ReadUpdate buffer most got) self base after rest parts holds =
+        follows-node nodes base _ (Run self) rest holds.0 refl
+    begin-layer (What-F.Reply buffer count) self base after rest parts holds =
+        follows-node nodes base _ (Run self) rest holds.0 refl
+    begin-layer (What-F.WriteRead file buffer send room got) self base after rest parts holds =
+        follows-node nodes base _ (Run self) rest holds.0 refl
+    begin-layer (What-F.Checkpoint items files) self base after rest parts holds =
+        follows-node nodes base _ (Run self) rest holds.0 refl
+    begin-layer What-F.CheckMonitor self base after rest parts holds =
+        follows-node nodes base _ (Run self) rest holds.0 refl
+    begin-layer (What-F.Open file) self base after rest parts holds =
+        follows-node nodes base _ (Run self) rest holds.0 refl
+    begin-layer What-F.Stop self base after rest parts holds =
+        follows-node nodes base _ (Run self) rest holds.0 refl
+    begin-layer (What-F.DoUntil body test) self base after rest parts holds =
+        let final = base + size_of (sizes called) body in
+        let front = place called body base (to_node final) (Run self ∷ rest) in
+        let own = own_two (Run self) rest after (start_row (rows body) base (to_node final)) in
+        let left = holds-left nodes front (own ∷ []) base holds in
+        let right : Holds nodes final (own ∷ []) =
+        holds-at nodes (own ∷ []) (base + length front) final
+        (ap (λ (n : ℕ). base + n) (long called body base (to_node final) (Run self ∷ rest)))
+        (holds-right nodes front (own ∷ []) base holds) in
+        let again : Follows nodes (to_node final) (Run self ∷ rest) =
+        follows-node nodes final _ (Run self) rest right.0 refl in
+        subst (λ (edge : Edge). Follows nodes edge (runs_of body ++ Run self ∷ rest))
+        (start-do (size_of (sizes called)) refl body base)
+        (parts base (to_node final) (Run self ∷ rest) left again)
+
+    begin-more : (statement : Statement) (rest : List Statement) → HoldsInside Begin (out-What statement.what)
+        → Begin rest → Begin (statement ∷ rest)
+    begin-more statement rest parts others base next later holds follows =
+        let after = start_row (rows rest) (base + size_in (sizes called) statement.what) next in
+        let own_part : Holds nodes base (place_in called statement.what statement base after
+        (runs_of rest ++ later)) =
+        holds-left nodes (place_in called statement.what statement base after (runs_of rest ++ later))
+        (place called rest (base + size_in (sizes called) statement.what) next later) base holds in
+        subst (Follows nodes (to_node base)) (sym (behind-more statement rest later))
+        (begin-layer (out-What statement.what) statement base after (runs_of rest ++ later) parts
+        (subst (Holds nodes base) (place-is called statement base after (runs_of rest ++ later) statement.what)
+        own_part))
+
+    pub begins : (statements : List Statement) → Begin statements
+    begins = by-statements Begin (record { none = λ base next later holds follows. follows; more = begin-more })
 
 -- Nodes
 
@@ -303,7 +382,26 @@ module _ (program : Program) (called : ℕ → List Placed) (Good : ℕ → Type
               )),
           parts calls (base + 1) (to_node base) (Run self ∷ rest) holds.1 again,
         )
-    one-right (What-F.For variable from to body last) is parts calls holds =
+    one-right (What-F.DoUntil body test) is parts calls holds =
+        let final = base + size_of (sizes called) body in
+        let front = place called body base (to_node final) (Run self ∷ rest) in
+        let own = own_two (Run self) rest after (start_row (rows body) base (to_node final)) in
+        let left = holds-left nodes front (own ∷ []) base holds in
+        let right : Holds nodes final (own ∷ []) =
+        holds-at nodes (own ∷ []) (base + length front) final
+        (ap (λ (n : ℕ). base + n) (long called body base (to_node final) (Run self ∷ rest)))
+        (holds-right nodes front (own ∷ []) base holds) in
+        let again : Follows nodes (to_node final) (Run self ∷ rest) =
+        follows-node nodes final _ (Run self) rest right.0 refl in
+        right-append program nodes front (own ∷ []) (parts calls base (to_node final) (Run self ∷ rest) left again) (
+          run-right program nodes self rest (What-F.DoUntil body test) after
+              (Some (start_row (rows body) base (to_node final))) is (λ callers dues. (
+                follows callers dues,
+                (begins called nodes body base (to_node final) (Run self ∷ rest) left again callers dues, tt),
+              )),
+          tt,
+        )
+    one-right (What-F.For variable from to down step body last) is parts calls holds =
         let final = base + 2 + size_of (sizes called) body in
         let inner : Holds nodes (base + 2) (place called body (base + 2) (to_node final) (Last self ∷ Test self ∷ rest)
         ++ own_one (Last self) (Test self ∷ rest) (to_node (base + 1)) ∷ []) =
@@ -320,10 +418,11 @@ module _ (program : Program) (called : ℕ → List Placed) (Good : ℕ → Type
         follows-node nodes (base + 1) _ (Test self) rest holds.1.0 refl in
         let counts : Follows nodes (to_node final) (Last self ∷ Test self ∷ rest) =
         follows-node nodes final _ (Last self) (Test self ∷ rest) right.0 refl in (
-          run-right program nodes self rest (What-F.For variable from to body last) (to_node (base + 1)) None is
+          run-right program nodes self rest (What-F.For variable from to down step body last) (to_node (base + 1)) None
+              is
               (λ callers dues. (tests callers dues, tt)),
           (
-            test-right program nodes self rest (What-F.For variable from to body last)
+            test-right program nodes self rest (What-F.For variable from to down step body last)
                 (start_row (rows body) (base + 2) (to_node final)) (Some after) is (λ callers dues. (
                   begins called nodes body (base + 2) (to_node final) (Last self ∷ Test self ∷ rest) left counts callers
                       dues,
@@ -372,7 +471,7 @@ module _ (program : Program) (called : ℕ → List Placed) (Good : ℕ → Type
   more-right statement rest parts right calls base next later holds follows =
       let size = size_in (sizes called) statement.what in
       let after = start_row (rows rest) (base + size) next in
-      let remains = runs_row (rows rest) ++ later in
+      let remains = runs_of rest ++ later in
       let first = place_in called statement.what statement base after remains in
       let others = place called rest (base + size) next later in
       let others_hold : Holds nodes (base + size) others =
@@ -381,8 +480,7 @@ module _ (program : Program) (called : ℕ → List Placed) (Good : ℕ → Type
       ∙ long-layer statement base after remains))
       (holds-right nodes first others base holds) in
       let on : Follows nodes after remains =
-      subst (λ (entries : List Entry). Follows nodes after (entries ++ later)) (sym (runs-are rest))
-      (begins called nodes rest (base + size) next later others_hold follows) in
+      begins called nodes rest (base + size) next later others_hold follows in
       let laid = place-is called statement base after remains statement.what in
       right-append program nodes first others
       (subst (AreRight program nodes) (sym laid)

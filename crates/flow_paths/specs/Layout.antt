@@ -3,8 +3,9 @@
 use Rattle.std.specs.Prelude.{ℕ, zero, suc, ◌+◌, List, [], ◌∷◌, ◌++◌, map, length, slice_get, Option, Some, None}
 use Rattle.std.specs.Option.{option_map, unwrap_or}
 use Rattle.tal_tree.specs.declared.statement.Statement.{Statement}
-use Rattle.tal_tree.specs.declared.statement.What.{What, Assign, AssignCall, If', While', For', Call, Return}
-use Rattle.tal_tree.specs.declared.statement.What.{ReadUpdate, Reply, WriteRead, Checkpoint, CheckMonitor, Open, Stop}
+use Rattle.tal_tree.specs.declared.statement.What.{What, Assign, AssignCall, If', While', For', DoUntil', Call}
+use Rattle.tal_tree.specs.declared.statement.What.{Return, ReadUpdate, Reply, WriteRead, Checkpoint, CheckMonitor}
+use Rattle.tal_tree.specs.declared.statement.What.{Open, Stop}
 use Rattle.tal_tree.specs.declared.statement.What.{Row_of-Statement, end_of-Statement, more_of-Statement}
 use Rattle.process_semantics.specs.State.{Entry, Run, Test, Last}
 use Rattle.path_semantics.specs.Dues.{global_of_spot}
@@ -20,7 +21,8 @@ abbrev mutual
   pub size_in : (ℕ → ℕ) → What → ℕ
   size_in called (If' test _ first _ second) = 1 + (size_row called first + size_row called second)
   size_in called (While' test _ body) = 1 + size_row called body
-  size_in called (For' variable from to _ body last) = 2 + (size_row called body + 1)
+  size_in called (For' variable from to down step _ body last) = 2 + (size_row called body + 1)
+  size_in called (DoUntil' _ body test) = size_row called body + 1
   size_in called (AssignCall to procedure arguments) = 1 + called procedure
   size_in called (Call procedure arguments) = 1 + called procedure
   size_in called (Assign to value) = 1
@@ -124,12 +126,15 @@ abbrev mutual
   lay_in called (While' test _ body) self base after =
       two_ways (Run self) (start_row body (base + 1) (to_node base)) after
       ∷ lay_row called body (base + 1) (to_node base)
-  lay_in called (For' variable from to _ body last) self base after =
+  lay_in called (For' variable from to down step _ body last) self base after =
       one_way (Run self) (to_node (base + 1))
       ∷ two_ways (Test self) (start_row body (base + 2) (to_node (base + 2 + size_row (λ k. length (called k)) body)))
       after
       ∷ (lay_row called body (base + 2) (to_node (base + 2 + size_row (λ k. length (called k)) body))
       ++ one_way (Last self) (to_node (base + 1)) ∷ [])
+  lay_in called (DoUntil' _ body test) self base after =
+      lay_row called body base (to_node (base + size_row (λ k. length (called k)) body))
+      ++ two_ways (Run self) after (start_row body base (to_node (base + size_row (λ k. length (called k)) body))) ∷ []
   lay_in called (AssignCall to procedure arguments) self base after =
       lay_call (called procedure) self base (with_targets (global_of_spot to) after)
   lay_in called (Call procedure arguments) self base after = lay_call (called procedure) self base after

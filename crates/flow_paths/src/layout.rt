@@ -1,9 +1,9 @@
-ghost use Rattle.std.specs.Prelude.{◌≡◌, ◌+◌, ◌<◌, ◌≤◌, ℕ, [], ◌∷◌, ◌++◌, length, IfOk, OnOk};
+ghost use Rattle.std.specs.Prelude.{◌≡◌, ◌+◌, ◌<◌, ◌≤◌, ℕ, ℤ, Bool, [], ◌∷◌, ◌++◌, length, IfOk, OnOk};
 ghost use Rattle.tal_tree.specs.Rows.{rows};
 ghost use Rattle.tal_tree.specs.declared.expression.Cond.{Cond};
 ghost use Rattle.tal_tree.specs.declared.expression.Expr.{Expr};
 ghost use Rattle.tal_tree.specs.declared.expression.Variable.{Variable};
-ghost use Rattle.tal_tree.specs.declared.statement.What.{If, While, For};
+ghost use Rattle.tal_tree.specs.declared.statement.What.{If, While, For, DoUntil};
 ghost use Rattle.process_semantics.specs.State.{Run};
 ghost use Rattle.flow_paths.specs.Graph.{AreClosed};
 ghost use Rattle.flow_paths.specs.Layout.{size_in, size_row, leaving, start_at, one_way, lay_call, lay_in, lay_row};
@@ -140,9 +140,14 @@ impl<'a> Graphs<'a> {
                 variable: _,
                 from: _,
                 to: _,
+                down: _,
+                step: _,
                 body,
                 last: _,
             } => self.lay_for(statement, body.as_slice(), at, after, nodes),
+            What::DoUntil { body, test: _ } => {
+                self.lay_do(statement, body.as_slice(), at, after, nodes)
+            }
             What::AssignCall {
                 to,
                 procedure,
@@ -214,9 +219,9 @@ impl<'a> Graphs<'a> {
         nodes: &mut Vec<Node<'a>>,
     ) -> Result<(), NoMemory>
         requires room { at + 3 + size_row (graph_sizes self.now) (rows body.now) ≤ 8192 }
-        ensures { OnOk result ((variable : Variable) (from to : Expr) (last : ℕ)
-            → nodes.new.items ≡ nodes.old.items ++ lay_in (graph_at self.now) (For variable from to body.now last)
-            statement.now at after.now) }
+        ensures { OnOk result ((variable : Variable) (from to : Expr) (down : Bool) (step : ℤ) (last : ℕ)
+            → nodes.new.items ≡ nodes.old.items ++ lay_in (graph_at self.now)
+            (For variable from to down step body.now last) statement.now at after.now) }
     {
         let count = at + 2 + self.size_of_all(body);
         let counts = Edge::to_node(self.alloc, count);
@@ -227,6 +232,28 @@ impl<'a> Graphs<'a> {
         self.lay_all(body, at + 2, &counts, nodes)?;
         let tests = Edge::to_node(self.alloc, at + 1);
         nodes.push(Node::one_way(Entry::Last(statement), tests))?;
+        Ok(())
+    }
+
+    #[cycle(lay)]
+    fn lay_do(
+        &self,
+        statement: &'a Statement,
+        body: &'a [Statement],
+        at: u16,
+        after: &Edge,
+        nodes: &mut Vec<Node<'a>>,
+    ) -> Result<(), NoMemory>
+        requires room { at + 1 + size_row (graph_sizes self.now) (rows body.now) ≤ 8192 }
+        ensures { OnOk result ((test : Cond) → nodes.new.items
+            ≡ nodes.old.items ++ lay_in (graph_at self.now) (DoUntil body.now test) statement.now at after.now) }
+    {
+        let tests = at + self.size_of_all(body);
+        let again = Edge::to_node(self.alloc, tests);
+        let first = after.copy(self.alloc)?;
+        let second = start(self.alloc, body.len(), at, &again)?;
+        self.lay_all(body, at, &again, nodes)?;
+        nodes.push(Node::two_ways(Entry::Run(statement), first, second))?;
         Ok(())
     }
 

@@ -55,9 +55,12 @@ pub(crate) fn size_of(sizes: &[u32], statement: &Statement) -> u32
             variable: _,
             from: _,
             to: _,
+            down: _,
+            step: _,
             body,
             last: _,
         } => size_of_all(sizes, body.as_slice()).saturating_add(3),
+        What::DoUntil { body, test: _ } => size_of_all(sizes, body.as_slice()).saturating_add(1),
         What::AssignCall {
             to: _,
             procedure,

@@ -11,7 +11,9 @@ use Rattle.tal_tree.specs.declared.expression.Variable.{Variable}
 use Rattle.tal_tree.specs.declared.program.Procedure.{Procedure}
 use Rattle.tal_tree.specs.declared.statement.Statement.{Statement}
 use Rattle.tal_tree.specs.declared.statement.What.{What, What-F, out-What, roll-What, If, While, For}
+use Rattle.tal_tree.specs.declared.statement.What.{DoUntil}
 use Rattle.tal_tree.specs.declared.statement.What.TheViews.{out-roll-What, rolls-If, rolls-While, rolls-For}
+use Rattle.tal_tree.specs.declared.statement.What.TheViews.{rolls-DoUntil}
 use Rattle.path_semantics.specs.Bounds.{greatest, of_called, depth_from, in_order}
 use Rattle.tal_tree.specs.Statements.{within, all_in, all_of, call_in, own_calls, calls_of}
 use Rattle.tal_tree.proofs.Within.{within_of, within-is}
@@ -43,7 +45,8 @@ deepest_by before (What-F.Call procedure arguments) = look before procedure
 deepest_by before (What-F.If test first second) =
     max (greatest (of_called before first)) (greatest (of_called before second))
 deepest_by before (What-F.While test body) = greatest (of_called before body)
-deepest_by before (What-F.For variable from to body last) = greatest (of_called before body)
+deepest_by before (What-F.For variable from to down step body last) = greatest (of_called before body)
+deepest_by before (What-F.DoUntil body test) = greatest (of_called before body)
 deepest_by before _ = 0
 
 greatest-one : (n : ℕ) → max n 0 ≡ n
@@ -59,7 +62,8 @@ by_layer before (What-F.If test first second) =
     ∙ ap greatest (map-append (look before) (calls_of first) (calls_of second))
     ∙ greatest-append (of_called before first) (of_called before second)
 by_layer before (What-F.While test body) = refl
-by_layer before (What-F.For variable from to body last) = refl
+by_layer before (What-F.For variable from to down step body last) = refl
+by_layer before (What-F.DoUntil body test) = refl
 by_layer before (What-F.Call procedure arguments) = greatest-one (look before procedure)
 by_layer before (What-F.Return value) = refl
 by_layer before (What-F.ReadUpdate buffer most got) = refl
@@ -95,12 +99,19 @@ pub deepest-while : (before : List ℕ) (statement : Statement) (test : Cond) (b
 deepest-while before statement test body is =
     layer-is before statement (What-F.While test body) (is ∙ sym (rolls-While test body))
 
-pub deepest-for : (before : List ℕ) (statement : Statement) (variable : Variable) (from to : Expr)
+pub deepest-for : (before : List ℕ) (statement : Statement) (variable : Variable) (from to : Expr) (down : _) (step : _)
     (body : List Statement) (last : ℕ)
-    → statement.what ≡ For variable from to body last
+    → statement.what ≡ For variable from to down step body last
     → greatest (of_called before (statement ∷ [])) ≡ greatest (of_called before body)
-deepest-for before statement variable from to body last is =
-    layer-is before statement (What-F.For variable from to body last) (is ∙ sym (rolls-For variable from to body last))
+deepest-for before statement variable from to down step body last is =
+    layer-is before statement (What-F.For variable from to down step body last) (is
+    ∙ sym (rolls-For variable from to down step body last))
+
+pub deepest-do : (before : List ℕ) (statement : Statement) (body : List Statement) (test : Cond)
+    → statement.what ≡ DoUntil body test
+    → greatest (of_called before (statement ∷ [])) ≡ greatest (of_called before body)
+deepest-do before statement body test is =
+    layer-is before statement (What-F.DoUntil body test) (is ∙ sym (rolls-DoUntil body test))
 
 pub one-more-statement : (before : List ℕ) (statements : List Statement) (k : ℕ) (statement : Statement)
     (found here : ℕ)

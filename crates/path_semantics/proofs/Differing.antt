@@ -20,7 +20,8 @@ use Rattle.gd_words.proofs.Distinct.{distinct-apart, given-apart}
 use Rattle.path_semantics.proofs.Kept.{one-mapped, kept-led, kept-after}
 use Rattle.path_semantics.proofs.Levels.{inside, inside_test, numbers_at, AreLevels, number-own, run-numbers}
 use Rattle.path_semantics.proofs.Levels.{numbers_of_procedure}
-use Rattle.path_semantics.proofs.LevelsKept.{if-first, if-second, while-body, for-body, levels-kept}
+use Rattle.path_semantics.proofs.LevelsKept.{if-first, if-second, while-body, do-body, for-body}
+use Rattle.path_semantics.proofs.LevelsKept.{levels-kept}
 use Rattle.gd_words.proofs.Among.{among-left, among-right, among-either}
 use Rattle.path_semantics.proofs.Walks.{numbered}
 
@@ -117,19 +118,22 @@ branches-differ entry rest callers dues [] (other ∷ others) are same =
 
 runs-first : (part : List Statement) (one : Entry) (more : List Entry) → runs_of part ≡ one ∷ more
     → IsAmong (entry_number one) (numbers_of part)
-runs-first [] one more is = absurd (cc)
-runs-first (statement ∷ part) one more is =
-    let same : one ≡ Run statement = cc in
-    run-numbers one (statement ∷ part) (entry_number one) (inl same) (number-own one)
+runs-first part one more is =
+    run-numbers part one (entry_number one) (subst (IsAmong one) (sym is) (inl refl)) (number-own one)
+
+first-either : (entries : List Entry) (entry : Entry) (others : List Entry) (one : Entry) (more : List Entry)
+    → entries ++ entry ∷ others ≡ one ∷ more → IsAmong one entries ⊎ (one ≡ entry)
+first-either [] entry others one more is = inr (let same : one ≡ entry = cc in same)
+first-either (first ∷ rest) entry others one more is = inl (inl (let same : one ≡ first = cc in same))
 
 -- the first entry of a body that others follow
 run-first-of : (part : List Statement) (entry : Entry) (others : List Entry) (one : Entry) (more : List Entry)
     → runs_of part ++ entry ∷ others ≡ one ∷ more
     → IsAmong (entry_number one) (numbers_of part) ⊎ (one ≡ entry)
-run-first-of [] entry others one more is = inr (let same : one ≡ entry = cc in same)
-run-first-of (statement ∷ part) entry others one more is =
-    let same : one ≡ Run statement = cc in
-    inl (run-numbers one (statement ∷ part) (entry_number one) (inl same) (number-own one))
+run-first-of part entry others one more is = elim (first-either (runs_of part) entry others one more is) [
+  | inl among ↦ inl (run-numbers part one (entry_number one) among (number-own one))
+  | inr same ↦ inr same
+]
 
 abbrev Differ : Dues → Place → Place → Type 0
 Differ dues one other =
@@ -211,7 +215,16 @@ statement-differ program ordered self rest callers dues one other (What-F.While 
     (round-differ (Run self) rest callers dues body (Run self) [] (λ n inner. part.numbers n inner)
     (number-own (Run self))
     (λ next later inner. next-apart program ordered (Run self) rest callers dues next levels later inner)) among also
-statement-differ program ordered self rest callers dues one other (What-F.For variable from to body last) is levels
+statement-differ program ordered self rest callers dues one other (What-F.DoUntil body test) is levels among also =
+    let part = do-body self body test is levels.2.apart.0 in
+    let again : Differ dues ((runs_of body ++ Run self ∷ rest) ∷ callers) (rest ∷ callers) =
+    round-differ (Run self) rest callers dues body (Run self) [] (λ n inner. part.numbers n inner)
+    (number-own (Run self))
+    (λ next later inner. next-apart program ordered (Run self) rest callers dues next levels later inner) in
+    both-differ dues one other (rest ∷ callers) ((runs_of body ++ Run self ∷ rest) ∷ callers)
+    (λ same. sym (again (sym same))) among also
+statement-differ program ordered self rest callers dues one other (What-F.For variable from to down step body last) is
+    levels
     among also =
     only-differ dues one other ((Test self ∷ rest) ∷ callers) among also
 statement-differ program ordered self rest callers dues one other (What-F.AssignCall to procedure arguments) is levels
@@ -232,9 +245,10 @@ test-differ : (program : Program) → IsOrdered program
     (what : What-F What Statement) → out-What self.what ≡ what → AreLevels program 0 ((Test self ∷ rest) ∷ callers)
     → IsAmong one (rounds_of self rest callers what) → IsAmong other (rounds_of self rest callers what)
     → Differ dues one other
-test-differ program ordered self rest callers dues one other (What-F.For variable from to body last) is levels among
+test-differ program ordered self rest callers dues one other (What-F.For variable from to down step body last) is
+    levels among
     also =
-    let part = for-body self variable from to body last is levels.2.apart.0 in
+    let part = for-body self variable from to down step body last is levels.2.apart.0 in
     both-differ dues one other ((runs_of body ++ Last self ∷ Test self ∷ rest) ∷ callers) (rest ∷ callers)
     (round-differ (Test self) rest callers dues body (Last self) (Test self ∷ []) (λ n inner. part.numbers n inner)
     (subst (IsAmong (last_of (out-What self.what))) (sym (ap (inside_test self.number) is))

@@ -6,13 +6,15 @@ use Rattle.tal_tree.specs.declared.program.Procedure.{Procedure}
 use Rattle.tal_tree.specs.declared.statement.Statement.{Statement}
 use Rattle.tal_tree.specs.declared.statement.What.{What, What-F, out-What}
 use Rattle.process_semantics.specs.State.{Entry, Run, Test, Last, runs_of}
+use Rattle.tal_tree.specs.ByStatements.{HoldsInside, holds-before, by-statements}
 use Rattle.tal_tree.specs.Statements.{all_in, all_of}
 use Rattle.path_semantics.specs.Place.{Place, body_in, body_of, ways_of, rounds_of, ways}
 use Rattle.gd_words.specs.Members.{IsAmong}
 use Rattle.path_semantics.proofs.Kept.{IsKept}
 use Rattle.gd_words.proofs.Among.{among-left, among-right, among-one, among-at}
+use Rattle.process_semantics.proofs.Rests.{behind, behind-more}
 use Rattle.process_semantics.proofs.Standing.{statement_of}
-use Rattle.tal_tree.proofs.Within.{within_of, within-is}
+use Rattle.tal_tree.proofs.Within.{within_of, within-is, before-within}
 
 abbrev pub HoldsIn : (Statement → Type 0) → List Statement → Type 0
 HoldsIn P statements = (statement : Statement) → IsAmong statement (all_of statements) → P statement
@@ -29,14 +31,26 @@ abbrev pub HoldsAt : (Statement → Type 0) → Place → Type 0
 HoldsAt P [] = Unit {0}
 HoldsAt P (frame ∷ callers) = HoldsFor P frame × HoldsAt P callers
 
-for-runs : (P : Statement → Type 0) (statements : List Statement) (rest : List Entry) → HoldsIn P statements
-    → HoldsFor P rest → HoldsFor P (runs_of statements ++ rest)
-for-runs P [] rest holds later = later
-for-runs P (first ∷ statements) rest holds later = (
-  (λ statement among. holds statement (among-left statement (all_in first) (all_of statements) among)),
-  for-runs P statements rest (λ statement among.
-      holds statement (among-right statement (all_in first) (all_of statements) among)) later,
-)
+abbrev ForRuns : (Statement → Type 0) → List Statement → Type 0
+ForRuns P statements = (rest : List Entry) → HoldsIn P statements → HoldsFor P rest
+    → HoldsFor P (runs_of statements ++ rest)
+
+more-runs : (P : Statement → Type 0) (first : Statement) (statements : List Statement)
+    → HoldsInside (ForRuns P) (out-What first.what) → ForRuns P statements → ForRuns P (first ∷ statements)
+more-runs P first statements inside others rest holds later =
+    subst (HoldsFor P) (sym (behind-more first statements rest))
+    (holds-before (ForRuns P) (λ after in_none after_holds. after_holds) (out-What first.what) inside
+    (Run first ∷ behind statements rest)
+    (λ statement among. holds statement (among-left statement (all_in first) (all_of statements)
+    (inr (subst (IsAmong statement) (sym (within-is first.what))
+    (before-within (out-What first.what) statement among))))) (
+      (λ statement among. holds statement (among-left statement (all_in first) (all_of statements) among)),
+      others rest
+          (λ statement among. holds statement (among-right statement (all_in first) (all_of statements) among)) later,
+    ))
+
+for-runs : (P : Statement → Type 0) (statements : List Statement) → ForRuns P statements
+for-runs P = by-statements (ForRuns P) (record { none = λ rest holds later. later; more = more-runs P })
 
 -- what holds of a statement's parts
 in-layer : (P : Statement → Type 0) (self : Statement) (what : What-F What Statement) → HoldsOf P (Run self)
@@ -87,7 +101,11 @@ statement-way P program all self rest callers way (What-F.While test body) is ow
     either-way (HoldsAt P) way ((runs_of body ++ Run self ∷ rest) ∷ callers) (rest ∷ callers) among
     (for-runs P body (Run self ∷ rest) (in-layer P self (What-F.While test body) own is) (own, later), above)
     (later, above)
-statement-way P program all self rest callers way (What-F.For variable from to body last) is own later above among =
+statement-way P program all self rest callers way (What-F.DoUntil body test) is own later above among =
+    either-way (HoldsAt P) way (rest ∷ callers) ((runs_of body ++ Run self ∷ rest) ∷ callers) among (later, above)
+    (for-runs P body (Run self ∷ rest) (in-layer P self (What-F.DoUntil body test) own is) (own, later), above)
+statement-way P program all self rest callers way (What-F.For variable from to down step body last) is own later above
+    among =
     among-one (HoldsAt P) way ((Test self ∷ rest) ∷ callers) among ((own, later), above)
 statement-way P program all self rest callers way (What-F.AssignCall to procedure arguments) is own later above among =
     among-one (HoldsAt P) way (body_of program procedure ∷ (Run self ∷ rest) ∷ callers) among (
@@ -110,9 +128,10 @@ round-way : (P : Statement → Type 0) (self : Statement) (rest : List Entry) (c
     (what : What-F What Statement) → out-What self.what ≡ what
     → HoldsOf P (Run self) → HoldsFor P rest → HoldsAt P callers → IsAmong way (rounds_of self rest callers what)
     → HoldsAt P way
-round-way P self rest callers way (What-F.For variable from to body last) is own later above among =
+round-way P self rest callers way (What-F.For variable from to down step body last) is own later above among =
     either-way (HoldsAt P) way ((runs_of body ++ Last self ∷ Test self ∷ rest) ∷ callers) (rest ∷ callers) among (
-      for-runs P body (Last self ∷ Test self ∷ rest) (in-layer P self (What-F.For variable from to body last) own is)
+      for-runs P body (Last self ∷ Test self ∷ rest) (in-layer P self (What-F.For variable from to down step body last)
+          own is)
           (own, (own, later)),
       above,
     ) (later, above)

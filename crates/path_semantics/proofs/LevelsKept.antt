@@ -31,11 +31,11 @@ part-frame : (program : Program) (k : ℕ) (entry : Entry) (part : List Statemen
     → IsFrameOf program k (runs_of part ++ rest)
 part-frame program k entry part rest is belongs later cross = record {
   apart = apart-join (runs_of part) rest (apart-runs part is.distinct) later.apart
-      (λ one other among there'. λ inner. cross other there' (run-numbers one part (entry_number other) among inner));
+      (λ one other among there'. λ inner. cross other there' (run-numbers part one (entry_number other) among inner));
   belong = λ one among. elim (among-either one (runs_of part) rest among) [
     | inl in_part ↦ record {
-      numbers = λ n inner. belongs.numbers n (is.numbers n (run-numbers one part n in_part inner));
-      calls = λ called inner. belongs.calls called (is.calls called (run-calls one part called in_part inner));
+      numbers = λ n inner. belongs.numbers n (is.numbers n (run-numbers part one n in_part inner));
+      calls = λ called inner. belongs.calls called (is.calls called (run-calls part one called in_part inner));
     }
     | inr in_rest ↦ later.belong one in_rest
   ];
@@ -112,15 +112,25 @@ while-body self test body is distinct =
       distinct = (subst AreDistinct numbers distinct).1;
     }
 
-pub for-body : (self : Statement) (variable : _) (from to : _) (body : List Statement) (last : ℕ)
-    → out-What self.what ≡ What-F.For variable from to body last
+pub do-body : (self : Statement) (body : List Statement) (test : _) → out-What self.what ≡ What-F.DoUntil body test
+    → AreDistinct (numbers_at (Run self)) → ArePartOf (Run self) body
+do-body self body test is distinct =
+    let numbers : numbers_at (Run self) ≡ inside self.number (What-F.DoUntil body test) = ap (inside self.number) is in
+    record {
+      numbers = λ n inner. subst (IsAmong n) (sym numbers) (inr (among-left n (numbers_of body) [] inner));
+      calls = part-calls self (What-F.DoUntil body test) body is (λ s among. among);
+      distinct = distinct-left (numbers_of body) [] (subst AreDistinct numbers distinct).1;
+    }
+
+pub for-body : (self : Statement) (variable : _) (from to : _) (down : _) (step : _) (body : List Statement) (last : ℕ)
+    → out-What self.what ≡ What-F.For variable from to down step body last
     → AreDistinct (numbers_at (Test self)) → ArePartOf (Test self) body
-for-body self variable from to body last is distinct =
-    let numbers : numbers_at (Test self) ≡ inside_test self.number (What-F.For variable from to body last) =
+for-body self variable from to down step body last is distinct =
+    let numbers : numbers_at (Test self) ≡ inside_test self.number (What-F.For variable from to down step body last) =
     ap (inside_test self.number) is in
     record {
       numbers = λ n inner. subst (IsAmong n) (sym numbers) (inr (among-left n (numbers_of body) (last ∷ []) inner));
-      calls = part-calls self (What-F.For variable from to body last) body is (λ s among. among);
+      calls = part-calls self (What-F.For variable from to down step body last) body is (λ s among. among);
       distinct = distinct-left (numbers_of body) (last ∷ []) (subst AreDistinct numbers distinct).1;
     }
 
@@ -134,49 +144,62 @@ branch-frame program k entry part rest is frame =
     part-frame program k entry part rest is (frame.belong entry (inl refl)) (tail-frame program k entry rest frame)
     (λ later among inner. frame.apart.1 later among (is.numbers (entry_number later) inner))
 
--- the frame inside a WHILE, which comes again
+-- the frame inside a WHILE or a DO, which comes again
+again-frame : (program : Program) (k : ℕ) (self : Statement) (body : List Statement) (rest : List Entry)
+    → ArePartOf (Run self) body → (IsAmong self.number (numbers_of body) → ⊥)
+    → IsFrameOf program k (Run self ∷ rest) → IsFrameOf program k (runs_of body ++ Run self ∷ rest)
+again-frame program k self body rest part outside frame =
+    part-frame program k (Run self) body (Run self ∷ rest) part (frame.belong (Run self) (inl refl)) frame
+    (λ later among inner. apart-from later among inner)
+  where
+    apart-from : (later : Entry) → IsAmong later (Run self ∷ rest) → IsAmong (entry_number later) (numbers_of body) → ⊥
+    apart-from later (inl same) inner =
+        outside (subst (λ (e : Entry). IsAmong (entry_number e) (numbers_of body)) same inner)
+    apart-from later (inr among) inner = frame.apart.1 later among (part.numbers (entry_number later) inner)
+
 while-frame : (program : Program) (k : ℕ) (self : Statement) (test : _) (body : List Statement) (rest : List Entry)
     → out-What self.what ≡ What-F.While test body
     → IsFrameOf program k (Run self ∷ rest) → IsFrameOf program k (runs_of body ++ Run self ∷ rest)
 while-frame program k self test body rest is frame =
-    let part = while-body self test body is frame.apart.0 in
     let distinct : AreDistinct (self.number ∷ numbers_of body) =
     subst AreDistinct (ap (inside self.number) is) frame.apart.0 in
-    part-frame program k (Run self) body (Run self ∷ rest) part (frame.belong (Run self) (inl refl)) frame
-    (λ later among inner. apart-from later among inner part distinct)
-  where
-    apart-from : (later : Entry) → IsAmong later (Run self ∷ rest) → IsAmong (entry_number later) (numbers_of body)
-        → ArePartOf (Run self) body
-        → AreDistinct (self.number ∷ numbers_of body) → ⊥
-    apart-from later (inl same) inner part distinct =
-        distinct.0 (subst (λ (e : Entry). IsAmong (entry_number e) (numbers_of body)) same inner)
-    apart-from later (inr among) inner part distinct =
-        frame.apart.1 later among (part.numbers (entry_number later) inner)
+    again-frame program k self body rest (while-body self test body is frame.apart.0) distinct.0 frame
 
-for-frame : (program : Program) (k : ℕ) (self : Statement) (variable : _) (from to : _) (body : List Statement)
+do-frame : (program : Program) (k : ℕ) (self : Statement) (body : List Statement) (test : _) (rest : List Entry)
+    → out-What self.what ≡ What-F.DoUntil body test
+    → IsFrameOf program k (Run self ∷ rest) → IsFrameOf program k (runs_of body ++ Run self ∷ rest)
+do-frame program k self body test rest is frame =
+    let distinct : AreDistinct (self.number ∷ (numbers_of body ++ [])) =
+    subst AreDistinct (ap (inside self.number) is) frame.apart.0 in
+    again-frame program k self body rest (do-body self body test is frame.apart.0)
+    (λ among. distinct.0 (among-left self.number (numbers_of body) [] among)) frame
+
+for-frame : (program : Program) (k : ℕ) (self : Statement) (variable : _) (from to : _) (down : _) (step : _) (body :
+    List Statement)
     (last : ℕ) (rest : List Entry)
-    → out-What self.what ≡ What-F.For variable from to body last → IsFrameOf program k (Run self ∷ rest)
+    → out-What self.what ≡ What-F.For variable from to down step body last → IsFrameOf program k (Run self ∷ rest)
     → IsFrameOf program k (Test self ∷ rest)
-for-frame program k self variable from to body last rest is frame =
-    let whole : numbers_at (Run self) ≡ inside self.number (What-F.For variable from to body last) =
+for-frame program k self variable from to down step body last rest is frame =
+    let whole : numbers_at (Run self) ≡ inside self.number (What-F.For variable from to down step body last) =
     ap (inside self.number) is in
-    let test : numbers_at (Test self) ≡ inside_test self.number (What-F.For variable from to body last) =
+    let test : numbers_at (Test self) ≡ inside_test self.number (What-F.For variable from to down step body last) =
     ap (inside_test self.number) is in
     other-first program k (Run self) (Test self) rest frame
     (subst AreDistinct (sym test) (subst AreDistinct whole frame.apart.0).1)
     (λ n inner. subst (IsAmong n) (sym whole) (inr (subst (IsAmong n) test inner))) (λ n inner. inner)
 
 -- the frame inside a FOR, whose last assignment and test come again
-round-frame : (program : Program) (k : ℕ) (self : Statement) (variable : _) (from to : _) (body : List Statement)
+round-frame : (program : Program) (k : ℕ) (self : Statement) (variable : _) (from to : _) (down : _) (step : _) (body :
+    List Statement)
     (last : ℕ) (rest : List Entry)
-    → out-What self.what ≡ What-F.For variable from to body last → IsFrameOf program k (Test self ∷ rest)
+    → out-What self.what ≡ What-F.For variable from to down step body last → IsFrameOf program k (Test self ∷ rest)
     → IsFrameOf program k (runs_of body ++ Last self ∷ Test self ∷ rest)
-round-frame program k self variable from to body last rest is frame =
-    let test : numbers_at (Test self) ≡ inside_test self.number (What-F.For variable from to body last) =
+round-frame program k self variable from to down step body last rest is frame =
+    let test : numbers_at (Test self) ≡ inside_test self.number (What-F.For variable from to down step body last) =
     ap (inside_test self.number) is in
-    let distinct : AreDistinct (inside_test self.number (What-F.For variable from to body last)) =
+    let distinct : AreDistinct (inside_test self.number (What-F.For variable from to down step body last)) =
     subst AreDistinct test frame.apart.0 in
-    let part = for-body self variable from to body last is frame.apart.0 in
+    let part = for-body self variable from to down step body last is frame.apart.0 in
     let count : last_of (out-What self.what) ≡ last = ap last_of is in
     let again : IsFrameOf program k (Last self ∷ Test self ∷ rest) = record {
       apart = (
@@ -255,9 +278,14 @@ statement-levels program ordered self rest callers way (What-F.While test body) 
     either-way (AreLevels program 0) way ((runs_of body ++ Run self ∷ rest) ∷ callers) (rest ∷ callers) among
     (k, omega arith, while-frame program k self test body rest is frame, above)
     (k, omega arith, tail-frame program k (Run self) rest frame, above)
-statement-levels program ordered self rest callers way (What-F.For variable from to body last) is k frame above among =
+statement-levels program ordered self rest callers way (What-F.DoUntil body test) is k frame above among =
+    either-way (AreLevels program 0) way (rest ∷ callers) ((runs_of body ++ Run self ∷ rest) ∷ callers) among
+    (k, omega arith, tail-frame program k (Run self) rest frame, above)
+    (k, omega arith, do-frame program k self body test rest is frame, above)
+statement-levels program ordered self rest callers way (What-F.For variable from to down step body last) is k frame
+    above among =
     among-one (AreLevels program 0) way ((Test self ∷ rest) ∷ callers) among
-    (k, omega arith, for-frame program k self variable from to body last rest is frame, above)
+    (k, omega arith, for-frame program k self variable from to down step body last rest is frame, above)
 statement-levels program ordered self rest callers way (What-F.AssignCall to procedure arguments) is k frame above
     among =
     let before : procedure < k = (frame.belong (Run self) (inl refl)).calls procedure (inl-call (ap call_in is)) in
@@ -296,10 +324,10 @@ round-levels : (program : Program) (self : Statement) (rest : List Entry) (calle
     (what : What-F What Statement) → out-What self.what ≡ what
     → (k : ℕ) → IsFrameOf program k (Test self ∷ rest) → AreLevels program (k + 1) callers
     → IsAmong way (rounds_of self rest callers what) → AreLevels program 0 way
-round-levels program self rest callers way (What-F.For variable from to body last) is k frame above among =
+round-levels program self rest callers way (What-F.For variable from to down step body last) is k frame above among =
     either-way (AreLevels program 0) way ((runs_of body ++ Last self ∷ Test self ∷ rest) ∷ callers) (rest ∷ callers)
     among
-    (k, omega arith, round-frame program k self variable from to body last rest is frame, above)
+    (k, omega arith, round-frame program k self variable from to down step body last rest is frame, above)
     (k, omega arith, tail-frame program k (Test self) rest frame, above)
 round-levels program self rest callers way _ is k frame above among =
     among-one (AreLevels program 0) way (rest ∷ callers) among

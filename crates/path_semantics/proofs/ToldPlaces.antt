@@ -79,9 +79,12 @@ module _ (program : Program) (self : Statement) (rest : List Entry) (callers way
     run-ways (What-F.While test body) is among =
         either-way (RemainsAt program) way ((runs_of body ++ Run self ∷ rest) ∷ callers) (rest ∷ callers) among
         (into (What-F.While test body) (runs_of body ++ Run self ∷ rest) is (inl refl)) (past (Run self) remains)
-    run-ways (What-F.For variable from to body last) is among =
+    run-ways (What-F.DoUntil body test) is among =
+        either-way (RemainsAt program) way (rest ∷ callers) ((runs_of body ++ Run self ∷ rest) ∷ callers) among
+        (past (Run self) remains) (into (What-F.DoUntil body test) (runs_of body ++ Run self ∷ rest) is (inl refl))
+    run-ways (What-F.For variable from to down step body last) is among =
         among-one (RemainsAt program) way ((Test self ∷ rest) ∷ callers) among
-        (into (What-F.For variable from to body last) (Test self ∷ rest) is (inl refl))
+        (into (What-F.For variable from to down step body last) (Test self ∷ rest) is (inl refl))
     run-ways (What-F.AssignCall to procedure arguments) is among =
         among-one (RemainsAt program) way (body_of program procedure ∷ (Run self ∷ rest) ∷ callers) among
         (called (What-F.AssignCall to procedure arguments) procedure is refl)
@@ -97,7 +100,7 @@ module _ (program : Program) (self : Statement) (rest : List Entry) (callers way
   module _ (remains : RemainsAt program ((Test self ∷ rest) ∷ callers)) where
     test-ways : (layer : What-F What Statement) → out-What self.what ≡ layer
         → IsAmong way (rounds_of self rest callers layer) → RemainsAt program way
-    test-ways (What-F.For variable from to body last) is among =
+    test-ways (What-F.For variable from to down step body last) is among =
         either-way (RemainsAt program) way ((runs_of body ++ Last self ∷ Test self ∷ rest) ∷ callers) (rest ∷ callers)
         among (
           on-in program (called_above program callers) (Test self) rest (runs_of body ++ Last self ∷ Test self ∷ rest)

@@ -56,7 +56,8 @@ first-way : (program : Program) (statement : Statement) (rest : List Entry) (cal
     → HasFirst (ways_of program statement rest callers what)
 first-way program statement rest callers (What-F.If test first second) = record { one = _; rest = _; split = refl }
 first-way program statement rest callers (What-F.While test body) = record { one = _; rest = _; split = refl }
-first-way program statement rest callers (What-F.For variable from to body last) =
+first-way program statement rest callers (What-F.DoUntil body test) = record { one = _; rest = _; split = refl }
+first-way program statement rest callers (What-F.For variable from to down step body last) =
     record { one = _; rest = _; split = refl }
 first-way program statement rest callers (What-F.AssignCall to procedure arguments) =
     record { one = _; rest = _; split = refl }
@@ -67,7 +68,11 @@ first-way program statement rest callers _ = record { one = rest ∷ callers; re
 
 first-round : (statement : Statement) (rest : List Entry) (callers : Place) (what : What-F What Statement)
     → HasFirst (rounds_of statement rest callers what)
-first-round statement rest callers (What-F.For variable from to body last) = record { one = _; rest = _; split = refl }
+first-round statement rest callers (What-F.For variable from to down step body last) = record {
+  one = _;
+  rest = _;
+  split = refl;
+}
 first-round statement rest callers _ = record { one = rest ∷ callers; rest = []; split = refl }
 
 first-of-ways : (program : Program) (entry : Entry) (rest : List Entry) (callers : Place)

@@ -45,7 +45,9 @@ ways_of program statement rest callers (What-F.If test first second) =
     ((runs_of first ++ rest) ∷ callers) ∷ ((runs_of second ++ rest) ∷ callers) ∷ []
 ways_of program statement rest callers (What-F.While test body) =
     ((runs_of body ++ Run statement ∷ rest) ∷ callers) ∷ (rest ∷ callers) ∷ []
-ways_of program statement rest callers (What-F.For variable from to body last) =
+ways_of program statement rest callers (What-F.DoUntil body test) =
+    (rest ∷ callers) ∷ ((runs_of body ++ Run statement ∷ rest) ∷ callers) ∷ []
+ways_of program statement rest callers (What-F.For variable from to down step body last) =
     ((Test statement ∷ rest) ∷ callers) ∷ []
 ways_of program statement rest callers (What-F.AssignCall to procedure arguments) =
     (body_of program procedure ∷ (Run statement ∷ rest) ∷ callers) ∷ []
@@ -62,12 +64,13 @@ ways_of program statement rest callers What-F.CheckMonitor = (rest ∷ callers) 
 ways_of program statement rest callers (What-F.Open _) = (rest ∷ callers) ∷ []
 
 abbrev pub rounds_of : Statement → List Entry → Place → What-F What Statement → List Place
-rounds_of statement rest callers (What-F.For variable from to body last) =
+rounds_of statement rest callers (What-F.For variable from to down step body last) =
     ((runs_of body ++ Last statement ∷ Test statement ∷ rest) ∷ callers) ∷ (rest ∷ callers) ∷ []
 rounds_of statement rest callers (What-F.Assign _ _) = (rest ∷ callers) ∷ []
 rounds_of statement rest callers (What-F.AssignCall _ _ _) = (rest ∷ callers) ∷ []
 rounds_of statement rest callers (What-F.If _ _ _) = (rest ∷ callers) ∷ []
 rounds_of statement rest callers (What-F.While _ _) = (rest ∷ callers) ∷ []
+rounds_of statement rest callers (What-F.DoUntil _ _) = (rest ∷ callers) ∷ []
 rounds_of statement rest callers (What-F.Call _ _) = (rest ∷ callers) ∷ []
 rounds_of statement rest callers (What-F.Return _) = (rest ∷ callers) ∷ []
 rounds_of statement rest callers (What-F.ReadUpdate _ _ _) = (rest ∷ callers) ∷ []

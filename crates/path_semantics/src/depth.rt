@@ -66,9 +66,12 @@ fn deepest_in(before: &[u32], statement: &Statement) -> u32
             variable: _,
             from: _,
             to: _,
+            down: _,
+            step: _,
             body,
             last: _,
         } => deepest(before, body.as_slice()),
+        What::DoUntil { body, test: _ } => deepest(before, body.as_slice()),
         _ => 0,
     }
 }

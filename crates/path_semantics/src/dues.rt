@@ -100,6 +100,8 @@ impl Dues {
                 variable,
                 from: _,
                 to: _,
+                down: _,
+                step: _,
                 body: _,
                 last: _,
             } => self.with_variable(*variable),

@@ -1,13 +1,15 @@
 ghost use Rattle.std.specs.Prelude.{◌≡◌, [], ◌∷◌, ◌++◌, drop, IsTrue, ◌↔◌, IfOk, OnOk};
 ghost use Rattle.std.specs.Option.{option_map};
-ghost use Rattle.process_semantics.specs.State.{first_of, runs_of};
+ghost use Rattle.tal_tree.specs.Statements.{body_before};
+ghost use Rattle.tal_tree.specs.declared.statement.What.{out-What};
+ghost use Rattle.process_semantics.specs.State.{Run, first_of, runs_of};
 ghost use Rattle.process_semantics.specs.SeenEntries.{entry_of};
 
 use gd_words::NoMemory;
 use process_semantics::Entry;
 use std::alloc::Global;
 use std::marker::Model;
-use tal_tree::Statement;
+use tal_tree::{Statement, What};
 
 /// What remains in a procedure, the next entry last.
 #[derive(Drop)]
@@ -71,14 +73,28 @@ impl<'a> Frame<'a> {
     }
 
     /// Puts statements before the other entries.
+    #[cycle(put)]
     pub(crate) fn put_all(&mut self, statements: &'a [Statement]) -> Result<(), NoMemory>
         ensures { OnOk result (self.new ≡ runs_of statements.now ++ self.old) }
     {
         let mut left = statements;
         while let Some((last, front)) = left.split_last() {
-            self.rest.push(Entry::Run(last))?;
+            self.put_statement(last)?;
             left = front;
         }
         Ok(())
+    }
+
+    /// Puts a statement before the other entries. A DO's body comes before its test.
+    #[cycle(put)]
+    fn put_statement(&mut self, statement: &'a Statement) -> Result<(), NoMemory>
+        ensures { OnOk result (self.new
+            ≡ runs_of (body_before (out-What statement.now.what)) ++ (Run statement.now ∷ self.old)) }
+    {
+        self.rest.push(Entry::Run(statement))?;
+        match &statement.what {
+            What::DoUntil { body, test: _ } => self.put_all(body.as_slice()),
+            _ => Ok(()),
+        }
     }
 }

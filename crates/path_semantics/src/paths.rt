@@ -127,6 +127,8 @@ fn last_of(what: &What) -> u16
             variable: _,
             from: _,
             to: _,
+            down: _,
+            step: _,
             body: _,
             last,
         } => *last,

@@ -158,10 +158,13 @@ impl<'a> Way<'a> {
         match &statement.what {
             What::If { test: _, yes, no } => self.either(alloc, yes.as_slice(), no.as_slice()),
             What::While { test: _, body } => self.round(alloc, statement, body.as_slice()),
+            What::DoUntil { body, test: _ } => self.back(alloc, statement, body.as_slice()),
             What::For {
                 variable: _,
                 from: _,
                 to: _,
+                down: _,
+                step: _,
                 body: _,
                 last: _,
             } => {
@@ -193,6 +196,8 @@ impl<'a> Way<'a> {
                 variable: _,
                 from: _,
                 to: _,
+                down: _,
+                step: _,
                 body,
                 last: _,
             } => {
@@ -236,6 +241,23 @@ impl<'a> Way<'a> {
         self.running.put(Entry::Run(statement))?;
         self.running.put_all(body)?;
         self.or(alloc, on)
+    }
+
+    fn back(
+        self,
+        alloc: Global,
+        statement: &'a Statement,
+        body: &'a [Statement],
+    ) -> Result<Vec<Stand<'a>>, NoMemory>
+        ensures { IfOk result (λ stands. stands.items
+            ≡ stand_at self.entry.running (reverse self.entry.callers.items) self.entry.dues
+            ∷ stand_at (runs_of body.now ++ Run statement.now ∷ self.entry.running) (reverse self.entry.callers.items)
+            self.entry.dues ∷ []) }
+    {
+        let mut again = self.copy(alloc)?;
+        again.running.put(Entry::Run(statement))?;
+        again.running.put_all(body)?;
+        self.or(alloc, again)
     }
 
     fn call(

@@ -72,10 +72,18 @@ module _ (program : Program) (dues : Dues) (s : ProgramState) (statement : State
       (ap (λ (f : List Entry). settled after_run (f ∷ callers))
       (append_assoc (runs_of body) (Run statement ∷ []) rest))))
       (via (What-F.While test body) is _ (inr (inl refl)))
-  goes-run at (What-F.For variable from to body last) is =
+  goes-run at (What-F.DoUntil body test) is =
+      tested-goes (Led (Run statement)) program dues s [] (runs_of body ++ Run statement ∷ []) _ (Run statement) rest
+      callers at after_run []
+      (run-grown (What-F.DoUntil body test) is (λ c. c))
+      (via (What-F.DoUntil body test) is _ (inl refl))
+      (via (What-F.DoUntil body test) is _ (inr (inl
+      (ap (λ (f : List Entry). settled after_run (f ∷ callers))
+      (append_assoc (runs_of body) (Run statement ∷ []) rest)))))
+  goes-run at (What-F.For variable from to down step body last) is =
       begun-goes (Led (Run statement)) program dues s statement variable _ (Run statement) rest callers at after_run
-      (run-grown (What-F.For variable from to body last) is (λ c. c))
-      (via (What-F.For variable from to body last) is _ (inl refl))
+      (run-grown (What-F.For variable from to down step body last) is (λ c. c))
+      (via (What-F.For variable from to down step body last) is _ (inl refl))
   goes-run at (What-F.Return value) is =
       returned-goes (Led (Run statement)) program dues s _ (Run statement ∷ rest) callers at after_run []
       (run-grown (What-F.Return value) is (λ c. c)) (via (What-F.Return value) is _ (inl refl))
@@ -94,20 +102,20 @@ module _ (program : Program) (dues : Dues) (s : ProgramState) (statement : State
   goes-test : place_of s.frames ≡ here (Test statement) → (layer : What-F What Statement)
       → out-What statement.what ≡ layer
       → GoesTo (Led (Test statement)) dues s (or_ends s (tested_in program s statement layer))
-  goes-test at (What-F.For variable from to body last) is =
+  goes-test at (What-F.For variable from to down step body last) is =
       tested-goes (Led (Test statement)) program dues s (runs_of body ++ Last statement ∷ Test statement ∷ []) [] _
       (Test statement) rest callers at dues [] (grown-same dues)
-      (via_test (What-F.For variable from to body last) is _
+      (via_test (What-F.For variable from to down step body last) is _
       (inl (ap (λ (f : List Entry). settled dues (f ∷ callers))
       (append_assoc (runs_of body) (Last statement ∷ Test statement ∷ []) rest))))
-      (via_test (What-F.For variable from to body last) is _ (inr (inl refl)))
+      (via_test (What-F.For variable from to down step body last) is _ (inr (inl refl)))
   goes-test at _ is = λ alive. absurd (never s alive)
 
   goes-last : place_of s.frames ≡ here (Last statement) → (layer : What-F What Statement)
       → out-What statement.what ≡ layer
       → GoesTo (Led (Last statement)) dues s (or_ends s (counted_in program s layer))
-  goes-last at (What-F.For variable from to body last) is =
-      counted-goes (Led (Last statement)) program dues s variable _ (Last statement) rest callers at
+  goes-last at (What-F.For variable from to down step body last) is =
+      counted-goes (Led (Last statement)) program dues s variable down step _ (Last statement) rest callers at
       (after_entry dues (Last statement))
       (subst (λ (w : What-F What Statement). HasGrown dues (with_changed (changed_by w) dues) (global_of variable))
       (sym is) (grown-changed dues dues [] (global_of variable) (grown-same dues)))

@@ -15,7 +15,7 @@ use Rattle.process_semantics.specs.State.{memory_of}
 use Rattle.process_semantics.specs.Changes.{local_set, with_word, with_words, without_next, put_before, done, before}
 use Rattle.process_semantics.specs.Changes.{entering, left, ends, variable_cell}
 use Rattle.process_semantics.specs.Steps.{assigned, tested, entered_by, entered, given_in, given, given_to, returned}
-use Rattle.process_semantics.specs.Steps.{for_begun, counted_up, inner_entry, or_ends}
+use Rattle.process_semantics.specs.Steps.{for_begun, counted, inner_entry, or_ends}
 use Rattle.process_semantics.specs.Calls.{received}
 use Rattle.path_semantics.specs.declared.dues.Dues.{Dues}
 use Rattle.path_semantics.specs.Dues.{with_changed, global_of, changed_by_return, target_of}
@@ -160,12 +160,13 @@ module _ (P : Stand → Type 0) (program : Program) (dues : Dues) (s : ProgramSt
       grown (λ item e. word-stays (variable_cell variable) word s item
       (subst (λ (ns : List ℕ). is_among item ns ≡ false) (sym (variable-global variable)) e))
 
-  pub counted-goes : (variable : Variable) (value : Option ℤ) (entry : Entry) (rest : List Entry) (callers : Place)
+  pub counted-goes : (variable : Variable) (down : Bool) (step : ℤ) (value : Option ℤ) (entry : Entry)
+      (rest : List Entry) (callers : Place)
       → place_of s.frames ≡ (entry ∷ rest) ∷ callers → (later : Dues)
       → HasGrown dues later (global_of variable) → P (settled later (rest ∷ callers))
-      → Done (counted_up s (variable_cell variable) value)
-  counted-goes variable None entry rest callers place later grown holds = λ alive. absurd (never s alive)
-  counted-goes variable (Some word) entry rest callers place later grown holds =
+      → Done (counted s (variable_cell variable) down step value)
+  counted-goes variable down step None entry rest callers place later grown holds = λ alive. absurd (never s alive)
+  counted-goes variable down step (Some word) entry rest callers place later grown holds =
       moved (done (with_word (variable_cell variable) _ s)) later (rest ∷ callers) (global_of variable)
       (place-done (with_word (variable_cell variable) _ s).frames
       ∙ ap without_first (place-word (variable_cell variable) _ s ∙ place)) holds

@@ -218,6 +218,8 @@ fn changes(what: &What, item: u16) -> bool
             variable,
             from: _,
             to: _,
+            down: _,
+            step: _,
             body: _,
             last: _,
         } => is_global(*variable, item),

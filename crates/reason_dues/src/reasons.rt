@@ -188,6 +188,8 @@ fn changed(what: &What) -> Numbers
             variable,
             from: _,
             to: _,
+            down: _,
+            step: _,
             body: _,
             last: _,
         } => variable_global(*variable),

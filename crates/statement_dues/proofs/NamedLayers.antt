@@ -1,13 +1,13 @@
 -- The CHECKPOINTs of statements by their layers, and over more and more of a list.
-use Rattle.std.proofs.Common.{◌≡◌, ℕ, ◌+◌, ◌<◌, List, [], ◌∷◌, ◌++◌, length, take, get_or, refl, ap, sym, ◌∙◌}
+use Rattle.std.proofs.Common.{◌≡◌, ℕ, ℤ, Bool, ◌+◌, ◌<◌, List, [], ◌∷◌, ◌++◌, length, take, get_or, refl, ap, sym, ◌∙◌}
 use Rattle.std.proofs.Common.{append_assoc, append-nil}
 use Rattle.std.proofs.lemmas.List.{take_more}
-use Rattle.tal_tree.specs.Rows.{if-is, while-is, for-is}
+use Rattle.tal_tree.specs.Rows.{if-is, while-is, for-is, do-is}
 use Rattle.tal_tree.specs.declared.expression.Cond.{Cond}
 use Rattle.tal_tree.specs.declared.expression.Expr.{Expr}
 use Rattle.tal_tree.specs.declared.expression.Variable.{Variable}
 use Rattle.tal_tree.specs.declared.statement.Statement.{Statement}
-use Rattle.tal_tree.specs.declared.statement.What.{If, While, For}
+use Rattle.tal_tree.specs.declared.statement.What.{If, While, For, DoUntil}
 use Rattle.statement_dues.specs.Checkpoints.{named_within, named_in}
 use Rattle.statement_dues.specs.declared.checkpoints.NamedCheckpoint.{NamedCheckpoint}
 
@@ -19,9 +19,13 @@ module _ (number line : ℕ) where
   pub named-while : (test : Cond) (body : List Statement) → named_within number line (While test body) ≡ named_in body
   named-while test body = ap (named_within number line) (while-is test body)
 
-  pub named-for : (variable : Variable) (from to : Expr) (body : List Statement) (last : ℕ)
-      → named_within number line (For variable from to body last) ≡ named_in body
-  named-for variable from to body last = ap (named_within number line) (for-is variable from to body last)
+  pub named-for : (variable : Variable) (from to : Expr) (down : Bool) (step : ℤ) (body : List Statement) (last : ℕ)
+      → named_within number line (For variable from to down step body last) ≡ named_in body
+  named-for variable from to down step body last =
+      ap (named_within number line) (for-is variable from to down step body last)
+
+  pub named-do : (body : List Statement) (test : Cond) → named_within number line (DoUntil body test) ≡ named_in body
+  named-do body test = ap (named_within number line) (do-is body test)
 
 named-append : (first second : List Statement) → named_in (first ++ second) ≡ named_in first ++ named_in second
 named-append [] second = refl

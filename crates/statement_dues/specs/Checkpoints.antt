@@ -3,8 +3,9 @@ use Rattle.std.specs.Prelude.{ℕ, List, [], ◌∷◌, ◌++◌, flat_map}
 use Rattle.tal_tree.specs.Rows.{rows}
 use Rattle.tal_tree.specs.declared.program.Program.{Program}
 use Rattle.tal_tree.specs.declared.statement.Statement.{Statement}
-use Rattle.tal_tree.specs.declared.statement.What.{What, Assign, AssignCall, If', While', For', Call, Return}
-use Rattle.tal_tree.specs.declared.statement.What.{ReadUpdate, Reply, WriteRead, Checkpoint, CheckMonitor, Open, Stop}
+use Rattle.tal_tree.specs.declared.statement.What.{What, Assign, AssignCall, If', While', For', DoUntil', Call}
+use Rattle.tal_tree.specs.declared.statement.What.{Return, ReadUpdate, Reply, WriteRead, Checkpoint, CheckMonitor}
+use Rattle.tal_tree.specs.declared.statement.What.{Open, Stop}
 use Rattle.tal_tree.specs.declared.statement.What.{Row_of-Statement, end_of-Statement, more_of-Statement}
 use Rattle.statement_dues.specs.declared.checkpoints.NamedCheckpoint.{NamedCheckpoint}
 
@@ -21,7 +22,8 @@ abbrev mutual
   named_within number line (Checkpoint items files) = named_of number line items files ∷ []
   named_within number line (If' test _ first _ second) = named_row first ++ named_row second
   named_within number line (While' test _ body) = named_row body
-  named_within number line (For' variable from to _ body last) = named_row body
+  named_within number line (For' variable from to down step _ body last) = named_row body
+  named_within number line (DoUntil' _ body test) = named_row body
   named_within number line (Assign to value) = []
   named_within number line (AssignCall to procedure arguments) = []
   named_within number line (Call procedure arguments) = []

@@ -66,9 +66,12 @@ fn push_within(
             variable: _,
             from: _,
             to: _,
+            down: _,
+            step: _,
             body,
             last: _,
         } => push_named(alloc, body.as_slice(), found)?,
+        What::DoUntil { body, test: _ } => push_named(alloc, body.as_slice(), found)?,
         _ => {}
     }
     Ok(())

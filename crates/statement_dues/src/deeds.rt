@@ -1,7 +1,7 @@
 ghost use Rattle.std.specs.Prelude.{◌≡◌, ◌++◌, IfOk, OnOk};
 ghost use Rattle.process_semantics.specs.SeenEntries.{entry_of};
 ghost use Rattle.statement_dues.specs.Deeds as spec;
-ghost use Rattle.statement_dues.specs.Deeds.{deed_of, deeds_in, deeds_within, is_checkpoint};
+ghost use Rattle.statement_dues.specs.Deeds.{deed_of, deeds_before, deeds_in, deeds_within, is_checkpoint};
 
 use gd_words::{List, NoMemory};
 use path_semantics::Reason;
@@ -22,7 +22,8 @@ pub enum Deed {
     Clears,
 }
 
-/// What the statements of a program do, by their numbers: that of number 1 first. A FOR has three.
+/// What the statements of a program do, by their numbers: that of number 1 first. A FOR has three, and a DO's stands
+/// behind those of its body.
 pub fn deeds_of(alloc: Global, program: &Program, reason: Reason) -> Result<List<Deed>, NoMemory>
     ensures { IfOk result (λ deeds. deeds ≡ spec.deeds_of reason program.now) }
 {
@@ -44,13 +45,29 @@ fn push_deeds(
     ensures { OnOk result (deeds.new ≡ deeds.old ++ deeds_in reason statements.now) }
 {
     for statement in statements {
+        push_before(reason, statement, deeds)?;
         deeds.push(deed_of(reason, Entry::Run(statement)))?;
         push_within(reason, statement, deeds)?;
     }
     Ok(())
 }
 
-/// Puts the deeds that a statement has behind its first one behind others.
+/// Puts the deeds that a statement has before its own behind others: those of a DO's body.
+#[cycle(deeds)]
+fn push_before(
+    reason: Reason,
+    statement: &Statement,
+    deeds: &mut List<Deed>,
+) -> Result<(), NoMemory>
+    ensures { OnOk result (deeds.new ≡ deeds.old ++ deeds_before reason statement.now.what) }
+{
+    match &statement.what {
+        What::DoUntil { body, test: _ } => push_deeds(reason, body.as_slice(), deeds),
+        _ => Ok(()),
+    }
+}
+
+/// Puts the deeds that a statement has behind its own behind others.
 #[cycle(deeds)]
 fn push_within(
     reason: Reason,
@@ -69,6 +86,8 @@ fn push_within(
             variable: _,
             from: _,
             to: _,
+            down: _,
+            step: _,
             body,
             last: _,
         } => {

@@ -1,6 +1,6 @@
 use Rattle.std.proofs.Common.{arith, append_assoc}
 use Rattle.std.proofs.lemmas.Grind.{common_steps}
-use Rattle.advise.proofs.Places.{one-more, places-if, places-while, places-for}
+use Rattle.advise.proofs.Places.{one-more, places-if, places-while, places-for, places-do}
 use Rattle.advise.proofs.checkpoints.+checkpoints.Goals as goal
 
 pub push_all-loop-statement-preserved : goal.push_all-loop-statement-preserved
@@ -21,6 +21,11 @@ push_in-returns-in_ok-push_all-in-While t c =
 
 pub push_in-returns-in_ok-push_all-in-For : goal.push_in-returns-in_ok-push_all-in-For
 push_in-returns-in_ok-push_all-in-For t c =
-    rw (places-for c.args.statement.now c.in-For.variable c.in-For.from c.in-For.to c.in-For.body c.in-For.last
-    c.in-For.is)
+    rw (places-for c.args.statement.now c.in-For.variable c.in-For.from c.in-For.to c.in-For.down c.in-For.step
+    c.in-For.body c.in-For.last c.in-For.is)
+    (grind (arith, append_assoc, common_steps))
+
+pub push_in-returns-in_ok-push_all-in-DoUntil : goal.push_in-returns-in_ok-push_all-in-DoUntil
+push_in-returns-in_ok-push_all-in-DoUntil t c =
+    rw (places-do c.args.statement.now c.in-DoUntil.body c.in-DoUntil.test c.in-DoUntil.is)
     (grind (arith, append_assoc, common_steps))

@@ -1,4 +1,4 @@
-use Rattle.std.proofs.Common.{◌≤◌, None, Some, subst, sym, ◌∙◌}
+use Rattle.std.proofs.Common.{◌≤◌, subst, sym, ◌∙◌}
 use Rattle.due_search.specs.Ends.{HasFound}
 use Rattle.due_search.proofs.Numbers.{walked-low}
 use Rattle.discipline.proofs.Tried.{aim_with, found-none, found-some, has-most}

@@ -3,7 +3,7 @@ use Rattle.tal_tree.specs.Rows.{rows}
 use Rattle.tal_tree.specs.declared.statement.Statement.{Statement}
 use Rattle.path_semantics.specs.Bounds.{told}
 use Rattle.flow_paths.specs.Layout.{size_in, size_row, size_at}
-use Rattle.flow_paths.proofs.Sizes.{size-if, size-while, size-for, one-more-size}
+use Rattle.flow_paths.proofs.Sizes.{size-if, size-while, size-for, size-do, one-more-size}
 use Rattle.flow_paths.proofs.size.+size.Goals as goal
 
 pub size_of_all-loop-statement-preserved : goal.size_of_all-loop-statement-preserved
@@ -47,8 +47,18 @@ size_of-returns-in-While t c =
 pub size_of-returns-in-For : goal.size_of-returns-in-For
 size_of-returns-in-For t c =
     let size = size-for (size_at c.args.sizes.now) c.args.statement.now.what c.in-For.variable c.in-For.from
-    c.in-For.to c.in-For.body c.in-For.last c.in-For.is in
+    c.in-For.to c.in-For.down c.in-For.step c.in-For.body c.in-For.last c.in-For.is in
     let body : c.size_of_all-in-For.result ≡ told (size_row (size_at c.args.sizes.now) (rows c.in-For.body)) =
     c.size_of_all-in-For.ensures ∙ ap (λ (xs : List Statement). told (size_row (size_at c.args.sizes.now) (rows xs)))
     c.as_slice-in-For.ensures in
     omega (arith, c.saturating_add-in-For.ensures)
+
+pub size_of-returns-in-DoUntil : goal.size_of-returns-in-DoUntil
+size_of-returns-in-DoUntil t c =
+    let size = size-do (size_at c.args.sizes.now) c.args.statement.now.what c.in-DoUntil.body c.in-DoUntil.test
+    c.in-DoUntil.is in
+    let body : c.size_of_all-in-DoUntil.result ≡ told (size_row (size_at c.args.sizes.now) (rows c.in-DoUntil.body)) =
+    c.size_of_all-in-DoUntil.ensures ∙ ap (λ (xs : List Statement). told (size_row (size_at c.args.sizes.now) (rows
+    xs)))
+    c.as_slice-in-DoUntil.ensures in
+    omega (arith, c.saturating_add-in-DoUntil.ensures)

@@ -2,7 +2,7 @@ use Rattle.std.proofs.Common.{◌≡◌, List, ap, ap₂, sym, ◌∙◌}
 use Rattle.std.specs.Prelude.{max}
 use Rattle.tal_tree.specs.declared.statement.Statement.{Statement}
 use Rattle.path_semantics.specs.Bounds.{greatest, of_called}
-use Rattle.path_semantics.proofs.Deepest.{one-more-statement, deepest-if, deepest-while, deepest-for}
+use Rattle.path_semantics.proofs.Deepest.{one-more-statement, deepest-if, deepest-while, deepest-for, deepest-do}
 use Rattle.path_semantics.proofs.depth.+deepest.Goals as goal
 
 pub deepest-loop-statement-preserved : goal.deepest-loop-statement-preserved
@@ -33,5 +33,11 @@ pub deepest_in-returns-in-For : goal.deepest_in-returns-in-For
 deepest_in-returns-in-For t c =
     c.deepest-in-For.ensures
     ∙ ap (λ (xs : List Statement). greatest (of_called c.args.before.now xs)) c.as_slice-in-For.ensures
-    ∙ sym (deepest-for c.args.before.now c.args.statement.now c.in-For.variable c.in-For.from c.in-For.to c.in-For.body
-    c.in-For.last c.in-For.is)
+    ∙ sym (deepest-for c.args.before.now c.args.statement.now c.in-For.variable c.in-For.from c.in-For.to c.in-For.down
+    c.in-For.step c.in-For.body c.in-For.last c.in-For.is)
+
+pub deepest_in-returns-in-DoUntil : goal.deepest_in-returns-in-DoUntil
+deepest_in-returns-in-DoUntil t c =
+    c.deepest-in-DoUntil.ensures
+    ∙ ap (λ (xs : List Statement). greatest (of_called c.args.before.now xs)) c.as_slice-in-DoUntil.ensures
+    ∙ sym (deepest-do c.args.before.now c.args.statement.now c.in-DoUntil.body c.in-DoUntil.test c.in-DoUntil.is)

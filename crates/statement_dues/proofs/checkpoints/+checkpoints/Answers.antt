@@ -1,6 +1,6 @@
 use Rattle.std.proofs.Common.{arith, append_assoc}
 use Rattle.std.proofs.lemmas.Grind.{common_steps}
-use Rattle.statement_dues.proofs.NamedLayers.{one-more, named-if, named-while, named-for}
+use Rattle.statement_dues.proofs.NamedLayers.{one-more, named-if, named-while, named-for, named-do}
 use Rattle.statement_dues.proofs.checkpoints.+checkpoints.Goals as goal
 
 pub push_named-loop-statement-preserved : goal.push_named-loop-statement-preserved
@@ -19,3 +19,7 @@ push_within-returns-in_ok-push_named-in-While t c =
 pub push_within-returns-in_ok-push_named-in-For : goal.push_within-returns-in_ok-push_named-in-For
 push_within-returns-in_ok-push_named-in-For t c =
     rw (c.in-For.is, named-for) (grind (arith, append_assoc, common_steps))
+
+pub push_within-returns-in_ok-push_named-in-DoUntil : goal.push_within-returns-in_ok-push_named-in-DoUntil
+push_within-returns-in_ok-push_named-in-DoUntil t c =
+    rw (c.in-DoUntil.is, named-do) (grind (arith, append_assoc, common_steps))

@@ -1,6 +1,6 @@
 use Rattle.std.proofs.Common.{arith, append_assoc}
 use Rattle.std.proofs.lemmas.Grind.{common_steps}
-use Rattle.statement_dues.proofs.DeedLayers.{one-more, deeds-if, deeds-while, deeds-for}
+use Rattle.statement_dues.proofs.DeedLayers.{one-more, deeds-if, deeds-while, deeds-for, deeds-do}
 use Rattle.statement_dues.proofs.deeds.+deeds.Goals as goal
 
 pub push_deeds-loop-statement-preserved : goal.push_deeds-loop-statement-preserved
@@ -18,3 +18,6 @@ push_within-returns-in_ok-push_deeds-in-While t c =
 
 pub push_within-returns-in_ok-push-in-For-2 : goal.push_within-returns-in_ok-push-in-For-2
 push_within-returns-in_ok-push-in-For-2 t c = rw (c.in-For.is, deeds-for) (grind (arith, append_assoc, common_steps))
+
+pub push_before-returns-in-DoUntil : goal.push_before-returns-in-DoUntil
+push_before-returns-in-DoUntil t c = rw (c.in-DoUntil.is, deeds-do) (grind (arith, append_assoc, common_steps))

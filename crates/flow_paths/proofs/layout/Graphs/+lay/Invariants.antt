@@ -20,6 +20,9 @@ decreases-lay_while l = 3 * size_row (graph_sizes l.self.now) (rows l.body.now) 
 abbrev pub decreases-lay_for : goal.decreases-lay_for
 decreases-lay_for l = 3 * size_row (graph_sizes l.self.now) (rows l.body.now) + 3
 
+abbrev pub decreases-lay_do : goal.decreases-lay_do
+decreases-lay_do l = 3 * size_row (graph_sizes l.self.now) (rows l.body.now) + 3
+
 abbrev pub invariant-lay_all-loop-statement : goal.invariant-lay_all-loop-statement
 invariant-lay_all-loop-statement l =
     IsLaying (graph_at l.self) l.statements l.at l.after l.fn.nodes.items l.statement-index l.next l.left l.nodes.items

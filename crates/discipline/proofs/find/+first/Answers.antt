@@ -1,0 +1,25 @@
+use Rattle.std.proofs.Common.{ℕ, subst}
+use Rattle.process_semantics.proofs.Stacks.{before-other}
+use Rattle.discipline.specs.Finding.{IsFirstNumber}
+use Rattle.discipline.proofs.Finding.{first-none, first-some, first-plain, first-do}
+use Rattle.discipline.proofs.find.+first.Goals as goal
+
+pub first_number-returns-in-None : goal.first_number-returns-in-None
+first_number-returns-in-None t c = first-none c.args.statements.now c.args.after c.in-None.ensures.value
+
+pub first_number-returns-in-Some : goal.first_number-returns-in-Some
+first_number-returns-in-Some t c =
+    first-some c.args.statements.now c.in-Some.statement.now c.args.after c.first_of.result c.in-Some.ensures.value
+    c.first_of.ensures
+
+pub first_of-returns-in-DoUntil : goal.first_of-returns-in-DoUntil
+first_of-returns-in-DoUntil t c =
+    first-do c.args.statement.now c.in-DoUntil.body c.as_slice.result.now c.in-DoUntil.test c.first_number.result
+    c.in-DoUntil.is c.as_slice.ensures
+    (subst (λ (n : ℕ). IsFirstNumber c.as_slice.result.now n c.first_number.result) c.from.ensures
+    c.first_number.ensures)
+
+pub first_of-returns-in_default : goal.first_of-returns-in_default
+first_of-returns-in_default t c =
+    first-plain c.args.statement.now c.from-in_default.result
+    (before-other c.args.statement.now.what c.in_default.not-DoUntil) c.from-in_default.ensures
