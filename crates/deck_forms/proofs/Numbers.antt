@@ -10,9 +10,10 @@ use Rattle.tal_tree.specs.declared.program.Target.TheVariants as target
 use Rattle.tal_tree.specs.declared.statement.What.{What, What-F}
 use Rattle.tal_tree.specs.declared.statement.What.TheVariants as what
 use Rattle.tal_tree.specs.declared.statement.What.TheViews.{rolls-Assign, rolls-AssignCall, rolls-If, rolls-While}
-use Rattle.tal_tree.specs.declared.statement.What.TheViews.{rolls-For, rolls-Call, rolls-Return, rolls-ReadUpdate}
-use Rattle.tal_tree.specs.declared.statement.What.TheViews.{rolls-Reply, rolls-WriteRead, rolls-Checkpoint}
-use Rattle.tal_tree.specs.declared.statement.What.TheViews.{rolls-CheckMonitor, rolls-Open, rolls-Stop}
+use Rattle.tal_tree.specs.declared.statement.What.TheViews.{rolls-For, rolls-DoUntil, rolls-Call, rolls-Return}
+use Rattle.tal_tree.specs.declared.statement.What.TheViews.{rolls-ReadUpdate, rolls-Reply, rolls-WriteRead}
+use Rattle.tal_tree.specs.declared.statement.What.TheViews.{rolls-Checkpoint, rolls-CheckMonitor, rolls-Open}
+use Rattle.tal_tree.specs.declared.statement.What.TheViews.{rolls-Stop}
 use Rattle.tal_tokens.specs.declared.token.At.{At}
 use Rattle.tal_tokens.specs.declared.token.Token.{Token}
 use Rattle.tal_tokens.specs.declared.token.Token.TheVariants as tok
@@ -34,7 +35,7 @@ use Rattle.tal_declarations.specs.Headings.{with_headings}
 use Rattle.tal_declarations.specs.Headings.{with_local, with_locals}
 use Rattle.tal_rules.specs.declared.walk.Progress.{Progress}
 use Rattle.tal_rules.specs.declared.walk.Walk.{Walk}
-use Rattle.tal_rules.specs.Statements.{after, stepped}
+use Rattle.tal_rules.specs.Statements.{after, inside_do, stepped}
 use Rattle.tal_rules.specs.Texts.{after_procedure, entered, faults, files_by, first_progress, headed_after, headed_text}
 use Rattle.tal_rules.specs.Texts.{locals_by, scope_of}
 use Rattle.tal_meaning.specs.Calls.{call_what, file_by, files_named, item_by, items_named, meaning_at, meaning_by}
@@ -42,7 +43,8 @@ use Rattle.tal_meaning.specs.Calls.{procedure_by, system_what, value_at, value_o
 use Rattle.tal_meaning.specs.Calls.{values_of_arguments, variable_by}
 use Rattle.tal_meaning.specs.Expressions.{cond_of_expr, target_of_spot, value_of_expr}
 use Rattle.tal_meaning.specs.Programs.{body_statements, tree_of, trees_of}
-use Rattle.tal_meaning.specs.Statements.{answer_of, assign_by, else_statements, row_statements, statements_of}
+use Rattle.tal_meaning.specs.Statements.{answer_of, assign_by, else_statements, is_down, row_statements, statements_of}
+use Rattle.tal_meaning.specs.Statements.{step_of}
 use Rattle.tal_reader.specs.Reads.{IsSyntaxOf, Reads}
 use Rattle.tal_faultless.proofs.Files.FileMeanings.{file_meaning}
 use Rattle.tal_faultless.proofs.Scopes.TextGlobals.{at_end}
@@ -51,6 +53,7 @@ use Rattle.tal_pieces.specs.declared.rank.ValueRank.TheVariants as value
 use Rattle.tal_pieces.proofs.Spelling.SpelledTokens.{tokens_spelled}
 use Rattle.tal_pieces.proofs.Words.LiteralWords.{AreFitting, MeaningFits, ScopeFits, scope_fits, with_fits}
 use Rattle.tal_pieces.proofs.Words.SpelledDeclarations.{words_heading, words_lines, words_locals}
+use Rattle.tal_pieces.proofs.Words.SpelledStatements.{words_step}
 use Rattle.tal_pieces.proofs.Words.SpelledSyntax.{AllSpelled, words_expr, words_target}
 use Rattle.tal_pieces.proofs.Words.WordTrees.{NamesSpell, SpellsValue}
 use Rattle.shown_forms.specs.told_reports.specs.InForm.{AreEach}
@@ -77,6 +80,9 @@ module _ (s : Scope) (fits : ScopeFits s) where
   value-there e ks h =
       let r = words_expr empty [] empty-names (λ k. tt) s fits e ks h in
       (spelled-there (value_of_expr s e) r.value, r.later)
+
+  past-step : (x : g.Step) (ks : List Token) → AllSpelled (g.of_step x ks) → AllSpelled ks
+  past-step x ks h = (words_step s fits x ks h).1
 
   past-target : (x : g.Spot) (ks : List Token) → AllSpelled (g.of_spot x ks) → AllSpelled ks
   past-target x ks h = (words_target empty [] empty-names (λ k. tt) s fits x ks h).1
@@ -205,19 +211,31 @@ module _ (s : Scope) (fits : ScopeFits s) where
               (What-F.While (cond_of_expr s test) xs) (rolls-While (cond_of_expr s test) xs) tt inner.0,
           inner.1,
         )
-    statement-there (g.for_do head at name set_at from to_at to do_at t) w ks h =
-        let low = value-there from
-        (tok.To to_at ∷ g.of_expr to (tok.Do do_at ∷ g.of_statement t ks)) h.1.1.1 in
-        let high = value-there to (tok.Do do_at ∷ g.of_statement t ks) low.1.1 in
-        let inner = statement-there t (stepped (stepped w)) ks high.1.1 in
+    statement-there (g.for_do head at name set_at from direction to step do_at t) w ks h =
+        let body : List Token = tok.Do do_at ∷ g.of_statement t ks in
+        let low = value-there from (g.of_direction direction ∷ g.of_expr to (g.of_step step body)) h.1.1.1 in
+        let high = value-there to (g.of_step step body) low.1.1 in
+        let inner = statement-there t (stepped (stepped w)) ks (past-step step body high.1).1 in
         let xs = statements_of s (stepped (stepped w)) t in
         let last = (after s (stepped (stepped w)) t).number in
         let variable = variable_by (meaning_of s name) in (
           everywhere_one HasWords w.number head.place.line
-              (what.For variable (value_of_expr s from) (value_of_expr s to) xs last)
-              (What-F.For variable (value_of_expr s from) (value_of_expr s to) xs last)
-              (rolls-For variable (value_of_expr s from) (value_of_expr s to) xs last) low.0 inner.0,
+              (what.For variable (value_of_expr s from) (value_of_expr s to) (is_down direction) (step_of s step) xs
+              last)
+              (What-F.For variable (value_of_expr s from) (value_of_expr s to) (is_down direction) (step_of s step) xs
+              last)
+              (rolls-For variable (value_of_expr s from) (value_of_expr s to) (is_down direction) (step_of s step) xs
+              last)
+              low.0 inner.0,
           inner.1,
+        )
+    statement-there (g.do_until head t at test) w ks h =
+        let inner = statement-there t (inside_do w) (tok.Until at ∷ g.of_expr test ks) h.1 in
+        let c = value-there test ks inner.1.1 in
+        let xs = statements_of s (inside_do w) t in (
+          everywhere_one HasWords (after s (inside_do w) t).number at.place.line (what.DoUntil xs (cond_of_expr s test))
+              (What-F.DoUntil xs (cond_of_expr s test)) (rolls-DoUntil xs (cond_of_expr s test)) tt inner.0,
+          c.1,
         )
     statement-there (g.call head at name a) w ks h =
         let r = arguments-there a ks h.1.1 in

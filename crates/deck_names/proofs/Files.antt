@@ -80,7 +80,9 @@ module _ (s : Scope) where
     statement-single f (g.if_then head test then_at t o) single =
         else-single (statement_files s f t) o (statement-single f t single)
     statement-single f (g.while_do head test do_at t) single = statement-single f t single
-    statement-single f (g.for_do head at name set_at from to_at to do_at t) single = statement-single f t single
+    statement-single f (g.for_do head at name set_at from direction to step do_at t) single =
+        statement-single f t single
+    statement-single f (g.do_until head t at test) single = statement-single f t single
     statement-single f (g.call head at name list) single = call-single f (arguments_of list) (system_of name) single
     statement-single f (g.return head e) single = single
     statement-single f (g.assign target at e) single = single

@@ -2,7 +2,7 @@
 use Rattle.std.proofs.Common.{◌≡◌, ℕ, ℤ, pos, Bool, true, false, List, [], ◌∷◌, ◌++◌, drop, slice_get, Option, Some}
 use Rattle.std.proofs.Common.{None}
 use Rattle.std.proofs.Common.{arith, refl, subst}
-use Rattle.std.specs.Prelude.{◌+ℤ◌}
+use Rattle.std.specs.Prelude.{◌+ℤ◌, ◌-ℤ◌}
 use Rattle.gd_words.specs.Arithmetic.{wrap}
 use Rattle.tal_tree.specs.declared.expression.Variable.{Variable}
 use Rattle.tal_tree.specs.declared.program.Procedure.{Procedure}
@@ -15,7 +15,7 @@ use Rattle.process_semantics.specs.Changes.{done, left, variable_cell, variable_
 use Rattle.process_semantics.specs.Remains.{Remains}
 use Rattle.process_semantics.specs.State.{Entry, Frame, Last, ProgramState, Run, Test, first_of, memory_of, next_of}
 use Rattle.process_semantics.specs.State.{runs_of}
-use Rattle.process_semantics.specs.Steps.{assigned, counted_in, counted_up, entered, entered_by, for_begun, given}
+use Rattle.process_semantics.specs.Steps.{assigned, counted_in, counted, entered, entered_by, for_begun, given}
 use Rattle.process_semantics.specs.Steps.{given_in, given_to, goes_round, inner, inner_entry, inner_in, or_ends}
 use Rattle.process_semantics.specs.Steps.{result_of}
 use Rattle.process_semantics.specs.Steps.{returned, tested, tested_in, values_of}
@@ -55,11 +55,15 @@ begun-words s statement variable (Some word) is has =
     let put = with_word (variable_cell variable) word s in
     before-words (Test statement ∷ []) (done put) (done-words put (word-words (variable_cell variable) word s is has))
 
-counted-words : (s : ProgramState) (to : Cell) (value : Option ℤ) → HasStateWords s → IfState (counted_up s to value)
-counted-words s to None has = tt
-counted-words s to (Some word) has =
-    let next = wrap (word +ℤ pos 1) in
-    done-words (with_word to next s) (word-words to next s (wrapped-word (word +ℤ pos 1)) has)
+counted-words : (s : ProgramState) (to : Cell) (down : Bool) (step : ℤ) (value : Option ℤ) → HasStateWords s
+    → IfState (counted s to down step value)
+counted-words s to down step None has = tt
+counted-words s to false step (Some word) has =
+    let next = wrap (word +ℤ step) in
+    done-words (with_word to next s) (word-words to next s (wrapped-word (word +ℤ step)) has)
+counted-words s to true step (Some word) has =
+    let next = wrap (word -ℤ step) in
+    done-words (with_word to next s) (word-words to next s (wrapped-word (word -ℤ step)) has)
 
 module _ (program : Program) where
   entered-by-words : (s : ProgramState) (number : ℕ) (arguments : List ℤ) (o : Option Procedure) → AreWords arguments
@@ -108,7 +112,9 @@ module _ (program : Program) where
       tested-words s (runs_of first) (runs_of second) (truth_of (memory_of program s) test) has
   run-words s statement (What-F.While test body) words has =
       tested-words s (runs_of body ++ Run statement ∷ []) [] (truth_of (memory_of program s) test) has
-  run-words s statement (What-F.For variable from to body last) words has =
+  run-words s statement (What-F.DoUntil body test) words has =
+      tested-words s [] (runs_of body ++ Run statement ∷ []) (truth_of (memory_of program s) test) has
+  run-words s statement (What-F.For variable from to down step body last) words has =
       begun-words s statement variable (value_of (memory_of program s) from)
       (value-word (memory_of program s) has.0 (local-words s.frames has.1) from words) has
   run-words s statement (What-F.Call number arguments) words has =
@@ -127,15 +133,15 @@ module _ (program : Program) where
 
   test-words : (s : ProgramState) (statement : Statement) (layer : What-F What Statement) → HasStateWords s
       → IfState (tested_in program s statement layer)
-  test-words s statement (What-F.For variable from to body last) has =
+  test-words s statement (What-F.For variable from to down step body last) has =
       tested-words s (runs_of body ++ Last statement ∷ Test statement ∷ []) []
-      (goes_round (variable_of program s variable) (value_of (memory_of program s) to)) has
+      (goes_round down (variable_of program s variable) (value_of (memory_of program s) to)) has
   test-words s statement _ has = tt
 
   last-words : (s : ProgramState) (layer : What-F What Statement) → HasStateWords s
       → IfState (counted_in program s layer)
-  last-words s (What-F.For variable from to body last) has =
-      counted-words s (variable_cell variable) (variable_of program s variable) has
+  last-words s (What-F.For variable from to down step body last) has =
+      counted-words s (variable_cell variable) down step (variable_of program s variable) has
   last-words s _ has = tt
 
   -- the statement that comes next is one of the program

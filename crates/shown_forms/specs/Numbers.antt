@@ -23,10 +23,19 @@ IsAnswerWord (Some value) = IsWordThere value
 abbrev pub HasWords : What-F What Statement → Type 0
 HasWords (What-F.Assign to value) = IsWordThere value
 HasWords (What-F.AssignCall to procedure arguments) = AreEach IsWordThere arguments
-HasWords (What-F.For variable from to body last) = IsWordThere from
+HasWords (What-F.For variable from to down step body last) = IsWordThere from
 HasWords (What-F.Call procedure arguments) = AreEach IsWordThere arguments
 HasWords (What-F.Return value) = IsAnswerWord value
-HasWords _ = Unit {0}
+HasWords (What-F.If _ _ _) = Unit {0}
+HasWords (What-F.While _ _) = Unit {0}
+HasWords (What-F.DoUntil _ _) = Unit {0}
+HasWords (What-F.ReadUpdate _ _ _) = Unit {0}
+HasWords (What-F.Reply _ _) = Unit {0}
+HasWords (What-F.WriteRead _ _ _ _ _) = Unit {0}
+HasWords (What-F.Checkpoint _ _) = Unit {0}
+HasWords What-F.CheckMonitor = Unit {0}
+HasWords (What-F.Open _) = Unit {0}
+HasWords What-F.Stop = Unit {0}
 
 -- each statement of a program, at any level
 abbrev pub HasWordNumbers : Program → Type 0
