@@ -160,7 +160,8 @@ fn verify_as(number: Option<&str>, acts: bool, fail: Option<&str>) -> Option<Com
     }
 }
 
-fn stop_of(text: &str) -> Option<ProcessorStop>
+/// The stop that `P:K` names; none where it names none.
+pub fn stop_of(text: &str) -> Option<ProcessorStop>
     ensures { result ≡ stop_of text.now }
 {
     let (processor, after) = text.split_once(':')?;

@@ -10,4 +10,4 @@ pub mod asked;
 pub mod guards;
 mod line;
 
-pub use asked::{Command, asked_by};
+pub use asked::{Command, asked_by, stop_of};
