@@ -51,9 +51,9 @@ is_acting_as process number role.Gone = false
 abbrev pub is_acting_of : ℕ → CopyView → Bool
 is_acting_of process copy = is_acting_as process copy.process copy.role
 
--- where a process stands is where its copy stands that acts
+-- where a process stands is where its copy stands that acts; if none does, its other copy has yet to take over
 abbrev pub stand_among : ℕ → List CopyView → Stand
-stand_among process [] = stand.Gone
+stand_among process [] = stand.AtTakeover
 stand_among process (copy ∷ copies) =
     if is_acting_of process copy then stand_at copy else stand_among process copies
 
@@ -61,7 +61,7 @@ stand_among process (copy ∷ copies) =
 abbrev pub server_of_stand : Site → ProcessSpec → Stand → Option ℕ
 server_of_stand site spec (stand.AtAwait awaited) =
     server_of_file site (slice_get (files_of spec.what) awaited.file)
-server_of_stand site spec stand.Gone = None
+server_of_stand site spec stand.AtTakeover = None
 server_of_stand site spec stand.Ended = None
 server_of_stand site spec stand.AtTake = None
 server_of_stand site spec (stand.AtAcknowledgement number) = None

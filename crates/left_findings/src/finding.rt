@@ -18,8 +18,8 @@ pub struct ProcessLeft {
 /// Where a process stands.
 #[derive(Clone, Copy, PartialEq, Eq, Drop)]
 pub enum Stand {
-    /// No copy of it acts: both have gone with their processors.
-    Gone,
+    /// No copy of it acts: the one that did has gone with its processor, and the other hasn't taken over yet.
+    AtTakeover,
     /// It has ended.
     Ended,
     /// It waits for a request.
@@ -28,7 +28,7 @@ pub enum Stand {
     AtAwait(Awaited),
     /// It waits until its other copy acknowledges the checkpoint of this number.
     AtAcknowledgement(u32),
-    /// It waits for nothing: the run was cut.
+    /// It waits for nothing: the run ended before it had done what it could.
     CanStep,
 }
 

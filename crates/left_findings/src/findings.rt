@@ -70,7 +70,7 @@ fn stand_among(copies: &[CopyView], process: usize) -> Stand
         }
         left = rest;
     }
-    Stand::Gone
+    Stand::AtTakeover
 }
 
 fn is_acting_of(process: usize, copy: &CopyView) -> bool

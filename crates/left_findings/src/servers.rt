@@ -13,7 +13,7 @@ pub(crate) fn server_of_stand(site: &Site, spec: &ProcessSpec, stand: Stand) -> 
 {
     match stand {
         Stand::AtAwait(awaited) => server_by(site, spec, usize::from(awaited.file)),
-        Stand::Gone => None,
+        Stand::AtTakeover => None,
         Stand::Ended => None,
         Stand::AtTake => None,
         Stand::AtAcknowledgement(_) => None,

@@ -10,8 +10,8 @@ ghost use Rattle.left_findings.specs.Left.{stand_checked, terminal_left};
 ghost use Rattle.left_findings.specs.declared.finding.Stand.TheVariants as stand;
 ghost use Rattle.left_findings.specs.declared.finding.TerminalLeft.TheVariants as terminal;
 
-/// A copy that acts stands where its next step is: it waits for a request, for a reply or, once its checkpoint was sent,
-/// for an acknowledgement; or it has ended; or it waits for nothing.
+/// A copy that acts stands where its next step is: it waits for a request, for a reply or, once its checkpoint was
+/// sent, for an acknowledgement; or it has ended; or it waits for nothing.
 pub fn a_copy_stands_at_its_next_step()
     ensures take { (copy : CopyView) → stand_at_point copy point.Take ≡ stand.AtTake }
     ensures ended { (copy : CopyView) → stand_at_point copy point.Ended ≡ stand.Ended }
@@ -21,13 +21,13 @@ pub fn a_copy_stands_at_its_next_step()
     ensures unsent { stand_checked false 4 ≡ stand.CanStep }
 {}
 
-/// A process stands where its own copy stands that acts, and is gone without one.
+/// A process stands where its own copy stands that acts, and without one it waits until another takes over.
 pub fn a_process_stands_by_its_acting_copy()
     ensures acting { is_acting_as 2 2 role.Acting ≡ true }
     ensures another { is_acting_as 2 3 role.Acting ≡ false }
     ensures watching { is_acting_as 2 2 role.Watching ≡ false }
     ensures gone { is_acting_as 2 2 role.Gone ≡ false }
-    ensures none { stand_among 2 [] ≡ stand.Gone }
+    ensures none { stand_among 2 [] ≡ stand.AtTakeover }
 {}
 
 /// Only a process that awaits a reply waits for another.

@@ -19,7 +19,7 @@ IsSpelt deck = (bytes : List ℕ) × Decks bytes deck
 
 -- the processor that would have been the second to stop
 abbrev pub second_text : ℕ → List ℕ
-second_text processor = codes "a second stop: " ++ decimal processor ++ 10 ∷ []
+second_text processor = codes "the run ended before a second stop, of processor " ++ decimal processor ++ 10 ∷ []
 
 abbrev pub ending_text : Ending → List ℕ
 ending_text ending.Idle = codes "the run ended idle" ++ 10 ∷ []

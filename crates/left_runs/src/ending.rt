@@ -19,7 +19,7 @@ pub(crate) fn put_ending(text: &mut List<u8>, ending: Ending) -> Result<(), NoMe
 fn put_second(text: &mut List<u8>, processor: u8) -> Result<(), NoMemory>
     ensures { OnOk result (text.new ≡ text.old ++ second_text processor) }
 {
-    put(text, b"a second stop: ")?;
+    put(text, b"the run ended before a second stop, of processor ")?;
     put_number(text, u64::from(processor))?;
     put(text, b"\n")
 }

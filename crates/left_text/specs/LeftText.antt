@@ -47,10 +47,10 @@ server_name all (Some number) = name_at all number
 
 -- what is told where no number is
 abbrev pub plain_text : Stand → List ℕ
-plain_text stand.Gone = codes " is gone: both its processors have stopped" ++ 10 ∷ []
+plain_text stand.AtTakeover = codes " waits until its backup takes over" ++ 10 ∷ []
 plain_text stand.Ended = codes " has ended" ++ 10 ∷ []
 plain_text stand.AtTake = codes " waits for a request" ++ 10 ∷ []
-plain_text stand.CanStep = codes " waits for nothing: the run was cut" ++ 10 ∷ []
+plain_text stand.CanStep = codes " waits for nothing: it could go on" ++ 10 ∷ []
 plain_text (stand.AtAwait awaited) = []
 plain_text (stand.AtAcknowledgement number) = []
 
@@ -65,7 +65,7 @@ checked_text number = codes " waits until its backup acknowledges checkpoint " +
 abbrev pub stand_text : List ℕ → Stand → List ℕ
 stand_text server (stand.AtAwait awaited) = awaiting_text server awaited.number
 stand_text server (stand.AtAcknowledgement number) = checked_text number
-stand_text server stand.Gone = plain_text stand.Gone
+stand_text server stand.AtTakeover = plain_text stand.AtTakeover
 stand_text server stand.Ended = plain_text stand.Ended
 stand_text server stand.AtTake = plain_text stand.AtTake
 stand_text server stand.CanStep = plain_text stand.CanStep

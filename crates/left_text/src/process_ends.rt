@@ -66,7 +66,7 @@ fn put_stand(text: &mut List<u8>, server: &[u8], stand: Stand) -> Result<(), NoM
     match stand {
         Stand::AtAwait(awaited) => put_awaiting(text, server, awaited.number),
         Stand::AtAcknowledgement(number) => put_checked(text, number),
-        Stand::Gone => put(text, plain_text(stand)),
+        Stand::AtTakeover => put(text, plain_text(stand)),
         Stand::Ended => put(text, plain_text(stand)),
         Stand::AtTake => put(text, plain_text(stand)),
         Stand::CanStep => put(text, plain_text(stand)),
@@ -78,10 +78,10 @@ fn plain_text(stand: Stand) -> &'static [u8]
     ensures { result.now ≡ plain_text stand }
 {
     match stand {
-        Stand::Gone => b" is gone: both its processors have stopped\n",
+        Stand::AtTakeover => b" waits until its backup takes over\n",
         Stand::Ended => b" has ended\n",
         Stand::AtTake => b" waits for a request\n",
-        Stand::CanStep => b" waits for nothing: the run was cut\n",
+        Stand::CanStep => b" waits for nothing: it could go on\n",
         Stand::AtAwait(_) => b"",
         Stand::AtAcknowledgement(_) => b"",
     }

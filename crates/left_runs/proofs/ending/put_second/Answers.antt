@@ -7,5 +7,5 @@ use Rattle.left_runs.proofs.ending.put_second.Goals as goal
 pub returns : goal.returns
 returns c =
     let number = rw c.from.ensures at c.in_ok-put_number.ensures in
-    put_three c.args.text.now (codes "a second stop: ") (decimal c.args.processor) (10 ∷ []) c.put-2.new.text
-    c.put-2.result c.in_ok-put.ensures number c.put-2.ensures
+    put_three c.args.text.now (codes "the run ended before a second stop, of processor ")
+    (decimal c.args.processor) (10 ∷ []) c.put-2.new.text c.put-2.result c.in_ok-put.ensures number c.put-2.ensures
