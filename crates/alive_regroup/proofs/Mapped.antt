@@ -1,7 +1,7 @@
 -- A list whose items become those of another list under a function, one after the other.
 use Rattle.std.proofs.Common.{◌≡◌, ℕ, suc, ◌+◌, ◌<◌, List, [], ◌∷◌, ◌++◌, length, get_or, set, take, drop, map, arith}
 use Rattle.std.proofs.Common.{ap, sym, ◌∙◌, append_assoc}
-use Rattle.std.proofs.Math.Seq.{set-append_seam, drop-cons}
+use Rattle.std.proofs.Math.Seq.{set-append_seam, drop-cons, get_or-append_seam}
 use Rattle.std.proofs.lemmas.List.{take_more, length-take-le, length-map, map-append}
 
 pub mapped-more : {A B : Type 0} (f : A → B) (xs : List A) (first : List B) (k : ℕ) (d : A) → k < length xs
@@ -19,3 +19,21 @@ mapped-more f xs first k d within room =
     ∙ sym (ap (λ items. map f items ++ drop (k + 1) first) (take_more xs k d within)
     ∙ ap (λ items. items ++ drop (k + 1) first) (map-append f (take k xs) (x ∷ []))
     ∙ append_assoc done (f x ∷ []) (drop (k + 1) first))
+
+-- the item at the seam is still that of the list
+at-seam : {A : Type 0} (f : A → A) (xs : List A) (k : ℕ) (d : A) → k < length xs
+    → get_or (map f (take k xs) ++ drop k xs) k d ≡ get_or xs k d
+at-seam f xs k d within =
+    let done = map f (take k xs) in
+    let len : length done ≡ k = length-map (take k xs) f ∙ length-take-le k xs (omega (arith, within)) in
+    ap (λ rest. get_or (done ++ rest) k d) (drop-cons xs k d within)
+    ∙ ap (λ j. get_or (done ++ get_or xs k d ∷ drop (suc k) xs) j d) (sym len)
+    ∙ get_or-append_seam done (get_or xs k d) (drop (suc k) xs) d
+
+-- one after the other in their place
+pub mapped-in-place : {A : Type 0} (f : A → A) (xs : List A) (k : ℕ) (d : A) → k < length xs
+    → set (map f (take k xs) ++ drop k xs) k (f (get_or (map f (take k xs) ++ drop k xs) k d))
+    ≡ map f (take (k + 1) xs) ++ drop (k + 1) xs
+mapped-in-place f xs k d within =
+    ap (λ x. set (map f (take k xs) ++ drop k xs) k (f x)) (at-seam f xs k d within)
+    ∙ mapped-more f xs xs k d within within

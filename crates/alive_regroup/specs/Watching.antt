@@ -68,6 +68,14 @@ is_silent Absent = false
 is_silent (Up came misses report) = is_more misses
 is_silent Down = false
 
+-- the last check missed it
+abbrev pub is_missed : Neighbour → Bool
+is_missed Absent = false
+is_missed (Up came missed.None report) = false
+is_missed (Up came missed.One report) = true
+is_missed (Up came missed.More report) = true
+is_missed Down = false
+
 -- where it has a say, it reported this processor last
 abbrev pub agrees : ℕ → Neighbour → Bool
 agrees processor Absent = true
@@ -139,6 +147,10 @@ abbrev pub is_held : ℕ → Watching → Bool
 is_held processor w =
     nat_lt w.me 16 && is_silent_at processor w && is_coordinator processor w
     && all_but processor (agrees processor) w.neighbours
+
+-- the last check missed none of the processors that it hasn't noted down
+abbrev pub misses_none : Watching → Bool
+misses_none w = list_all (λ one. not (is_missed one)) w.neighbours
 
 -- whether a processor is noted down
 abbrev pub is_marked : ℕ → Watching → Bool

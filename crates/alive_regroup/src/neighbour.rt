@@ -1,6 +1,7 @@
 ghost use Rattle.std.specs.Prelude.{◌≡◌};
 ghost use Rattle.alive_regroup.specs.Watching.{risen, is_more, neighbour_after_check, neighbour_after_alive, is_silent};
 ghost use Rattle.alive_regroup.specs.Watching.{is_up, is_down, neighbour_after_report, agrees, neighbour_after_down};
+ghost use Rattle.alive_regroup.specs.Watching.{is_missed};
 
 use crate::set::ProcessorSet;
 
@@ -42,25 +43,21 @@ impl Neighbour {
         }
     }
 
-    /// What is known of the processor after a round's check of who was heard.
-    pub fn checked(&self) -> Neighbour
-        ensures { result ≡ neighbour_after_check self.now }
+    /// A check of who was heard.
+    pub fn check(&mut self)
+        ensures { self.new ≡ neighbour_after_check self.old }
     {
         match self {
-            Neighbour::Absent => Neighbour::Absent,
+            Neighbour::Absent => {}
             Neighbour::Up {
                 heard,
                 missed,
-                report,
+                report: _,
             } => {
-                let missed = if *heard { Missed::None } else { missed.risen() };
-                Neighbour::Up {
-                    heard: false,
-                    missed,
-                    report: *report,
-                }
+                *missed = if *heard { Missed::None } else { missed.risen() };
+                *heard = false;
             }
-            Neighbour::Down => Neighbour::Down,
+            Neighbour::Down => {}
         }
     }
 
@@ -139,6 +136,21 @@ impl Neighbour {
                 missed,
                 report: _,
             } => missed.is_more(),
+            Neighbour::Down => false,
+        }
+    }
+
+    /// Whether the last check missed it, and it isn't marked down.
+    pub fn is_missed(&self) -> bool
+        ensures { result ≡ is_missed self.now }
+    {
+        match self {
+            Neighbour::Absent => false,
+            Neighbour::Up {
+                heard: _,
+                missed,
+                report: _,
+            } => !matches!(missed, Missed::None),
             Neighbour::Down => false,
         }
     }

@@ -1,10 +1,12 @@
 ghost use Rattle.std.specs.Prelude.{◌≡◌, ◌≤◌, ◌<◌, ◌+◌, ℕ, take, drop, true, false, map, not, length, IfSome, IfNone};
+ghost use Rattle.std.specs.Bool.{OnTrue};
 ghost use Rattle.std.specs.List.{list_all};
 ghost use Rattle.alive_regroup.specs.Sets.{has};
 ghost use Rattle.alive_regroup.specs.Watching.{Watching, neighbour_after_alive, neighbour_after_report};
 ghost use Rattle.alive_regroup.specs.Watching.{neighbour_after_down, is_down, is_up, is_silent, changed_at};
-ghost use Rattle.alive_regroup.specs.Watching.{neighbour_after_check, is_marked, after_tick, told_by_tick};
+ghost use Rattle.alive_regroup.specs.Watching.{neighbour_after_check, is_marked, is_missed, after_tick, misses_none};
 ghost use Rattle.alive_regroup.specs.Watching.{is_coordinator, is_held, all_but, agrees, begun, at_first, is_silent_at};
+ghost use Rattle.alive_regroup.specs.Watching.{told_by_tick};
 
 use crate::neighbour::{Missed, Neighbour};
 use crate::set::ProcessorSet;
@@ -97,14 +99,21 @@ impl Watch {
             return None;
         }
         self.checks = false;
-        let neighbours = all_checked(&self.neighbours);
+        check_all(&mut self.neighbours);
         let silent = ProcessorSet {
-            members: silent_members(&neighbours),
+            members: silent_members(&self.neighbours),
         };
-        self.neighbours = neighbours;
         let before = self.told;
         self.told = silent;
         if before == silent { None } else { Some(silent) }
+    }
+
+    /// Whether the last check missed no processor. Then no line is pulled after a tick made now.
+    pub fn misses_none(&self) -> bool
+        ensures missed { result ≡ misses_none self.now }
+        ensures held { OnTrue result ((processor : ℕ) → is_held processor (after_tick self.now) ≡ false) }
+    {
+        none_missed(self.neighbours.as_slice())
     }
 
     /// The processor whose hold line the node pulls: the first of which all agree that it is silent, where the node is
@@ -210,14 +219,12 @@ fn at_first(me: u8, processors: u8, place: u8) -> Neighbour
     }
 }
 
-fn all_checked(neighbours: &[Neighbour; 16]) -> [Neighbour; 16]
-    ensures { result ≡ map neighbour_after_check neighbours.now }
+fn check_all(neighbours: &mut [Neighbour; 16])
+    ensures { neighbours.new ≡ map neighbour_after_check neighbours.old }
 {
-    let mut after = [Neighbour::Absent; 16];
-    for (place, one) in neighbours.iter().enumerate() {
-        after[place] = one.checked();
+    for place in 0..16 {
+        neighbours[place].check();
     }
-    after
 }
 
 fn silent_members(neighbours: &[Neighbour; 16]) -> [bool; 16]
@@ -240,4 +247,10 @@ fn none_up(neighbours: &[Neighbour]) -> bool
     ensures { result ≡ list_all (λ one. not (is_up one)) neighbours.now }
 {
     neighbours.iter().all(|one| !one.is_up())
+}
+
+fn none_missed(neighbours: &[Neighbour]) -> bool
+    ensures { result ≡ list_all (λ one. not (is_missed one)) neighbours.now }
+{
+    neighbours.iter().all(|one| !one.is_missed())
 }
