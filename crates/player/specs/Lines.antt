@@ -138,3 +138,14 @@ packet_of_move x y None = None
 -- the packet that the next event of a line concerns, where the line goes on
 abbrev pub aimed : Sizes → ℕ → ℕ → LinePlace → Option (Bool × ℕ)
 aimed sizes x y standing = packet_of_move x y (proposed sizes x y standing)
+
+-- the bus whose packets a drain delivers next, whatever is counted, and how many of them are left
+abbrev pub draining : LinePlace → Option (Bool × ℕ)
+draining (standing.Rounds rule.Drain left (place.Delivers y packets)) = Some (y, packets)
+draining _ = None
+
+-- where a line stands with so many packets left that its round delivers
+abbrev pub with_packets_left : ℕ → LinePlace → LinePlace
+with_packets_left packets (standing.Rounds rule left (place.Delivers y before)) =
+    standing.Rounds rule left (place.Delivers y packets)
+with_packets_left packets standing = standing

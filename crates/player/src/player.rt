@@ -4,6 +4,7 @@ ghost use Rattle.player.specs.declared.standing.LinePlace.TheVariants as standin
 ghost use Rattle.player.specs.declared.standing.Place.TheVariants as place;
 ghost use Rattle.player.specs.Lines.{begun, is_before, is_before_mixed, proposed, has_reached, asks_idle, decided};
 ghost use Rattle.player.specs.Lines.{next_event, stands_after, event_of, packet_of, on_bus, aimed};
+ghost use Rattle.player.specs.Lines.{draining, with_packets_left};
 
 use crate::mixed::{first_draws, next_mixed};
 use crate::round::next_turn;
@@ -76,6 +77,39 @@ impl Player {
             ≡ next_event self.now.sizes self.now.standing counts }
     {
         asks_idle(self.standing)
+    }
+
+    /// Whether a drain delivers the packets of bus Y, or else of bus X, next, whatever is counted, and how many of them
+    /// are left.
+    pub fn draining(&self) -> Option<(bool, u32)>
+        ensures { result ≡ draining self.now.standing }
+    {
+        match self.standing {
+            LinePlace::Rounds {
+                rule: Rule::Drain,
+                left: _,
+                place: Place::Delivers { y, left },
+            } => Some((y, left)),
+            _ => None,
+        }
+    }
+
+    /// So many packets are left of those that the round delivers.
+    pub fn leave(&mut self, packets: u32)
+        ensures { self.new ≡ record self.old { standing = with_packets_left packets self.old.standing } }
+    {
+        if let LinePlace::Rounds {
+            rule,
+            left,
+            place: Place::Delivers { y, left: _ },
+        } = self.standing
+        {
+            self.standing = LinePlace::Rounds {
+                rule,
+                left,
+                place: Place::Delivers { y, left: packets },
+            };
+        }
     }
 }
 
