@@ -1,3 +1,4 @@
+pub mod Draining
 pub mod Looking
 pub mod Plain
 pub mod Planning

@@ -1,5 +1,5 @@
 -- Lines whose next event doesn't depend on which packet it concerns.
-use Rattle.std.proofs.Common.{◌≡◌, ℕ, ◌-◌, Bool, true, false, nat_lt, if◌then◌else◌, Option, Some, None, refl}
+use Rattle.std.proofs.Common.{◌≡◌, ℕ, ◌-◌, Bool, true, false, nat_lt, if◌then◌else◌, Some, None, refl}
 use Rattle.std.specs.Option.{option_map}
 use Rattle.schedule.specs.declared.event.Counts.{Counts}
 use Rattle.schedule.specs.declared.event.Event.{Event}
@@ -9,7 +9,6 @@ use Rattle.player.specs.declared.standing.Place.{Place}
 use Rattle.player.specs.declared.standing.Rule.{Rule}
 use Rattle.player.specs.declared.standing.Rule.TheVariants as rule
 use Rattle.player.specs.declared.standing.Sizes.{Sizes}
-use Rattle.player.specs.declared.standing.Turn.{Turn}
 use Rattle.player.specs.Lines.{decided_move, is_before, is_over, moved, next_event, stands_after}
 use Rattle.player.specs.Rounds.{next_turn}
 use Rattle.schedule_loop.specs.Looks.{asks_packet}

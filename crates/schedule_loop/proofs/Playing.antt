@@ -7,21 +7,13 @@ use Rattle.schedule.specs.declared.event.Event.{Event}
 use Rattle.player.specs.declared.standing.Sizes.{Sizes}
 use Rattle.agendas.specs.Agendas.{Agenda, Plan, agenda_of}
 use Rattle.machine_states.specs.States.{State, WouldStop}
-use Rattle.schedule_loop.specs.Ends.{CanBePlayed, Course, EndsBy, IsEndBy, IsRunOn, IsTriedBy, Plays, RunsOutBy}
-use Rattle.schedule_loop.specs.Ends.{RunsToStopBy, planned_in}
+use Rattle.schedule_loop.specs.Ends.{CanBePlayed, Course, EndsBy, IsEndBy, IsPlaying, IsRunOn, IsTriedBy, Plays}
+use Rattle.schedule_loop.specs.Ends.{RunsOutBy, RunsToStopBy, planned_in}
 use Rattle.schedule_loop.specs.Plans.{seen_none, seen_on}
 use Rattle.schedule_loop.specs.Rules.{Rules}
 use Rattle.schedule_loop.specs.Seen.{Scheduled, event_in}
 use Rattle.schedule_loop.specs.declared.ran.Ending.{Ending}
 use Rattle.schedule_loop.specs.declared.ran.Ending.TheVariants.{Second}
-
--- so many events were played, and led to this state and to where the schedule stands
-pub record IsPlaying {Wires : Type 0} (rules : Rules Wires) (course : Course Wires) (schedule : Scheduled)
-    (s : State Wires) (played : ℕ) : Type 0 where
-  pub events : List Event
-  pub counted : length events ≡ played
-  pub plays : Plays rules course events schedule.agenda s
-  pub sizes : schedule.sizes ≡ course.sizes
 
 -- the plan for the next event, where the machine and the schedule stand
 abbrev pub Coming : {Wires : Type 0} → Rules Wires → Scheduled → State Wires → ℕ → Option Plan

@@ -1,9 +1,9 @@
 -- What the parts of this crate's code show.
-use Rattle.std.specs.Prelude.{◌≡◌, Bool, true, false, List, [], ◌∷◌, Option}
+use Rattle.std.specs.Prelude.{◌≡◌, ℕ, Bool, true, false, List, [], ◌∷◌, Option, Some, None}
 use Rattle.std.specs.Option.{option_map}
 use Rattle.schedule.specs.declared.event.Event.{Event}
 use Rattle.schedule.specs.declared.line.Line.{Line}
-use Rattle.player.specs.Lines.{begun}
+use Rattle.player.specs.Lines.{begun, draining, with_packets_left}
 use Rattle.player.specs.declared.player.Player.{Player}
 use Rattle.player.specs.declared.standing.Sizes.{Sizes}
 use Rattle.agendas.specs.Agendas.{Agenda, Plan}
@@ -25,3 +25,13 @@ abbrev pub IsBegun : List Line → Scheduled → Bool → Scheduled → Type 0
 IsBegun [] before began after = (began ≡ false) × (after ≡ before)
 IsBegun (line ∷ rest) before began after =
     (began ≡ true) × (after ≡ record before { agenda = record before.agenda { standing = begun line; lines = rest } })
+
+-- with no event held back, the bus whose packets a drain delivers next is this one, with so many of them left
+abbrev pub IsDraining : Agenda → Option (Bool × ℕ) → Type 0
+IsDraining agenda None = Unit {0}
+IsDraining agenda (Some packets) = (agenda.held_back ≡ None) × (draining agenda.standing ≡ Some packets)
+
+-- the schedule with so many packets left that its line delivers
+abbrev pub with_left : ℕ → Scheduled → Scheduled
+with_left packets all =
+    record all { agenda = record all.agenda { standing = with_packets_left packets all.agenda.standing } }

@@ -1,11 +1,16 @@
-ghost use Rattle.std.specs.Prelude.{◌≡◌, None, Some};
+ghost use Rattle.std.specs.Prelude.{◌≡◌, ◌≤◌, ◌<◌, ◌+◌, ◌-◌, None, Some};
+ghost use Rattle.std.specs.Bool.{OnFalse, OnTrue};
 ghost use Rattle.std.specs.Option.{IfSome, option_map};
+ghost use Rattle.schedule.specs.declared.event.Event.TheVariants as events;
+ghost use Rattle.machine_states.specs.States.{Settles};
+ghost use Rattle.machine_states.specs.declared.effect.Effect.TheVariants as effects;
 ghost use Rattle.player.specs.Lines.{begun, event_of, next_event, stands_after};
 ghost use Rattle.agendas.specs.Agendas.{agenda_of, coming, stopped_by};
+ghost use Rattle.schedule_loop.specs.Ends.{Course, IsPlaying};
 ghost use Rattle.schedule_loop.specs.Looks.{asks_packet};
 ghost use Rattle.schedule_loop.specs.Plans.{next_seen, planned_seen, upcoming_seen};
 ghost use Rattle.schedule_loop.specs.Rules.{sight_of};
-ghost use Rattle.schedule_loop.specs.Seen.{IsBegun, event_in, player_at};
+ghost use Rattle.schedule_loop.specs.Seen.{IsBegun, IsDraining, event_in, player_at, with_left};
 
 use crate::machine::ScheduleMachine;
 use player::{Player, ProcessorStop, Sizes};
@@ -76,6 +81,88 @@ impl<'a> Schedule<'a> {
                 Some(event)
             }
             None => self.next_or_stop(before, machine),
+        }
+    }
+
+    /// Plays the deliveries of a drain that come next, as long as they can be done at once. Answers how many events were
+    /// played then.
+    pub fn deliver_at_once<M: ScheduleMachine>(&mut self, before: u32, machine: &mut M) -> u32
+        ensures plays { (course : Course M.Wires) → IsPlaying M.rules course self.old (M.state machine.old) before
+            → IsPlaying M.rules course self.new (M.state machine.new) result }
+        ensures more { before ≤ result }
+        ensures whole { M.is_broken machine.new ≡ M.is_broken machine.old }
+    {
+        match self.draining() {
+            None => before,
+            Some((y, packets)) => {
+                let left = self.left_behind(y, packets, before, machine);
+                self.player.leave(left);
+                before + (packets - left)
+            }
+        }
+    }
+
+    /// How many packets are left of those that a drain delivers next, after those that can be delivered at once.
+    fn left_behind<M: ScheduleMachine>(
+        &self,
+        y: bool,
+        packets: u32,
+        before: u32,
+        machine: &mut M,
+    ) -> u32
+        requires { IsDraining self.now.agenda (Some (y, packets)) }
+        ensures plays { (course : Course M.Wires) → IsPlaying M.rules course self.now (M.state machine.old) before
+            → IsPlaying M.rules course (with_left result self.now) (M.state machine.new)
+            (before + (packets - result)) }
+        ensures fewer { result ≤ packets }
+        ensures few { before + (packets - result) ≤ 4294967295 }
+        ensures whole { M.is_broken machine.new ≡ M.is_broken machine.old }
+    {
+        let mut left = packets;
+        let mut played = before;
+        while 0 < left {
+            if !self.deliver_next(y, played, machine) {
+                return left;
+            }
+            left -= 1;
+            played += 1;
+        }
+        left
+    }
+
+    /// Delivers the first packet of a bus after so many events, if no stop comes before it and it can be done at once.
+    fn deliver_next<M: ScheduleMachine>(&self, y: bool, played: u32, machine: &mut M) -> bool
+        ensures free { OnTrue result ((coming self.now.agenda.stop played ≡ None) × (played < 4294967295)) }
+        ensures done { OnTrue result (Settles (M.rules.play (M.state machine.old) (events.Deliver y 0))
+            (M.state machine.old) effects.Done (M.state machine.new)) }
+        ensures same { OnFalse result (M.state machine.new ≡ M.state machine.old) }
+        ensures whole { M.is_broken machine.new ≡ M.is_broken machine.old }
+    {
+        if self.can_go_on(played) {
+            machine.deliver_at_once(y)
+        } else {
+            false
+        }
+    }
+
+    /// The bus whose packets a drain delivers next, whether bus Y, and how many are left of them, where no event was
+    /// held back.
+    fn draining(&self) -> Option<(bool, u32)>
+        ensures { IsDraining self.now.agenda result }
+    {
+        match self.held_back {
+            Some(_) => None,
+            None => self.player.draining(),
+        }
+    }
+
+    /// Whether an event may follow so many with no stop before it.
+    fn can_go_on(&self, played: u32) -> bool
+        ensures { OnTrue result ((coming self.now.agenda.stop played ≡ None) × (played < 4294967295)) }
+    {
+        match self.coming(played) {
+            None => played < u32::MAX,
+            Some(_) => false,
         }
     }
 

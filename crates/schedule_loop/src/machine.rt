@@ -1,5 +1,8 @@
 ghost use Rattle.std.specs.Prelude.{◌≡◌, false, true, Bool, IfOk, OnOk};
+ghost use Rattle.std.specs.Bool.{OnFalse, OnTrue};
+ghost use Rattle.schedule.specs.declared.event.Event.TheVariants as events;
 ghost use Rattle.machine_states.specs.States.{Settles, State};
+ghost use Rattle.machine_states.specs.declared.effect.Effect.TheVariants as effects;
 ghost use Rattle.player.specs.declared.player.Player.{Player as AnyPlayer};
 ghost use Rattle.schedule_loop.specs.Rules.{Rules};
 
@@ -30,6 +33,14 @@ pub trait ScheduleMachine: Drop {
         ensures done { IfOk result (λ effect. Settles (rules.play (state self.old) event) (state self.old) effect
             (state self.new)) }
         ensures whole { IfOk result (λ effect. is_broken self.new ≡ false) };
+
+    /// Delivers the first packet of bus X or, where `y` says so, of bus Y, if that can be done at once, as it can with a
+    /// packet that only tells that its sender is alive; and answers whether it was done.
+    fn deliver_at_once(&mut self, y: bool) -> bool
+        ensures done { OnTrue result (Settles (rules.play (state self.old) (events.Deliver y 0)) (state self.old)
+            effects.Done (state self.new)) }
+        ensures same { OnFalse result (state self.new ≡ state self.old) }
+        ensures whole { is_broken self.new ≡ is_broken self.old };
 
     /// What is counted before the next event of the line at which a player stands, with this told of whether the
     /// machine is idle. It has the kind and the sender of the packet that the event concerns.

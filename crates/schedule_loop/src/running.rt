@@ -36,7 +36,7 @@ pub fn run<M: ScheduleMachine>(
     while let Some(event) = schedule.next(played, &machine) {
         let next = played + 1;
         match tried(&mut machine, event)? {
-            None => played = next,
+            None => played = schedule.deliver_at_once(next, &mut machine),
             Some(processor) => {
                 return Ok(Ran {
                     machine,

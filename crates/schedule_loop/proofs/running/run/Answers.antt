@@ -1,4 +1,4 @@
-use Rattle.std.proofs.Common.{◌<◌, ◌+◌, ℕ, IfOk, Option, Result, Ok, Err, arith, refl, subst, sym}
+use Rattle.std.proofs.Common.{◌<◌, ◌∙◌, ℕ, IfOk, Option, Result, Ok, Err, arith, refl, subst, sym}
 use Rattle.schedule_loop.specs.Ends.{IsTriedBy}
 use Rattle.schedule_loop.proofs.Playing.{begins, few_played, goes_on, runs_out, runs_to_stop}
 use Rattle.schedule_loop.proofs.running.run.Goals as goal
@@ -22,11 +22,12 @@ loop-event-preserved g c =
     c.in-Some.ensures.agenda
     (subst (λ (one : Option ℕ). IsTriedBy g.M.ScheduleMachine.rules
     (g.M.ScheduleMachine.state c.loop-event.machine) c.in-Some.event
-    (g.M.ScheduleMachine.state c.tried.new.machine) one) c.in-None.is c.in_ok-tried.ensures.tried) in (
-      on,
-      few_played g.M.ScheduleMachine.rules g.M.ScheduleMachine.is_ready _ c.next.new.self
-          (g.M.ScheduleMachine.state c.tried.new.machine) (c.loop-event.played + 1) c.requires.can on,
-      c.in_ok-tried.ensures.whole,
+    (g.M.ScheduleMachine.state c.tried.new.machine) one) c.in-None.is c.in_ok-tried.ensures.tried) in
+    let later = c.deliver_at_once-played.ensures.plays _ on in (
+      later,
+      few_played g.M.ScheduleMachine.rules g.M.ScheduleMachine.is_ready _ c.deliver_at_once-played.new.self
+          (g.M.ScheduleMachine.state c.deliver_at_once-played.new.machine) c.deliver_at_once-played.result c.requires.can later,
+      c.deliver_at_once-played.ensures.whole ∙ c.in_ok-tried.ensures.whole,
     )
 
 pub returns-in-Some-2 : goal.returns-in-Some-2
