@@ -1,6 +1,6 @@
 -- The line that a node pulls.
 use Rattle.std.specs.Option.{option_and_then, option_map}
-use Rattle.std.proofs.Common.{◌≡◌, ℕ, suc, ◌+◌, ◌==◌, ◌&&◌, not, Bool, true, false, if◌then◌else◌, List, Option, Some}
+use Rattle.std.proofs.Common.{◌≡◌, ℕ, zero, suc, ◌+◌, ◌==◌, ◌&&◌, not, Bool, true, false, if◌then◌else◌, List, Option, Some}
 use Rattle.std.proofs.Common.{None, slice_get, refl, ap, sym, ◌∙◌}
 use Rattle.alive_regroup.specs.Watching as watching
 use Rattle.alive_regroup.specs.Watching.{Watching, is_held}
@@ -24,6 +24,20 @@ held-turn me watch processor m n test count is =
     go true held = refl
     go false true = refl
     go false false = refl
+
+either-way : (same : Bool) (rest : Option ℕ) → None ≡ rest → None ≡ (if same then rest else rest)
+either-way true rest none = none
+either-way false rest none = none
+
+-- where all agree of no processor, no line is pulled
+pub none-first : (me : ℕ) (watch : Watching) (processor more : ℕ) → ((p : ℕ) → is_held p watch ≡ false)
+    → None ≡ first_held me watch processor more
+none-first me watch processor zero none = refl
+none-first me watch processor (suc more) none =
+    either-way (processor == me) (first_held me watch (processor + 1) more)
+    (none-first me watch (processor + 1) more none)
+    ∙ sym (ap (λ (held : Bool). if processor == me then first_held me watch (processor + 1) more
+    else if held then Some processor else first_held me watch (processor + 1) more) (none processor))
 
 line-of : (x : ℕ) (found : Option Node)
     → option_and_then (line_pulled x) found

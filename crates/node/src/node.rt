@@ -202,6 +202,9 @@ impl Node {
     pub fn line_after_tick(&self, me: u8) -> Option<u8>
         ensures { result ≡ line_pulled me (with_watch_changed watching.after_tick self.now) }
     {
+        if self.watch.misses_none() {
+            return None;
+        }
         let mut later = self.watch;
         later.tick();
         first_held(&later, me)

@@ -4,10 +4,16 @@ use Rattle.alive_regroup.specs.Watching.{Watching}
 use Rattle.packet_wires.specs.Lines.{first_held, line_pulled}
 use Rattle.packet_wires.specs.Nodes.{Node}
 use Rattle.node.specs.Calls.{with_watch_changed}
+use Rattle.node.proofs.Lines.{none-first}
 use Rattle.node.proofs.node.Node.line_after_tick.Goals as goal
 
 pub returns : goal.returns
 returns c =
     c.first_held.ensures
     ∙ ap (λ (watch : Watching). first_held c.args.me watch 0 16) c.tick.ensures.after
+    ∙ ap (λ (node : Node). line_pulled c.args.me (with_watch_changed watching.after_tick node)) c.self.view_is
+
+pub returns-then-misses_none : goal.returns-then-misses_none
+returns-then-misses_none c =
+    none-first c.args.me (watching.after_tick c.self.inside.watch) 0 16 c.if-misses_none.ensures.held
     ∙ ap (λ (node : Node). line_pulled c.args.me (with_watch_changed watching.after_tick node)) c.self.view_is
