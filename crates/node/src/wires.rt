@@ -1,5 +1,5 @@
-ghost use Rattle.std.specs.Prelude.{◌≡◌, ◌<◌, ◌≤◌, ◌==◌, ◌++◌, ◌∷◌, [], ℕ, Some, if◌then◌else◌, length, slice_get};
-ghost use Rattle.std.specs.Prelude.{IfOk, OnOk};
+ghost use Rattle.std.specs.Prelude.{◌≡◌, ◌<◌, ◌≤◌, ◌==◌, ◌++◌, ◌∷◌, [], ℕ, None, Some, length, slice_get};
+ghost use Rattle.std.specs.Prelude.{if◌then◌else◌, IfOk, OnOk};
 ghost use Rattle.std.specs.Bool.{OnTrue};
 ghost use Rattle.std.specs.Option.{option_and_then, option_copied};
 ghost use Rattle.packet_words.specs.declared.packet.Packet.{Packet};
@@ -183,8 +183,7 @@ impl PacketWires {
             self.old) }
     {
         if let Some((receiver, sender)) = self.alive_address(bus, position) {
-            let _heard = self.take(bus, position);
-            self.hear(receiver, sender);
+            self.hear_at(bus, position, receiver, sender);
             return Ok(None);
         }
         let Some(packet) = self.take(bus, position) else {
@@ -194,13 +193,25 @@ impl PacketWires {
         Ok(words)
     }
 
-    fn alive_address(&self, bus: BusName, position: usize) -> Option<(u8, u8)>
+    /// The receiver and the sender of the packet at a position of a bus, where it is an I'm-alive packet.
+    pub fn alive_address(&self, bus: BusName, position: usize) -> Option<(u8, u8)>
         ensures { result ≡ alive_address (slice_get (on_bus bus self.now) position) }
     {
         match bus {
             BusName::X => alive_address(self.x.get(position)),
             BusName::Y => alive_address(self.y.get(position)),
         }
+    }
+
+    /// The I'm-alive packet at a position of a bus, from this sender, is taken off and comes at its receiver. No message
+    /// is whole with it.
+    pub fn hear_at(&mut self, bus: BusName, position: usize, receiver: u8, sender: u8)
+        requires { alive_address (slice_get (on_bus bus self.old) position) ≡ Some (receiver, sender) }
+        ensures completed { completed_by (slice_get (on_bus bus self.old) position) self.old.nodes ≡ None }
+        ensures after { self.new ≡ delivered bus position (slice_get (on_bus bus self.old) position) self.old }
+    {
+        let _heard = self.take(bus, position);
+        self.hear(receiver, sender);
     }
 
     /// A packet comes at its receiver. It gives the message that is whole with it.
