@@ -63,6 +63,10 @@ impl ScheduleMachine for PlayedPairs {
         self.machine.event(event)
     }
 
+    fn deliver_at_once(&mut self, y: bool) -> bool {
+        false
+    }
+
     fn counts(&self, player: &Player, idle: bool) -> Counts {
         self.counted(idle)
     }
