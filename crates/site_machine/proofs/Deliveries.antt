@@ -6,7 +6,10 @@ use Rattle.world_semantics.proofs.Lists.{some-same}
 use Rattle.packet_words.specs.declared.bus_name.BusName.{BusName}
 use Rattle.packet_words.specs.declared.bus_name.BusName.TheVariants as bus
 use Rattle.packet_words.specs.declared.packet.Packet.{Packet}
+use Rattle.packet_words.specs.declared.packet.PacketKind.{PacketKind}
+use Rattle.packet_words.specs.declared.packet.PacketKind.TheVariants as kind
 use Rattle.world_semantics.specs.World.{is_running}
+use Rattle.node.specs.Calls.{address_if_alive, alive_address}
 use Rattle.machine_states.specs.States.{Settles}
 use Rattle.machine_states.specs.declared.effect.Effect.TheVariants as effect
 use Rattle.packet_wires.specs.Nodes.{end_at}
@@ -18,6 +21,18 @@ use Rattle.event_parts.proofs.Numbers.{can-arrived}
 use Rattle.site_machine.specs.Needs.{CanHand, HaveNumbersLeft, IsReady}
 use Rattle.site_machine.specs.Told.{after_part}
 use Rattle.site_machine.proofs.Turns.{handed-in-turn}
+
+-- the receiver of an I'm-alive packet
+address-receiver : (packet : Packet) (sort : PacketKind) (receiver sender : ℕ)
+    → address_if_alive packet sort ≡ Some (receiver, sender) → Some receiver ≡ Some packet.receiver
+address-receiver packet kind.Alive receiver sender is = ap (option_map (λ (p : ℕ × ℕ). p.0)) (sym is)
+address-receiver packet (kind.Piece number piece) receiver sender is = absurd cc
+address-receiver packet (kind.Acknowledgement number) receiver sender is = absurd cc
+
+alive-receiver : (found : Option Packet) (receiver sender : ℕ) → alive_address found ≡ Some (receiver, sender)
+    → Some receiver ≡ option_map (λ (packet : Packet). packet.receiver) found
+alive-receiver None receiver sender is = absurd cc
+alive-receiver (Some packet) receiver sender is = address-receiver packet packet.kind receiver sender is
 
 module _ (name : BusName) (k : ℕ) (s : Packeted) where
   abbrev off : Wires
@@ -78,6 +93,20 @@ module _ (name : BusName) (k : ℕ) (s : Packeted) where
         ∙ sym (ap (λ (b : Bool). over off (if b then received name packet (begun s) else begun s))
         (ap (is_running s.world.stopped) (sym (some-same is)) ∙ runs)),
   )
+
+  -- an I'm-alive packet is all that comes with it
+  pub alive-comes : (found : Option Packet) (receiver sender : ℕ) (after : Packeted)
+      → alive_address found ≡ Some (receiver, sender) → is_running s.world.stopped receiver ≡ true
+      → completed_by found s.wires.nodes ≡ None → after ≡ record s { wires = delivered name k found s.wires }
+      → Settles (ended off (deliver_acted name (begun s) found)) s effect.Done after
+  alive-comes found receiver sender after is runs none came =
+      delivery-comes found receiver after after None (alive-receiver found receiver sender is) runs (sym none) came refl
+
+  pub alive-dropped : (found : Option Packet) (receiver sender : ℕ) (after : Packeted)
+      → alive_address found ≡ Some (receiver, sender) → is_running s.world.stopped receiver ≡ false
+      → after ≡ record s { wires = off } → Settles (ended off (deliver_acted name (begun s) found)) s effect.Done after
+  alive-dropped found receiver sender after is stops same =
+      delivery-dropped found receiver after (alive-receiver found receiver sender is) stops same
 
   arrives : (of : BusName) (packet : Packet) → HaveNumbersLeft s.wires.nodes → CanPush s.wires.nodes
       → CanPush (arrived of packet (nothing_sent (without_packet of k s.wires).nodes)).nodes

@@ -1,9 +1,12 @@
-ghost use Rattle.std.specs.Prelude.{◌≡◌, slice_get, IfOk, OnOk};
+ghost use Rattle.std.specs.Prelude.{◌≡◌, is_some, slice_get, IfOk, OnOk, Some};
+ghost use Rattle.std.specs.Bool.{OnFalse, OnTrue};
 ghost use Rattle.std.specs.Option.{option_map};
 ghost use Rattle.schedule.specs.declared.event.Event.TheVariants as event;
 ghost use Rattle.machine_states.specs.States.{Settles};
-ghost use Rattle.packet_wires.specs.Play.{play};
-ghost use Rattle.packet_wires.specs.Wires.{bus_named, on_bus};
+ghost use Rattle.machine_states.specs.declared.effect.Effect.TheVariants as effects;
+ghost use Rattle.node.specs.Calls.{alive_address};
+ghost use Rattle.packet_wires.specs.Play.{begun, deliver_acted, ended, play};
+ghost use Rattle.packet_wires.specs.Wires.{bus_named, on_bus, without_packet};
 ghost use Rattle.event_parts.specs.Parts.{completed_by, delivered};
 ghost use Rattle.site_machine.specs.Needs.{HaveNumbersLeft, IsReady};
 
@@ -39,6 +42,60 @@ impl MachineParts {
                 Ok(Effect::Done)
             }
         }
+    }
+
+    /// The first packet of a bus is delivered, if it is an I'm-alive packet. Answers whether it was.
+    pub(crate) fn deliver_at_once(&mut self, y: bool) -> bool
+        ensures alive { result ≡ is_some (alive_address (slice_get (on_bus (bus_named y) self.old.wires) 0)) }
+        ensures done { OnTrue result (Settles (play self.old (event.Deliver y 0)) self.old effects.Done self.new) }
+        ensures same { OnFalse result (self.new ≡ self.old) }
+    {
+        let bus = bus_named(y);
+        match self.alive_first(bus) {
+            None => false,
+            Some((receiver, sender)) => {
+                self.deliver_alive(bus, receiver, sender);
+                true
+            }
+        }
+    }
+
+    /// The receiver and the sender of the first packet of a bus, where it is an I'm-alive packet.
+    fn alive_first(&self, bus: BusName) -> Option<(u8, u8)>
+        ensures { result ≡ alive_address (slice_get (on_bus bus self.now.wires) 0) }
+    {
+        self.wires.alive_address(bus, 0)
+    }
+
+    /// The first packet of a bus, an I'm-alive packet from this sender, comes at its receiver, where that runs.
+    fn deliver_alive(&mut self, bus: BusName, receiver: u8, sender: u8)
+        requires { alive_address (slice_get (on_bus bus self.old.wires) 0) ≡ Some (receiver, sender) }
+        ensures { Settles (ended (without_packet bus 0 self.old.wires)
+            (deliver_acted bus (begun self.old) (slice_get (on_bus bus self.old.wires) 0))) self.old effects.Done
+            self.new }
+    {
+        if self.world.is_running(receiver) {
+            self.hear_first(bus, receiver, sender);
+        } else {
+            self.drop_first(bus);
+        }
+    }
+
+    /// The first packet of a bus, an I'm-alive packet from this sender, comes at its receiver.
+    fn hear_first(&mut self, bus: BusName, receiver: u8, sender: u8)
+        requires { alive_address (slice_get (on_bus bus self.old.wires) 0) ≡ Some (receiver, sender) }
+        ensures completed { completed_by (slice_get (on_bus bus self.old.wires) 0) self.old.wires.nodes ≡ None }
+        ensures after { self.new ≡ record self.old
+            { wires = delivered bus 0 (slice_get (on_bus bus self.old.wires) 0) self.old.wires } }
+    {
+        self.wires.hear_at(bus, 0, receiver, sender);
+    }
+
+    /// The first packet of a bus is taken off, and comes to nobody.
+    fn drop_first(&mut self, bus: BusName)
+        ensures { self.new ≡ record self.old { wires = without_packet bus 0 self.old.wires } }
+    {
+        let _lost = self.wires.take(bus, 0);
     }
 
     /// The receiver of the packet at a position of a bus.

@@ -1,7 +1,11 @@
-ghost use Rattle.std.specs.Prelude.{◌≡◌, ◌≤◌, false, true, length, reverse, IfOk, OnOk, OnErr};
+ghost use Rattle.std.specs.Prelude.{◌≡◌, ◌≤◌, false, true, is_some, length, reverse, IfOk, OnOk, OnErr};
+ghost use Rattle.std.specs.Bool.{OnFalse, OnTrue};
 ghost use Rattle.std.specs.Option.{option_copied};
+ghost use Rattle.schedule.specs.declared.event.Event.TheVariants as events;
 ghost use Rattle.machine_states.specs.States.{Settles};
+ghost use Rattle.machine_states.specs.declared.effect.Effect.TheVariants as effects;
 ghost use Rattle.world_copies.specs.node_copies.specs.ShownCounts.{replies_in, writes_in};
+ghost use Rattle.node.specs.Calls.{alive_address};
 ghost use Rattle.packet_wires.specs.Idle.{is_idle};
 ghost use Rattle.packet_wires.specs.Play.{count_on, kind_at, packet_at, packeted_at_boot, play, sender_at};
 ghost use Rattle.packet_wires.specs.Wires.{bus_named};
@@ -76,6 +80,18 @@ impl Machine {
                 Err(error)
             }
         }
+    }
+
+    /// Delivers the first packet of bus X or, where `y` says so, of bus Y, if it is an I'm-alive packet; and answers
+    /// whether it was.
+    pub fn deliver_at_once(&mut self, y: bool) -> bool
+        ensures alive { result ≡ is_some (alive_address (packet_at self.old.state (bus_named y) 0)) }
+        ensures done { OnTrue result (Settles (play self.old.state (events.Deliver y 0)) self.old.state effects.Done
+            self.new.state) }
+        ensures same { OnFalse result (self.new ≡ self.old) }
+        ensures whole { self.new.is_broken ≡ self.old.is_broken }
+    {
+        self.whole.deliver_at_once(y)
     }
 
     /// How many packets are on bus X or, where `y` says so, on bus Y.
