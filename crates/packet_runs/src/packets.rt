@@ -58,6 +58,10 @@ impl ScheduleMachine for PlayedPackets {
         self.machine.event(event)
     }
 
+    fn deliver_at_once(&mut self, y: bool) -> bool {
+        self.machine.deliver_at_once(y)
+    }
+
     fn counts(&self, player: &Player, idle: bool) -> Counts {
         let x = self.machine.count(false) as u32;
         let y = self.machine.count(true) as u32;
