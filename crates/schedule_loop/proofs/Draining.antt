@@ -20,9 +20,10 @@ use Rattle.player.specs.Rounds.{delivers_y, next_turn, ticks, turn}
 use Rattle.agendas.specs.Agendas.{Plan, coming, stopped_by}
 use Rattle.machine_states.specs.States.{Makes, Played, Settles, Skips, State, WouldStop}
 use Rattle.machine_states.specs.declared.effect.Effect.TheVariants as effect
-use Rattle.schedule_loop.specs.Ends.{Course, IsPlaying}
+use Rattle.schedule_loop.specs.Ends.{Course}
 use Rattle.schedule_loop.specs.Looks.{asks_packet}
 use Rattle.schedule_loop.specs.Plans.{planned_seen}
+use Rattle.schedule_loop.specs.Playing.{IsPlaying}
 use Rattle.schedule_loop.specs.Rules.{Rules, sight_of}
 use Rattle.schedule_loop.specs.Seen.{IsDraining, Scheduled, event_in, with_left}
 use Rattle.schedule_loop.proofs.Playing.{Coming, goes_on}

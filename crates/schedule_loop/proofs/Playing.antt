@@ -7,9 +7,10 @@ use Rattle.schedule.specs.declared.event.Event.{Event}
 use Rattle.player.specs.declared.standing.Sizes.{Sizes}
 use Rattle.agendas.specs.Agendas.{Agenda, Plan, agenda_of}
 use Rattle.machine_states.specs.States.{State, WouldStop}
-use Rattle.schedule_loop.specs.Ends.{CanBePlayed, Course, EndsBy, IsEndBy, IsPlaying, IsRunOn, IsTriedBy, Plays}
-use Rattle.schedule_loop.specs.Ends.{RunsOutBy, RunsToStopBy, planned_in}
+use Rattle.schedule_loop.specs.Ends.{CanBePlayed, Course, EndsBy, IsEndBy, IsRunOn, IsTriedBy, Plays, RunsOutBy}
+use Rattle.schedule_loop.specs.Ends.{RunsToStopBy, planned_in}
 use Rattle.schedule_loop.specs.Plans.{seen_none, seen_on}
+use Rattle.schedule_loop.specs.Playing.{IsPlaying}
 use Rattle.schedule_loop.specs.Rules.{Rules}
 use Rattle.schedule_loop.specs.Seen.{Scheduled, event_in}
 use Rattle.schedule_loop.specs.declared.ran.Ending.{Ending}

@@ -8,7 +8,6 @@ use Rattle.agendas.specs.Agendas.{Agenda, Plan}
 use Rattle.machine_states.specs.States.{State, WouldStop}
 use Rattle.schedule_loop.specs.Plans.{upcoming_seen}
 use Rattle.schedule_loop.specs.Rules.{IsPlayBy, PlaysBy, Rules, sight_of}
-use Rattle.schedule_loop.specs.Seen.{Scheduled}
 use Rattle.schedule_loop.specs.declared.ran.Ending.{Ending}
 use Rattle.schedule_loop.specs.declared.ran.Ending.TheVariants.{Idle, Cut, Second}
 
@@ -34,14 +33,6 @@ pub record CanBePlayed {Wires : Type 0} (rules : Rules Wires) (is_ready : State 
       → is_ready s
   pub few : (events : List Event) (agenda : Agenda) (s : State Wires) → Plays rules course events agenda s
       → length events < 4294967294
-
--- so many events of a schedule were played, and led to this state and to where the schedule stands
-pub record IsPlaying {Wires : Type 0} (rules : Rules Wires) (course : Course Wires) (schedule : Scheduled)
-    (s : State Wires) (played : ℕ) : Type 0 where
-  pub events : List Event
-  pub counted : length events ≡ played
-  pub plays : Plays rules course events schedule.agenda s
-  pub sizes : schedule.sizes ≡ course.sizes
 
 -- a run of a schedule played these events, with this state at its end: the schedule is over
 pub record RunsOutBy {Wires : Type 0} (rules : Rules Wires) (course : Course Wires) (events : List Event)

@@ -1,5 +1,6 @@
 pub mod Ends
 pub mod Looks
 pub mod Plans
+pub mod Playing
 pub mod Rules
 pub mod Seen

@@ -6,9 +6,10 @@ ghost use Rattle.machine_states.specs.States.{Settles};
 ghost use Rattle.machine_states.specs.declared.effect.Effect.TheVariants as effects;
 ghost use Rattle.player.specs.Lines.{begun, event_of, next_event, stands_after};
 ghost use Rattle.agendas.specs.Agendas.{agenda_of, coming, stopped_by};
-ghost use Rattle.schedule_loop.specs.Ends.{Course, IsPlaying};
+ghost use Rattle.schedule_loop.specs.Ends.{Course};
 ghost use Rattle.schedule_loop.specs.Looks.{asks_packet};
 ghost use Rattle.schedule_loop.specs.Plans.{next_seen, planned_seen, upcoming_seen};
+ghost use Rattle.schedule_loop.specs.Playing.{IsPlaying};
 ghost use Rattle.schedule_loop.specs.Rules.{sight_of};
 ghost use Rattle.schedule_loop.specs.Seen.{IsBegun, IsDraining, event_in, player_at, with_left};
 

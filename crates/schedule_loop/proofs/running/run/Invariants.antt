@@ -1,5 +1,5 @@
 use Rattle.std.proofs.Common.{◌≡◌, false, ◌<◌, ◌-◌}
-use Rattle.schedule_loop.specs.Ends.{IsPlaying}
+use Rattle.schedule_loop.specs.Playing.{IsPlaying}
 use Rattle.schedule_loop.proofs.running.run.Given as goal
 
 abbrev pub invariant-loop-event : goal.invariant-loop-event

@@ -1,6 +1,6 @@
 use Rattle.std.proofs.Common.{◌≡◌, ◌∙◌, ◌+◌, ◌-◌, ap, subst, sym}
 use Rattle.player.specs.declared.player.Player.{Player}
-use Rattle.schedule_loop.specs.Ends.{IsPlaying}
+use Rattle.schedule_loop.specs.Playing.{IsPlaying}
 use Rattle.schedule_loop.specs.Looks.{asks_packet}
 use Rattle.schedule_loop.specs.Seen.{Scheduled, with_left}
 use Rattle.schedule_loop.proofs.Draining.{looks-as-before}

@@ -1,5 +1,5 @@
 use Rattle.std.proofs.Common.{◌∙◌, arith, refl, subst, sym}
-use Rattle.schedule_loop.specs.Ends.{IsPlaying}
+use Rattle.schedule_loop.specs.Playing.{IsPlaying}
 use Rattle.schedule_loop.specs.Seen.{Scheduled}
 use Rattle.schedule_loop.proofs.Draining.{at-first, one-more}
 use Rattle.schedule_loop.proofs.agenda.Schedule.left_behind.Goals as goal
