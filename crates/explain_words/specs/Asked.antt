@@ -1,19 +1,34 @@
 -- What the words of a command line of `explain` ask for. Our own rule.
-use Rattle.std.specs.Prelude.{◌≡◌, List, [], ◌∷◌, Option, Some, None, option_and_then, codes, if◌then◌else◌}
+use Rattle.std.specs.Prelude.{◌≡◌, ℕ, List, [], ◌∷◌, Option, Some, None, option_and_then, option_map, codes}
+use Rattle.std.specs.Prelude.{if◌then◌else◌}
 use Rattle.std.specs.Str.{bytes_eq}
 use Rattle.clap.specs.Words.{IsAmong, Kinds, Row, Text, fault_of, first_of, matches_of}
 use Rattle.clap.specs.declared.error.kind.ErrorKind.{ErrorKind}
 use Rattle.clap.specs.declared.error.kind.ErrorKind.TheVariants as kind
+use Rattle.command_words.specs.Asked.{stop_of}
 use Rattle.explain_words.specs.Line.{the_line}
 use Rattle.explain_words.specs.declared.asked.Question.{Question}
-use Rattle.explain_words.specs.declared.asked.Question.TheVariants.{Why, Help, Version}
+use Rattle.explain_words.specs.declared.asked.Question.TheVariants.{Why, Left, Help, Version}
 
-abbrev pub question_as : Text → Option Question
-question_as mode = if bytes_eq mode (codes "why") then Some Why else None
+-- `why` takes no stop
+abbrev pub why_as : Option Text → Option Question
+why_as None = Some Why
+why_as (Some fail) = None
+
+-- `left` takes one, `P:K`
+abbrev pub left_as : Option Text → Option Question
+left_as None = Some (Left None)
+left_as (Some fail) = option_map (λ stop. Left (Some stop)) (stop_of fail)
+
+-- what a mode asks for with this value of `--fail`
+abbrev pub question_as : Text → Option Text → Option Question
+question_as mode fail =
+    if bytes_eq mode (codes "why") then why_as fail else if bytes_eq mode (codes "left") then left_as fail else None
 
 -- what the parts that clap tells apart ask for
 abbrev pub question_in : List Row → Option Question
-question_in rows = option_and_then question_as (first_of (codes "mode") rows)
+question_in rows =
+    option_and_then (λ mode. question_as mode (first_of (codes "fail") rows)) (first_of (codes "mode") rows)
 
 -- what words ask for that clap refuses for this
 abbrev pub kind_question : ErrorKind → Option Question
@@ -45,3 +60,7 @@ IsAskedAfter words question = IsAsked (codes "explain" ∷ words) question
 
 abbrev pub IsFileAfter : List Text → Option Text → Type 0
 IsFileAfter words file = IsFileAsked (codes "explain" ∷ words) file
+
+-- `left` with a stop of this processor after so many events
+abbrev pub left_with_stop : ℕ → ℕ → Question
+left_with_stop processor after = Left (Some (record { processor = processor; after = after }))

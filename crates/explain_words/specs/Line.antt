@@ -15,16 +15,22 @@ mode_rule = record (new_rule (codes "mode")) { required = true; action = Some Se
 abbrev pub file_rule : Rule
 file_rule = record (new_rule (codes "file")) { action = Some Set }
 
+-- `--fail`, a flag with one value, for which `--help` has one name
+abbrev pub fail_rule : Rule
+fail_rule =
+    record (new_rule (codes "fail")) { long = Some (codes "fail"); action = Some Set; value_names = 1 }
+
 -- a program that has a version, which `--version` asks for
 abbrev pub versioned : App → App
 versioned app = record app { top = record app.top { has_version = true } }
 
 abbrev pub the_line : App
-the_line = with_rule (with_rule (versioned (new_app (codes "explain"))) mode_rule) file_rule
+the_line = with_rule (with_rule (with_rule (versioned (new_app (codes "explain"))) mode_rule) file_rule) fail_rule
 
 -- what clap makes of the words, the program's name first: it takes them, or refuses them for one of these kinds
 abbrev pub IsParse : List Text → Parse → Type 0
-IsParse words (Words matches) = (fault_of the_line words ≡ []) × (rows_of (found_of matches) ≡ matches_of the_line words)
+IsParse words (Words matches) =
+    (fault_of the_line words ≡ []) × (rows_of (found_of matches) ≡ matches_of the_line words)
 IsParse words (Refused kind) = IsAmong kind (fault_of the_line words)
 
 abbrev pub IsRefusedFor : ErrorKind → Parse → Type 0

@@ -1,11 +1,14 @@
 ghost use Rattle.std.specs.Prelude.{◌≡◌, IfOk, map, option_map, string_bytes};
 ghost use Rattle.clap.specs.Words.{found_of, rows_of};
-ghost use Rattle.explain_words.specs.Asked.{IsAsked, IsFileAsked, kind_question, question_as, question_in};
+ghost use Rattle.explain_words.specs.Asked.{IsAsked, IsFileAsked, kind_question, left_as, question_as, question_in};
+ghost use Rattle.explain_words.specs.Asked.{why_as};
 
 use crate::line::{Parse, parsed, text_of};
 use clap::ArgMatches;
 use clap::error::ErrorKind;
+use command_words::stop_of;
 use gd_words::NoMemory;
+use player::ProcessorStop;
 use std::alloc::Global;
 
 /// What is to be told.
@@ -13,6 +16,8 @@ use std::alloc::Global;
 pub enum Question {
     /// Of a deck, why it can't be read, or why its programs are refused.
     Why,
+    /// Of a deck, what is left once it was run, with this stop of a processor where there is one.
+    Left(Option<ProcessorStop>),
     /// What the program does and which words it takes.
     Help,
     /// The program's version.
@@ -46,15 +51,38 @@ fn question_in(matches: &ArgMatches) -> Option<Question>
     ensures { result ≡ question_in (rows_of (found_of matches.now)) }
 {
     let mode = text_of(matches, "mode")?;
-    question_as(mode)
+    let fail = text_of(matches, "fail");
+    question_as(mode, fail)
 }
 
-fn question_as(mode: &str) -> Option<Question>
-    ensures { result ≡ question_as mode.now }
+fn question_as(mode: &str, fail: Option<&str>) -> Option<Question>
+    ensures { result ≡ question_as mode.now (option_map (λ text. text.now) fail.entry) }
 {
     match mode {
-        "why" => Some(Question::Why),
+        "why" => why_as(fail),
+        "left" => left_as(fail),
         _ => None,
+    }
+}
+
+fn why_as(fail: Option<&str>) -> Option<Question>
+    ensures { result ≡ why_as (option_map (λ text. text.now) fail.entry) }
+{
+    match fail {
+        None => Some(Question::Why),
+        Some(_) => None,
+    }
+}
+
+fn left_as(fail: Option<&str>) -> Option<Question>
+    ensures { result ≡ left_as (option_map (λ text. text.now) fail.entry) }
+{
+    match fail {
+        None => Some(Question::Left(None)),
+        Some(fail) => {
+            let stop = stop_of(fail)?;
+            Some(Question::Left(Some(stop)))
+        }
     }
 }
 

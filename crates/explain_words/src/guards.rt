@@ -1,7 +1,7 @@
 ghost use Rattle.std.specs.Prelude.{◌≡◌, [], ◌∷◌, Option, Some, None, codes};
-ghost use Rattle.explain_words.specs.Asked.{IsAsked, IsAskedAfter, IsFileAfter};
+ghost use Rattle.explain_words.specs.Asked.{IsAsked, IsAskedAfter, IsFileAfter, left_with_stop};
 ghost use Rattle.explain_words.specs.declared.asked.Question.{Question};
-ghost use Rattle.explain_words.specs.declared.asked.Question.TheVariants.{Why};
+ghost use Rattle.explain_words.specs.declared.asked.Question.TheVariants.{Why, Left};
 
 /// `why`, alone or with a file, before `--` or after it.
 pub fn why_is_asked_for()
@@ -11,11 +11,32 @@ pub fn why_is_asked_for()
     ensures file { IsAskedAfter (codes "why" ∷ codes "a.deck" ∷ []) (Some Why) }
 {}
 
+/// `left`, alone or with a file, and with a stop on either side of the file. One stop is `P:K`, and `why` takes none.
+pub fn left_is_asked_for()
+    ensures alone { IsAskedAfter (codes "left" ∷ []) (Some (Left None)) }
+    ensures file { IsAskedAfter (codes "left" ∷ codes "a.deck" ∷ []) (Some (Left None)) }
+    ensures fail { IsAskedAfter (codes "left" ∷ codes "--fail" ∷ codes "1:7" ∷ []) (Some (left_with_stop 1 7)) }
+    ensures before { IsAskedAfter (codes "left" ∷ codes "--fail=1:7" ∷ codes "a.deck" ∷ [])
+        (Some (left_with_stop 1 7)) }
+    ensures behind { IsAskedAfter (codes "left" ∷ codes "a.deck" ∷ codes "--fail" ∷ codes "0:12" ∷ [])
+        (Some (left_with_stop 0 12)) }
+    ensures colon { IsAskedAfter (codes "left" ∷ codes "--fail" ∷ codes "1" ∷ []) None }
+    ensures above { IsAskedAfter (codes "left" ∷ codes "--fail" ∷ codes "16:7" ∷ []) None }
+    ensures why { IsAskedAfter (codes "why" ∷ codes "--fail" ∷ codes "1:7" ∷ []) None }
+    ensures longer { IsAskedAfter (codes "lefts" ∷ []) None }
+    ensures no_value { (question : Option Question) → IsAskedAfter (codes "left" ∷ codes "--fail" ∷ []) question
+        → question ≡ None }
+    ensures twice { (question : Option Question)
+        → IsAskedAfter (codes "left" ∷ codes "--fail=1:7" ∷ codes "--fail=1:7" ∷ []) question → question ≡ None }
+{}
+
 /// The second word is the file.
 pub fn the_file_is_asked_of()
     ensures named { IsFileAfter (codes "why" ∷ codes "a.deck" ∷ []) (Some (codes "a.deck")) }
     ensures none { IsFileAfter (codes "why" ∷ []) None }
     ensures third { IsFileAfter (codes "why" ∷ codes "a" ∷ codes "b" ∷ []) None }
+    ensures behind_stop { IsFileAfter (codes "left" ∷ codes "--fail" ∷ codes "1:7" ∷ codes "a.deck" ∷ [])
+        (Some (codes "a.deck")) }
 {}
 
 /// One mode is wanted, and no other.

@@ -1,8 +1,8 @@
 //! What the words of a command line of `explain` ask for.
 //!
-//! Below stand `clap`, which tells the words of one simple command apart, and `gd_words` with `NoMemory`. The layer
-//! above uses the clauses of `asked_by` and `file_asked`: what the words ask for and of which file, by what clap makes of
-//! them. `guards` says what that is at telling words.
+//! Below stand `clap`, which tells the words of one simple command apart, `command_words` with what `P:K` names, and
+//! `player` with the stop of a processor. The layer above uses the clauses of `asked_by` and `file_asked`: what the
+//! words ask for and of which file, by what clap makes of them. `guards` says what that is at telling words.
 #![tactic(auto)]
 
 pub mod asked;

@@ -1,6 +1,6 @@
-ghost use Rattle.std.specs.Prelude.{◌≡◌, ◌≢◌, IfOk, map, option_map, string_bytes};
-ghost use Rattle.clap.specs.Words.{FailsBy, HasMatchesOf, app_of, fault_of, first_of, found_of, rows_of};
-ghost use Rattle.explain_words.specs.Line.{IsParse, IsRefusedFor, the_line};
+ghost use Rattle.std.specs.Prelude.{◌≡◌, ◌≢◌, false, IfOk, map, option_map, string_bytes};
+ghost use Rattle.clap.specs.Words.{FailsBy, HasMatchesOf, app_of, fault_of, first_of, found_of, rows_of, rule_of};
+ghost use Rattle.explain_words.specs.Line.{IsParse, IsRefusedFor, fail_rule, file_rule, mode_rule, the_line};
 
 use clap::error::ErrorKind;
 use clap::{Arg, ArgAction, ArgMatches, Command, Error};
@@ -15,21 +15,48 @@ pub enum Parse<'a> {
     Refused(ErrorKind),
 }
 
+fn mode_argument<'a>(alloc: Global) -> Arg<'a>
+    ensures rule { rule_of result ≡ mode_rule }
+    ensures local { result.global ≡ false }
+{
+    Arg::new(alloc, "mode")
+        .required(true)
+        .action(ArgAction::Set)
+        .help(
+            "why: tells why a deck can't be read, or why its programs are refused; left: runs a deck and tells what is left",
+        )
+}
+
+fn file_argument<'a>(alloc: Global) -> Arg<'a>
+    ensures rule { rule_of result ≡ file_rule }
+    ensures local { result.global ≡ false }
+{
+    Arg::new(alloc, "file").action(ArgAction::Set).help(
+        "The file with the deck; without it the deck is read from standard input",
+    )
+}
+
+fn fail_argument<'a>(alloc: Global) -> Arg<'a>
+    ensures rule { rule_of result ≡ fail_rule }
+    ensures local { result.global ≡ false }
+{
+    Arg::new(alloc, "fail")
+        .long("fail")
+        .action(ArgAction::Set)
+        .value_name("P:K")
+        .help("Of left: stops processor P just before the event that K events precede")
+}
+
 /// The words that a command line may have, as one simple command.
 fn the_line<'a>(alloc: Global) -> Result<Command<'a>, AllocError>
     ensures { IfOk result (λ line. app_of line ≡ the_line) }
 {
-    let mode = Arg::new(alloc, "mode")
-        .required(true)
-        .action(ArgAction::Set)
-        .help("why: tells why a deck can't be read, or why its programs are refused");
-    let file = Arg::new(alloc, "file").action(ArgAction::Set).help(
-        "The file with the deck; without it the deck is read from standard input",
-    );
-    let line = Command::new(alloc, "explain")
+    Command::new(alloc, "explain")
         .about("Tells of a deck in words")
-        .version("1");
-    line.arg(mode)?.arg(file)
+        .version("1")
+        .arg(mode_argument(alloc))?
+        .arg(file_argument(alloc))?
+        .arg(fail_argument(alloc))
 }
 
 fn matches_of<'a>(alloc: Global, words: &'a [String]) -> Result<ArgMatches<'a>, Error>

@@ -13,3 +13,7 @@ returns-clause-none c = refl
 pub returns-clause-third : goal.returns-clause-third
 unfolding clap_on_literals
 returns-clause-third c = refl
+
+pub returns-clause-behind_stop : goal.returns-clause-behind_stop
+unfolding clap_on_literals
+returns-clause-behind_stop c = refl
