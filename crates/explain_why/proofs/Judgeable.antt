@@ -1,6 +1,6 @@
 -- What some text reads as can be judged.
 use Rattle.std.proofs.Common.{◌≡◌, ℕ, List, slice_get, Some, refl}
-use Rattle.std.specs.List.{All, slice_index_or}
+use Rattle.std.specs.List.{slice_index_or}
 use Rattle.std.proofs.lemmas.Option.{slice_get-get_or}
 use Rattle.tal_laws.proofs.Ordered.{read_is_ordered}
 use Rattle.tal_laws.proofs.Regular.{read_is_regular}

@@ -1,2 +1,2 @@
-pub mod DecidedLemmas
+mod Accepted
 mod Judgeable

@@ -1,3 +1,1 @@
-pub mod Decided
-pub mod Ends
-pub mod Written
+pub mod Judged

@@ -1,16 +1,12 @@
-//! Tells why a deck can't be read, or why its programs are refused: a source in, a text to a sink, and the number out
-//! with which the program ends.
+//! What is told of the programs of a deck that can be read: why they are refused, or what their CHECKPOINTs send.
 //!
-//! Below stand `deck_reader`, `fault_text` and `finding_text` with what is told, `pair_findings` with what is found of
-//! programs, and `gd_io`. `why` decides first: it reads, judges and takes all memory that is needed; only then it
-//! writes.
+//! Below stand `pair_findings` with what is found of programs, and `finding_text` with how it is told. The layer above
+//! uses `judged_deck`, whose answer is `IsJudgedDeck` of `specs/Judged.antt`, and the law that programs which aren't
+//! refused are accepted.
 #![tactic(auto)]
 
-mod decide;
-pub mod due;
-pub mod entry;
+pub mod judged;
 pub mod laws;
-pub mod status;
 
-pub use entry::{why, why_number};
-pub use status::Status;
+pub use judged::{JudgedDeck, judged_deck};
+pub use laws::{programs_of_a_deck_can_be_judged, unrefused_programs_are_accepted};
