@@ -1,0 +1,51 @@
+ghost use Rattle.std.specs.Prelude.{◌≤◌, length, IfOk};
+ghost use Rattle.deck_reader.specs.Decks.{Decks};
+ghost use Rattle.left_runs.specs.LeftRuns.{IsSpelt};
+ghost use Rattle.verdicts.specs.Refused.{AreAccepted};
+ghost use Rattle.explain_left.specs.Left.{IsLeftDeck, IsOfRun};
+
+use deck_reader::Deck;
+use explain_why::{
+    JudgedDeck, judged_deck, programs_of_a_deck_can_be_judged, unrefused_programs_are_accepted,
+};
+use gd_words::NoMemory;
+use left_runs::left_after;
+use player::ProcessorStop;
+use std::alloc::Global;
+
+/// Where a program of the deck is refused, what is told of its programs. Else the deck is run, with a stop of a
+/// processor where one is given, and what is left is told.
+pub fn left_deck(
+    alloc: Global,
+    bytes: &[u8],
+    deck: Deck,
+    stop: Option<ProcessorStop>,
+) -> Result<JudgedDeck, NoMemory>
+    requires spelt { Decks bytes.now deck }
+    requires few { length bytes.now ≤ 1048576 }
+    ensures { IfOk result (λ judged. IsLeftDeck bytes.now deck stop judged) }
+{
+    programs_of_a_deck_can_be_judged();
+    unrefused_programs_are_accepted();
+    let judged = judged_deck(alloc, bytes, deck.site.processes.as_slice())?;
+    if judged.refused {
+        return Ok(judged);
+    }
+    left_of_run(alloc, deck, stop)
+}
+
+fn left_of_run(
+    alloc: Global,
+    deck: Deck,
+    stop: Option<ProcessorStop>,
+) -> Result<JudgedDeck, NoMemory>
+    requires spelt { IsSpelt deck }
+    requires accepted { AreAccepted deck.site.processes }
+    ensures { IfOk result (λ judged. IsOfRun deck stop judged) }
+{
+    let told = left_after(alloc, deck, stop)?;
+    Ok(JudgedDeck {
+        refused: false,
+        told,
+    })
+}
