@@ -1,0 +1,22 @@
+use explain_left::explain_why::JudgedDeck;
+use gd_words::{List, NoMemory};
+use tal_tree::DeckFault;
+
+/// What is due once all is decided and nothing is written yet.
+#[derive(Drop)]
+pub enum Due {
+    /// The bytes are a deck, and it is told of its programs or its run.
+    Judged(JudgedDeck),
+    /// The bytes are a deck that doesn't have the processor which is to stop.
+    NoProcessor,
+    Refused(RefusedDeck),
+    ReadFault,
+    NoMemory(NoMemory),
+}
+
+/// The fault for which a deck is refused, and what is told of it before the line that `guardian` writes.
+#[derive(Drop)]
+pub struct RefusedDeck {
+    pub fault: DeckFault,
+    pub told: List<u8>,
+}

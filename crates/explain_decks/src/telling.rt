@@ -1,0 +1,10 @@
+use player::ProcessorStop;
+
+/// What is to be told of a deck.
+#[derive(Clone, Copy, PartialEq, Eq)]
+pub enum Telling {
+    /// Why its programs are refused, or what their CHECKPOINTs send.
+    Why,
+    /// What is left once it was run, with a stop of a processor where one is given.
+    Left(Option<ProcessorStop>),
+}
