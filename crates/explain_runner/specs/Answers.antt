@@ -1,11 +1,13 @@
 -- How a call of `explain` ends.
 use Rattle.std.specs.Prelude.{◌≡◌, ◌⊎◌, ℕ, List, ◌∷◌, [], ◌++◌, codes, Option, Some, None, Result, Ok, Err, ⊤}
-use Rattle.explain_why.specs.Ends.{WhyEnds}
-use Rattle.explain_why.specs.Written.{status_number}
-use Rattle.explain_why.specs.declared.status.Status.{Status}
+use Rattle.explain_decks.specs.Ends.{TellEnds}
+use Rattle.explain_decks.specs.Written.{status_number}
+use Rattle.explain_decks.specs.declared.status.Status.{Status}
+use Rattle.explain_decks.specs.declared.telling.Telling.{Telling}
+use Rattle.explain_decks.specs.declared.telling.Telling.TheVariants as telling
 use Rattle.explain_words.specs.Asked.{IsAsked}
 use Rattle.explain_words.specs.declared.asked.Question.{Question}
-use Rattle.explain_words.specs.declared.asked.Question.TheVariants.{Why, Help, Version}
+use Rattle.explain_words.specs.declared.asked.Question.TheVariants.{Why, Left, Help, Version}
 use Rattle.explain_runner.specs.declared.ending.Ending.{Ending}
 use Rattle.explain_runner.specs.declared.ending.Ending.TheVariants as ending
 use Rattle.gd_words.specs.declared.memory.NoMemory.{NoMemory}
@@ -13,7 +15,8 @@ use Rattle.gd_io.specs.Puts.{Puts}
 use Rattle.gd_io.specs.declared.writing.WriteFault.{WriteFault}
 
 abbrev pub usage_line : List ℕ
-usage_line = codes "usage: explain why [FILE]" ++ 10 ∷ []
+usage_line =
+    codes "usage: explain why [FILE]" ++ 10 ∷ [] ++ codes "       explain left [--fail P:K] [FILE]" ++ 10 ∷ []
 
 -- how a call ends that writes the usage, by whether it went out whole
 abbrev pub usage_ending : Result ⊤ WriteFault → Ending
@@ -52,14 +55,22 @@ IsShown held faults sure sink sink_now how =
 
 module _ {S K : Type 0} (left : S → Option (List ℕ)) (failed_reads : S → ℕ) (sure_to_read : S → Type 0)
     (held : K → Option (List ℕ)) (failed_writes : K → ℕ) (sure_to_write : K → ℕ → Type 0) where
-  -- what is asked for is answered: of a deck, or of the program; and words that ask for nothing by the usage, which leaves the source
+  -- it is told of the deck
+  abbrev pub IsTold : Telling → S → S → K → K → Ending → Type 0
+  IsTold what source source_now sink sink_now how =
+      (status : Status)
+      × TellEnds left failed_reads sure_to_read held failed_writes sure_to_write what source source_now sink sink_now
+      status
+      × (how ≡ ending.Told status)
+
+  -- what is asked for is answered: of a deck, or of the program; and words that ask for nothing by the usage, which
+  -- leaves the source
   abbrev pub IsAnswer : Option Question → S → S → K → K → Ending → Type 0
   IsAnswer None source source_now sink sink_now how =
       (source_now ≡ source) × IsUsage held failed_writes sure_to_write sink sink_now how
-  IsAnswer (Some Why) source source_now sink sink_now how =
-      (status : Status)
-      × WhyEnds left failed_reads sure_to_read held failed_writes sure_to_write source source_now sink sink_now status
-      × (how ≡ ending.Told status)
+  IsAnswer (Some Why) source source_now sink sink_now how = IsTold telling.Why source source_now sink sink_now how
+  IsAnswer (Some (Left stop)) source source_now sink sink_now how =
+      IsTold (telling.Left stop) source source_now sink sink_now how
   IsAnswer (Some Help) source source_now sink sink_now how =
       (source_now ≡ source) × IsShown held failed_writes sure_to_write sink sink_now how
   IsAnswer (Some Version) source source_now sink sink_now how =

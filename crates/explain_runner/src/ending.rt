@@ -1,7 +1,7 @@
 ghost use Rattle.std.specs.Prelude.{◌≡◌};
 ghost use Rattle.explain_runner.specs.Answers.{ending_number};
 
-use explain_why::Status;
+use explain_decks::Status;
 use gd_words::NoMemory;
 
 /// How a call of `explain` ended.

@@ -3,7 +3,7 @@ ghost use Rattle.explain_runner.specs.Answers.{Answers, IsShown, IsUsage, IsWrit
 ghost use Rattle.explain_runner.specs.declared.ending.Ending.{Ending};
 
 use crate::ending::Ending;
-use explain_why::why;
+use explain_decks::{Telling, tell};
 use explain_words::{Question, asked_by, help_text, version_text};
 use gd_io::{Sink, Source, WriteFault, put_all};
 use gd_words::NoMemory;
@@ -25,7 +25,8 @@ pub fn exit_number<S: Source, K: Sink>(
 }
 
 /// Does what the words ask for, the program's name first. `why` tells why the deck of the source can't be read, or why
-/// its programs are refused. `--help` and `--version` write what they ask for, and other words give the usage.
+/// its programs are refused, and `left` what is left once it was run. `--help` and `--version` write what they ask for,
+/// and other words give the usage.
 pub fn explain<S: Source, K: Sink>(
     alloc: Global,
     words: &[String],
@@ -38,7 +39,10 @@ pub fn explain<S: Source, K: Sink>(
     match asked_by(alloc, words) {
         Err(memory) => Ending::NoMemory(memory),
         Ok(None) => write_usage(sink),
-        Ok(Some(Question::Why)) => Ending::Told(why(alloc, source, sink)),
+        Ok(Some(Question::Why)) => Ending::Told(tell(alloc, Telling::Why, source, sink)),
+        Ok(Some(Question::Left(stop))) => {
+            Ending::Told(tell(alloc, Telling::Left(stop), source, sink))
+        }
         Ok(Some(Question::Help)) => show(help_text(alloc), sink),
         Ok(Some(Question::Version)) => show(version_text(alloc), sink),
     }
@@ -47,7 +51,10 @@ pub fn explain<S: Source, K: Sink>(
 fn write_usage<K: Sink>(sink: &mut K) -> Ending
     ensures { IsUsage K.held K.faults K.sure sink.old sink.new result }
 {
-    match put_all(sink, b"usage: explain why [FILE]\n") {
+    match put_all(
+        sink,
+        b"usage: explain why [FILE]\n       explain left [--fail P:K] [FILE]\n",
+    ) {
         Ok(()) => Ending::Usage,
         Err(WriteFault) => Ending::UsageUnwritten,
     }

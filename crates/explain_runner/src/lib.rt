@@ -1,7 +1,7 @@
 //! The top call of `explain`: the words of a command line, a source and a sink in, and the number out with which the
 //! program ends.
 //!
-//! Below stand `explain_words`, which tells what the words ask for, `explain_why` and `gd_io`.
+//! Below stand `explain_words`, which tells what the words ask for, `explain_decks` and `gd_io`.
 #![tactic(auto)]
 
 pub mod ending;
