@@ -1,4 +1,4 @@
-use explain_why::why_number;
+use explain_decks::{Telling, tell_number};
 use gd_io::{MemorySink, MemorySource};
 use gd_words::List;
 use std::alloc::Global;
@@ -125,7 +125,7 @@ fn is_told(alloc: Global, row: &Row) -> Result<bool, Fail> {
     let deck = List::from_vec(Vec::from_slice(alloc, row.deck)?);
     let mut source = MemorySource::new(deck, List::new(alloc));
     let mut sink = MemorySink::new(alloc, 1000, List::new(alloc))?;
-    let number = why_number(alloc, &mut source, &mut sink);
+    let number = tell_number(alloc, Telling::Why, &mut source, &mut sink);
     Ok(number == row.number && sink.bytes() == row.told)
 }
 
