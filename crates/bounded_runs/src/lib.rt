@@ -6,8 +6,12 @@
 //! of these runs. The layer above has a run, and uses the laws.
 #![tactic(auto)]
 
+pub mod guards;
 pub mod laws;
 
+pub use guards::{
+    clear_stretches_join, drain_and_until_make_drain_rounds, what_is_not_played_changes_nothing,
+};
 pub use laws::{
     a_clear_run_of_a_calm_schedule_stops_nobody, a_drain_round_of_a_run_delivers_all,
     a_run_is_played_to_a_moment, six_clear_rounds_of_a_run_end_a_piece,
