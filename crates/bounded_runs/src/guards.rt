@@ -13,7 +13,7 @@ ghost use Rattle.packet_wires.specs.Play.{Packeted};
 ghost use Rattle.bounded_runs.specs.Moments.{AreClear, state_after};
 ghost use Rattle.bounded_runs.specs.Places.{is_in_drain_round};
 
-/// Drain rounds are those of the lines `drain` and `until`. Those of `mute` are none, nor are mixed ones; and a line that
+/// Drain rounds are those of the lines `drain` and `until`. Those of `mute` are none, nor are mixed ones. A line that
 /// asks for an event, or has ended, makes no round.
 pub fn drain_and_until_make_drain_rounds()
     ensures drain { (left : ℕ) (place : Place) → is_in_drain_round (standing.Rounds rule.Drain left place) ≡ true }
