@@ -39,7 +39,20 @@ fn push_before(statement: &Statement, lines: &mut List<u32>) -> Result<(), NoMem
 {
     match &statement.what {
         What::DoUntil { body, test: _ } => push_lines(body.as_slice(), lines),
-        _ => Ok(()),
+        What::Assign { .. }
+        | What::AssignCall { .. }
+        | What::If { .. }
+        | What::While { .. }
+        | What::For { .. }
+        | What::Call { .. }
+        | What::Return(_)
+        | What::ReadUpdate { .. }
+        | What::Reply { .. }
+        | What::WriteRead { .. }
+        | What::Checkpoint { .. }
+        | What::CheckMonitor
+        | What::Open(_)
+        | What::Stop => Ok(()),
     }
 }
 
@@ -67,7 +80,18 @@ fn push_within(statement: &Statement, lines: &mut List<u32>) -> Result<(), NoMem
             push_lines(body.as_slice(), lines)?;
             lines.push(statement.line)?;
         }
-        _ => {}
+        What::Assign { .. }
+        | What::AssignCall { .. }
+        | What::DoUntil { .. }
+        | What::Call { .. }
+        | What::Return(_)
+        | What::ReadUpdate { .. }
+        | What::Reply { .. }
+        | What::WriteRead { .. }
+        | What::Checkpoint { .. }
+        | What::CheckMonitor
+        | What::Open(_)
+        | What::Stop => {}
     }
     Ok(())
 }
