@@ -51,7 +51,20 @@ fn first_number(statement: &Statement) -> u16
 {
     match &statement.what {
         What::DoUntil { body, test: _ } => begins(body.as_slice(), statement.number),
-        _ => statement.number,
+        What::Assign { .. }
+        | What::AssignCall { .. }
+        | What::If { .. }
+        | What::While { .. }
+        | What::For { .. }
+        | What::Call { .. }
+        | What::Return(_)
+        | What::ReadUpdate { .. }
+        | What::Reply { .. }
+        | What::WriteRead { .. }
+        | What::Checkpoint { .. }
+        | What::CheckMonitor
+        | What::Open(_)
+        | What::Stop => statement.number,
     }
 }
 
@@ -72,7 +85,17 @@ fn put_statement(
         What::While { .. } => put_while(alloc, nodes, procedure, statement, after),
         What::For { .. } => put_for(alloc, nodes, procedure, statement, after),
         What::DoUntil { .. } => put_do(alloc, nodes, procedure, statement, after),
-        _ => put_leaf(alloc, nodes, procedure, statement, after),
+        What::Assign { .. }
+        | What::AssignCall { .. }
+        | What::Call { .. }
+        | What::Return(_)
+        | What::ReadUpdate { .. }
+        | What::Reply { .. }
+        | What::WriteRead { .. }
+        | What::Checkpoint { .. }
+        | What::CheckMonitor
+        | What::Open(_)
+        | What::Stop => put_leaf(alloc, nodes, procedure, statement, after),
     }
 }
 

@@ -1,6 +1,8 @@
-use Rattle.std.proofs.Common.{List, ap, sym, ◌∙◌}
+use Rattle.std.proofs.Common.{rules, arith, ◌≡◌, List, [], ap, sym, ◌∙◌}
+use Rattle.std.proofs.lemmas.Grind.{common_steps}
+use Rattle.tal_tree.specs.Statements.{body_before}
 use Rattle.tal_tree.specs.declared.statement.Statement.{Statement}
-use Rattle.process_semantics.proofs.Stacks.{before-other}
+use Rattle.tal_tree.specs.declared.statement.What.{out-What}
 use Rattle.tal_table.specs.Loads.{begins}
 use Rattle.tal_table.proofs.Nodes.{begins-first, begins-none}
 use Rattle.tal_table.proofs.fill.+begin.Goals as goal
@@ -13,7 +15,8 @@ begins-returns-in-len1-up t c =
     c.first_number.ensures ∙ sym (begins-first c.args.statements.now c.first-item.result c.args.after c.first-item.is
     c.in-len1-up.len_at_least)
 
-pub first_number-returns-in_default : goal.first_number-returns-in_default
-first_number-returns-in_default t c =
-    sym (ap (λ (before : List Statement). begins before c.args.statement.now.number)
-    (before-other c.args.statement.now.what c.in_default.not-DoUntil))
+pub first_number-returns-in-Assign : goal.first_number-returns-in-Assign
+first_number-returns-in-Assign t c =
+    let none : [] ≡ body_before (out-What c.args.statement.now.what) =
+    first_of (search rules, grind (arith, common_steps)) in
+    ap (λ (before : List Statement). begins before c.args.statement.now.number) none
