@@ -92,9 +92,29 @@ impl<'a> Frame<'a> {
             ≡ runs_of (body_before (out-What statement.now.what)) ++ (Run statement.now ∷ self.old)) }
     {
         self.rest.push(Entry::Run(statement))?;
-        match &statement.what {
-            What::DoUntil { body, test: _ } => self.put_all(body.as_slice()),
-            _ => Ok(()),
-        }
+        self.put_all(body_before(&statement.what))
+    }
+}
+
+/// What is done before a statement's own step: the body of a DO.
+fn body_before(what: &What) -> &[Statement]
+    ensures { result.now ≡ body_before (out-What what.now) }
+{
+    match what {
+        What::DoUntil { body, test: _ } => body.as_slice(),
+        What::Assign { .. }
+        | What::AssignCall { .. }
+        | What::If { .. }
+        | What::While { .. }
+        | What::For { .. }
+        | What::Call { .. }
+        | What::Return(_)
+        | What::ReadUpdate { .. }
+        | What::Reply { .. }
+        | What::WriteRead { .. }
+        | What::Checkpoint { .. }
+        | What::CheckMonitor
+        | What::Open(_)
+        | What::Stop => &[],
     }
 }
