@@ -121,10 +121,7 @@ impl<'a> Frame<'a> {
         }) }
     {
         self.rest.push(Entry::Run(statement))?;
-        match &statement.what {
-            What::DoUntil { body, test: _ } => self.put_all(body.as_slice()),
-            _ => Ok(()),
-        }
+        self.put_all(body_before(&statement.what))
     }
 
     /// Sets a local, where it is there.
@@ -140,6 +137,29 @@ impl<'a> Frame<'a> {
 pub struct Frames<'a> {
     pub running: Frame<'a>,
     pub callers: Vec<Frame<'a>>,
+}
+
+/// What is done before a statement's own step: the body of a DO.
+fn body_before(what: &What) -> &[Statement]
+    ensures { result.now ≡ body_before (out-What what.now) }
+{
+    match what {
+        What::DoUntil { body, test: _ } => body.as_slice(),
+        What::Assign { .. }
+        | What::AssignCall { .. }
+        | What::If { .. }
+        | What::While { .. }
+        | What::For { .. }
+        | What::Call { .. }
+        | What::Return(_)
+        | What::ReadUpdate { .. }
+        | What::Reply { .. }
+        | What::WriteRead { .. }
+        | What::Checkpoint { .. }
+        | What::CheckMonitor
+        | What::Open(_)
+        | What::Stop => &[],
+    }
 }
 
 /// The number of an entry.

@@ -1,16 +1,30 @@
-use Rattle.std.proofs.Common.{rules, arith, ◌≡◌, ◌+◌, List, [], ◌∷◌, ◌++◌, length, refl, ap, ap₂, sym, ◌∙◌}
+use Rattle.std.proofs.Common.{rules, arith, ◌≡◌, ◌+◌, ◌<◌, ℕ, List, [], ◌∷◌, ◌++◌, length, refl, ap, ap₂, sym, ◌∙◌}
+use Rattle.std.proofs.lemmas.List.{length-append}
 use Rattle.std.proofs.lemmas.Grind.{common_steps}
 use Rattle.std.proofs.lemmas.Result.{on_ok_weaker}
-use Rattle.tal_tree.specs.Statements.{numbers_of}
+use Rattle.tal_tree.specs.Statements.{body_before, numbers_of}
 use Rattle.tal_tree.specs.declared.statement.Statement.{Statement}
+use Rattle.tal_tree.specs.declared.statement.What.{out-What}
+use Rattle.tal_tree.proofs.Numbers.{numbers_inside, numbers-one}
 use Rattle.process_semantics.specs.SeenEntries.{stack}
 use Rattle.process_semantics.specs.State.{Frame, Run, runs_of}
-use Rattle.process_semantics.proofs.Stacks.{before-do, before-other, numbers-do, numbers-last, runs-last}
+use Rattle.process_semantics.proofs.Stacks.{numbers-last, runs-last}
 use Rattle.plain_program.proofs.frame.Frame.+put.Goals as goal
 
 none-left : (statements : List Statement) → length statements ≡ 0 → statements ≡ []
 none-left [] none = refl
 none-left (statement ∷ rest) none = absurd (omega arith)
+
+-- the body that is done before a statement has fewer numbers
+numbers-before : (statement : Statement) (body : List Statement) → body ≡ body_before (out-What statement.what)
+    → length (numbers_of body) < length (numbers_of (statement ∷ []))
+numbers-before statement body is =
+    let before : List ℕ = numbers_of (body_before (out-What statement.what)) in
+    let own : List ℕ = statement.number ∷ numbers_inside statement.number (out-What statement.what) in
+    let same : length (numbers_of body) ≡ length before = ap (λ (ss : List Statement). length (numbers_of ss)) is in
+    let all : length (numbers_of (statement ∷ [])) ≡ length (before ++ own) =
+    ap length (numbers-one statement.number statement.line statement.what (out-What statement.what) refl) in
+    omega (arith, length-append before own)
 
 frame-by : (one other : Frame) → one.procedure ≡ other.procedure → one.locals ≡ other.locals → one.rest ≡ other.rest
     → one ≡ other
@@ -50,12 +64,12 @@ put_all-returns t c =
 
 pub put_statement-put_all-requires : goal.put_statement-put_all-requires
 put_statement-put_all-requires t c =
-    let more = numbers-do c.args.statement.now c.in-DoUntil.body c.in-DoUntil.test c.in-DoUntil.is in
-    let same = ap (λ (ss : List Statement). length (numbers_of ss)) c.as_slice.ensures in
+    let fewer : length (numbers_of c.body_before.result.now) < length (numbers_of (c.args.statement.now ∷ [])) =
+    numbers-before c.args.statement.now c.body_before.result.now c.body_before.ensures in
     (omega (arith, c.decreases), tt)
 
-pub put_statement-returns-in-DoUntil : goal.put_statement-returns-in-DoUntil
-put_statement-returns-in-DoUntil t c =
+pub put_statement-returns : goal.put_statement-returns
+put_statement-returns t c =
     let old : Frame = record {
       procedure = c.self.inside.procedure;
       locals = c.self.inside.locals;
@@ -64,23 +78,7 @@ put_statement-returns-in-DoUntil t c =
     let pushed : record old { rest = stack c.push.new.self.items }
     ≡ record c.args.self.now { rest = Run c.args.statement.now ∷ c.args.self.now.rest } =
     first_of (search rules, grind (arith, common_steps)) in
-    let body = before-do c.args.statement.now c.in-DoUntil.body c.in-DoUntil.test c.in-DoUntil.is in
     on_ok_weaker c.put_all.result
     (λ put. put ∙ ap₂ (λ (ss : List Statement) (frame : Frame). record frame { rest = runs_of ss ++ frame.rest })
-    (c.as_slice.ensures ∙ sym body) pushed)
+    c.body_before.ensures pushed)
     c.put_all.ensures
-
-pub put_statement-returns-in_default : goal.put_statement-returns-in_default
-put_statement-returns-in_default t c =
-    let old : Frame = record {
-      procedure = c.self.inside.procedure;
-      locals = c.self.inside.locals;
-      rest = stack c.self.inside.rest.items;
-    } in
-    let pushed : record old { rest = stack c.push.new.self.items }
-    ≡ record c.args.self.now { rest = Run c.args.statement.now ∷ c.args.self.now.rest } =
-    first_of (search rules, grind (arith, common_steps)) in
-    pushed
-    ∙ ap (λ (ss : List Statement). record c.args.self.now {
-      rest = runs_of ss ++ (Run c.args.statement.now ∷ c.args.self.now.rest);
-    }) (sym (before-other c.args.statement.now.what c.in_default.not-DoUntil))
