@@ -1,7 +1,7 @@
 -- The numbers of the entries that remain at a place: those of one frame are apart, and each frame has those of a
 -- procedure of its own.
 use Rattle.std.proofs.Common.{◌≡◌, inl, inr, ℕ, ◌+◌, ◌<◌, ◌≤◌, List, [], ◌∷◌, ◌++◌, drop, Option, Some, None, slice_get}
-use Rattle.std.proofs.Common.{flat_map, refl, ap, subst, sym, ◌∙◌, append_assoc}
+use Rattle.std.proofs.Common.{flat_map, refl, ap, subst, sym, append_assoc}
 use Rattle.tal_tree.specs.declared.program.Program.{Program}
 use Rattle.tal_tree.specs.declared.program.Procedure.{Procedure}
 use Rattle.tal_tree.specs.declared.statement.Statement.{Statement}
