@@ -33,7 +33,20 @@ fn first_of(statement: &Statement) -> u32
         What::DoUntil { body, test: _ } => {
             first_number(body.as_slice(), u32::from(statement.number))
         }
-        _ => u32::from(statement.number),
+        What::Assign { .. }
+        | What::AssignCall { .. }
+        | What::If { .. }
+        | What::While { .. }
+        | What::For { .. }
+        | What::Call { .. }
+        | What::Return(_)
+        | What::ReadUpdate { .. }
+        | What::Reply { .. }
+        | What::WriteRead { .. }
+        | What::Checkpoint { .. }
+        | What::CheckMonitor
+        | What::Open(_)
+        | What::Stop => u32::from(statement.number),
     }
 }
 
@@ -76,7 +89,20 @@ fn find_before(statement: &Statement, number: u32) -> Option<Found<'_>>
         What::DoUntil { body, test: _ } => {
             find(body.as_slice(), u32::from(statement.number), number)
         }
-        _ => None,
+        What::Assign { .. }
+        | What::AssignCall { .. }
+        | What::If { .. }
+        | What::While { .. }
+        | What::For { .. }
+        | What::Call { .. }
+        | What::Return(_)
+        | What::ReadUpdate { .. }
+        | What::Reply { .. }
+        | What::WriteRead { .. }
+        | What::Checkpoint { .. }
+        | What::CheckMonitor
+        | What::Open(_)
+        | What::Stop => None,
     }
 }
 
@@ -108,7 +134,18 @@ fn find_within(statement: &Statement, after: u32, number: u32) -> Option<Found<'
                 None => find_last(statement, u32::from(*last), number),
             },
         },
-        _ => None,
+        What::Assign { .. }
+        | What::AssignCall { .. }
+        | What::DoUntil { .. }
+        | What::Call { .. }
+        | What::Return(_)
+        | What::ReadUpdate { .. }
+        | What::Reply { .. }
+        | What::WriteRead { .. }
+        | What::Checkpoint { .. }
+        | What::CheckMonitor
+        | What::Open(_)
+        | What::Stop => None,
     }
 }
 

@@ -1,5 +1,7 @@
-use Rattle.std.proofs.Common.{ℕ, subst}
-use Rattle.process_semantics.proofs.Stacks.{before-other}
+use Rattle.std.proofs.Common.{rules, arith, ◌≡◌, ℕ, [], subst}
+use Rattle.std.proofs.lemmas.Grind.{common_steps}
+use Rattle.tal_tree.specs.Statements.{body_before}
+use Rattle.tal_tree.specs.declared.statement.What.{out-What}
 use Rattle.discipline.specs.Finding.{IsFirstNumber}
 use Rattle.discipline.proofs.Finding.{first-none, first-some, first-plain, first-do}
 use Rattle.discipline.proofs.find.+first.Goals as goal
@@ -19,7 +21,8 @@ first_of-returns-in-DoUntil t c =
     (subst (λ (n : ℕ). IsFirstNumber c.as_slice.result.now n c.first_number.result) c.from.ensures
     c.first_number.ensures)
 
-pub first_of-returns-in_default : goal.first_of-returns-in_default
-first_of-returns-in_default t c =
-    first-plain c.args.statement.now c.from-in_default.result
-    (before-other c.args.statement.now.what c.in_default.not-DoUntil) c.from-in_default.ensures
+pub first_of-returns-in-Assign : goal.first_of-returns-in-Assign
+first_of-returns-in-Assign t c =
+    let none : body_before (out-What c.args.statement.now.what) ≡ [] =
+    first_of (search rules, grind (arith, common_steps)) in
+    first-plain c.args.statement.now c.from-in-Assign.result none c.from-in-Assign.ensures
