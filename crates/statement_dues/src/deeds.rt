@@ -63,7 +63,20 @@ fn push_before(
 {
     match &statement.what {
         What::DoUntil { body, test: _ } => push_deeds(reason, body.as_slice(), deeds),
-        _ => Ok(()),
+        What::Assign { .. }
+        | What::AssignCall { .. }
+        | What::If { .. }
+        | What::While { .. }
+        | What::For { .. }
+        | What::Call { .. }
+        | What::Return(_)
+        | What::ReadUpdate { .. }
+        | What::Reply { .. }
+        | What::WriteRead { .. }
+        | What::Checkpoint { .. }
+        | What::CheckMonitor
+        | What::Open(_)
+        | What::Stop => Ok(()),
     }
 }
 
@@ -95,7 +108,18 @@ fn push_within(
             push_deeds(reason, body.as_slice(), deeds)?;
             deeds.push(deed_of(reason, Entry::Last(statement)))?;
         }
-        _ => {}
+        What::Assign { .. }
+        | What::AssignCall { .. }
+        | What::DoUntil { .. }
+        | What::Call { .. }
+        | What::Return(_)
+        | What::ReadUpdate { .. }
+        | What::Reply { .. }
+        | What::WriteRead { .. }
+        | What::Checkpoint { .. }
+        | What::CheckMonitor
+        | What::Open(_)
+        | What::Stop => {}
     }
     Ok(())
 }
