@@ -144,8 +144,21 @@ fn is_checkpoint(entry: Entry<'_>) -> bool
     match entry {
         Entry::Run(statement) => match &statement.what {
             What::Checkpoint { items: _, files: _ } => true,
-            _ => false,
+            What::Assign { .. }
+            | What::AssignCall { .. }
+            | What::If { .. }
+            | What::While { .. }
+            | What::For { .. }
+            | What::DoUntil { .. }
+            | What::Call { .. }
+            | What::Return(_)
+            | What::ReadUpdate { .. }
+            | What::Reply { .. }
+            | What::WriteRead { .. }
+            | What::CheckMonitor
+            | What::Open(_)
+            | What::Stop => false,
         },
-        _ => false,
+        Entry::Test(_) | Entry::Last(_) => false,
     }
 }
