@@ -180,7 +180,20 @@ fn entry_number(entry: Entry<'_>) -> usize
                 body: _,
                 last,
             } => usize::from(*last),
-            _ => 0,
+            What::Assign { .. }
+            | What::AssignCall { .. }
+            | What::If { .. }
+            | What::While { .. }
+            | What::DoUntil { .. }
+            | What::Call { .. }
+            | What::Return(_)
+            | What::ReadUpdate { .. }
+            | What::Reply { .. }
+            | What::WriteRead { .. }
+            | What::Checkpoint { .. }
+            | What::CheckMonitor
+            | What::Open(_)
+            | What::Stop => 0,
         },
     }
 }
