@@ -1,16 +1,16 @@
 -- Schedules for the guards.
-use Rattle.std.specs.Prelude.{true, false, List, [], ◌∷◌}
+use Rattle.std.specs.Prelude.{true, List, [], ◌∷◌}
 use Rattle.schedule.specs.declared.event.Event.TheVariants.{Fail}
 use Rattle.schedule.specs.declared.line.Line.{Line}
 use Rattle.schedule.specs.declared.line.Line.TheVariants.{One, Drain, Until}
 
--- a line that waits for three replies, a stop of processor 0, and rounds to the end
+-- a line that waits for one write, a stop of processor 1, and rounds to the end
 abbrev pub with_a_stop : List Line
-with_a_stop = Until false 3 40 ∷ One (Fail 0) ∷ Drain 4000 ∷ []
+with_a_stop = Until true 1 4000 ∷ One (Fail 1) ∷ Drain 4000 ∷ []
 
 abbrev pub without_a_stop : List Line
-without_a_stop = Until true 2 40 ∷ Drain 4000 ∷ []
+without_a_stop = Until true 1 4000 ∷ Drain 4000 ∷ []
 
--- rounds, and then another line
-abbrev pub rounds_and : Line → List Line
-rounds_and line = Drain 5 ∷ line ∷ []
+-- a line, and then rounds to the end
+abbrev pub before_rounds : Line → List Line
+before_rounds line = line ∷ Drain 4000 ∷ []

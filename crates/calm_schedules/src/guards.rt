@@ -1,23 +1,42 @@
-ghost use Rattle.std.specs.Prelude.{true, false};
-ghost use Rattle.schedule.specs.declared.event.Event.TheVariants.{Fail, Tick};
-ghost use Rattle.schedule.specs.declared.line.Line.TheVariants.{One, Many, Mix, Mute};
+ghost use Rattle.std.specs.Prelude.{true, false, [], ◌∷◌, ◌++◌};
+ghost use Rattle.schedule.specs.declared.event.Event.TheVariants.{Deliver, Enter, Fail, Lose, Repeat, Run, Tick};
+ghost use Rattle.schedule.specs.declared.line.Line.TheVariants.{Drain, Many, Mix, Mute, One, Until};
 ghost use Rattle.calm_schedules.specs.Calm.{IsCalm};
-ghost use Rattle.calm_schedules.specs.Examples.{rounds_and, with_a_stop, without_a_stop};
+ghost use Rattle.calm_schedules.specs.Examples.{before_rounds, with_a_stop, without_a_stop};
 
-/// Rounds and one stop are calm. The stop may be that of the words, but then none of the lines stops one.
+/// Rounds and one stop are calm. The stop may be that of the words, but then none of the lines stops one. Two stops are
+/// one too many, even if they name one processor.
 pub fn one_stop_is_calm()
     ensures line { IsCalm with_a_stop false }
     ensures words { IsCalm without_a_stop true }
     ensures none { IsCalm without_a_stop false }
     ensures both { IsCalm with_a_stop true → ⊥ }
-    ensures two { IsCalm (rounds_and (One (Fail 1))) true → ⊥ }
+    ensures two { IsCalm (with_a_stop ++ One (Fail 0) ∷ []) false → ⊥ }
+    ensures again { IsCalm (with_a_stop ++ One (Fail 1) ∷ []) false → ⊥ }
 {}
 
-/// No other line is calm: one of mixed rounds, one that mutes a node, single events, or a stop that is asked for many
-/// times.
+/// Each kind of rounds by itself is calm, and so are a stop alone and no line at all.
+pub fn each_calm_line_is_calm_alone()
+    ensures drain { IsCalm (Drain 0 ∷ []) true }
+    ensures writes { IsCalm (Until true 1 4000 ∷ []) true }
+    ensures replies { IsCalm (Until false 0 0 ∷ []) true }
+    ensures stop { IsCalm (One (Fail 0) ∷ []) false }
+    ensures nothing { IsCalm [] true }
+{}
+
+/// No other line is calm, even if it is asked for no round or no event: one of mixed rounds, one that mutes a node, and
+/// events that the line asks for, once or many times.
 pub fn other_lines_are_not_calm()
-    ensures mixed { IsCalm (rounds_and (Mix 7 200)) false → ⊥ }
-    ensures muted { IsCalm (rounds_and (Mute 1 3)) false → ⊥ }
-    ensures single { IsCalm (rounds_and (One (Tick 0))) false → ⊥ }
-    ensures many { IsCalm (rounds_and (Many (Fail 0) 1)) false → ⊥ }
+    ensures mixed { IsCalm (before_rounds (Mix 7 200)) false → ⊥ }
+    ensures muted { IsCalm (before_rounds (Mute 1 40)) false → ⊥ }
+    ensures no_round { IsCalm (before_rounds (Mute 1 0)) false → ⊥ }
+    ensures entry { IsCalm (before_rounds (One (Enter 0))) false → ⊥ }
+    ensures step { IsCalm (before_rounds (One (Run 0))) false → ⊥ }
+    ensures delivery { IsCalm (before_rounds (One (Deliver false 0))) false → ⊥ }
+    ensures loss { IsCalm (before_rounds (One (Lose false 0))) false → ⊥ }
+    ensures repeated { IsCalm (before_rounds (One (Repeat true 0))) false → ⊥ }
+    ensures tick { IsCalm (before_rounds (One (Tick 0))) false → ⊥ }
+    ensures many { IsCalm (before_rounds (Many (Run 0) 3)) false → ⊥ }
+    ensures no_event { IsCalm (before_rounds (Many (Tick 0) 0)) false → ⊥ }
+    ensures many_stops { IsCalm (before_rounds (Many (Fail 0) 1)) false → ⊥ }
 {}
