@@ -8,10 +8,11 @@ use Rattle.player.specs.declared.stop.ProcessorStop.{ProcessorStop}
 use Rattle.agendas.specs.Agendas.{Agenda, Plan}
 use Rattle.link_control.specs.Ends.{End}
 use Rattle.world_semantics.specs.World.{is_running}
-use Rattle.channel_laws.specs.Way.{IsEnded, IsOutstanding}
+use Rattle.channel_laws.specs.Way.{IsOutstanding}
 use Rattle.packet_wires.specs.Nodes.{end_at}
 use Rattle.packet_wires.specs.Play.{IsClear, Packeted, packeted_at_boot}
 use Rattle.round_laws.specs.Stretches.{BeginsRound, GoesOn, at_once, plays}
+use Rattle.calm_runs.specs.packet_rounds.specs.Pieces.{IsAcknowledged}
 use Rattle.calm_runs.specs.packet_rounds.specs.Played.{IsClearPlay, IsPlay}
 use Rattle.calm_runs.specs.packet_rounds.proofs.Rounds.{lines-end}
 use Rattle.schedule_loop.specs.Ends.{Plays, planned_in}
@@ -66,9 +67,8 @@ module _ (site : Site) (lines : List Line) (stop : Option ProcessorStop) (first 
 
   pub six-end : site.processors ≤ 16 → AreDrainRounds site lines stop 6 first last
       → AreClear site lines stop (length first.events) (length last.events) → (a b n : ℕ)
-      → is_running last.state.world.stopped a ≡ true → is_running last.state.world.stopped b ≡ true → (e f : End)
-      → end_at first.state.wires.nodes a b ≡ Some e → IsOutstanding n e.sending
-      → end_at last.state.wires.nodes a b ≡ Some f → IsEnded n f.sending
+      → is_running last.state.world.stopped a ≡ true → is_running last.state.world.stopped b ≡ true → (e : End)
+      → end_at first.state.wires.nodes a b ≡ Some e → IsOutstanding n e.sending → IsAcknowledged last.state a b n
   six-end few rounds clear =
       let c = stretch clear rounds.later in
       let on = counted-on (sizes_of site) counts_in alive_in sender_in ClearStep rounds.rule rounds.drains

@@ -7,12 +7,13 @@ ghost use Rattle.schedule.specs.declared.line.Line.{Line};
 ghost use Rattle.player.specs.declared.stop.ProcessorStop.{ProcessorStop};
 ghost use Rattle.agendas.specs.Agendas.{Plan};
 ghost use Rattle.calm_schedules.specs.Calm.{IsCalm, is_stop};
-ghost use Rattle.channel_laws.specs.Way.{IsEnded, IsOutstanding};
+ghost use Rattle.channel_laws.specs.Way.{IsOutstanding};
 ghost use Rattle.link_control.specs.Ends.{End};
 ghost use Rattle.world_semantics.specs.World.{is_running};
 ghost use Rattle.packet_wires.specs.Nodes.{end_at};
 ghost use Rattle.packet_wires.specs.Play.{Packeted};
 ghost use Rattle.round_laws.specs.Buses.{IsGrown};
+ghost use Rattle.calm_runs.specs.packet_rounds.specs.Pieces.{IsAcknowledged};
 ghost use Rattle.calm_runs.specs.packet_rounds.specs.Played.{buses_of};
 ghost use Rattle.schedule_loop.specs.Rules.{IsPlayBy};
 ghost use Rattle.schedule_loop.specs.declared.ran.Ending.TheVariants.{Second};
@@ -28,15 +29,15 @@ pub fn a_run_is_played_to_a_moment()
         × (moment.state ≡ run.state) }
 {}
 
-/// Six whole drain rounds in a row of one line, all clear, end each piece that is outstanding as they begin: it has
-/// been acknowledged at its sender as they end. Both nodes of the piece still run then. Whatever was played before.
+/// Six whole drain rounds in a row of one line, all clear, end each piece that is outstanding as they begin: as they
+/// end, its sender's end has its acknowledgement, and its receiver's end has kept it. Both nodes of the piece still run
+/// then. Whatever was played before.
 pub fn six_clear_rounds_of_a_run_end_a_piece()
     ensures { (site : Site) → site.processors ≤ 16 → (lines : List Line) (stop : Option ProcessorStop)
         (first last : Moment site lines stop) → AreDrainRounds site lines stop 6 first last
         → AreClear site lines stop (length first.events) (length last.events) → (a b n : ℕ)
-        → is_running last.state.world.stopped a ≡ true → is_running last.state.world.stopped b ≡ true → (e f : End)
-        → end_at first.state.wires.nodes a b ≡ Some e → IsOutstanding n e.sending
-        → end_at last.state.wires.nodes a b ≡ Some f → IsEnded n f.sending }
+        → is_running last.state.world.stopped a ≡ true → is_running last.state.world.stopped b ≡ true → (e : End)
+        → end_at first.state.wires.nodes a b ≡ Some e → IsOutstanding n e.sending → IsAcknowledged last.state a b n }
 {}
 
 /// A whole drain round delivers each packet that is on a bus as it begins, and these first of all, whatever is lost for

@@ -45,8 +45,10 @@ use Rattle.round_laws.specs.Turns.{Turns, AllCame, enters, runs, delivers_x, del
 use Rattle.round_laws.specs.Stretches.{BeginsRound, CountsBuses, EndsRound, GoesOn, is_drain}
 use Rattle.round_laws.proofs.Stretching.{stretch-rounds}
 use Rattle.round_laws.proofs.Delivering.{still-due, all-came}
+use Rattle.packet_rounds.specs.Pieces.{IsAcknowledged}
 use Rattle.packet_rounds.specs.Played.{IsClearPlay, buses_of, sizes_of}
 use Rattle.packet_rounds.proofs.Buses.{has-buses}
+use Rattle.packet_rounds.proofs.Kept.{acknowledged}
 use Rattle.packet_rounds.proofs.Nets.{GoesThrough, both-run, goes-through, netted, ran-before}
 
 -- what goes on, and then more
@@ -400,15 +402,14 @@ module _ (sizes : Sizes) (n a b : ℕ) (first : Packeted) (start : Net) (is : Is
 pub rounds-end : (sizes : Sizes) (n a b k : ℕ) (first s : Packeted) (start : Net) → IsNetOf first start
     → length first.world.stopped ≤ 16 → (a < sizes.processors) ⊎ (a ≡ 16)
     → AreRounds sizes buses_of IsClearPlay first (suc (suc (suc (suc k)))) s
-    → is_running s.world.stopped a ≡ true → is_running s.world.stopped b ≡ true → (e f : End)
-    → end_at first.wires.nodes a b ≡ Some e → IsOutstanding n e.sending
-    → end_at s.wires.nodes a b ≡ Some f → IsEnded n f.sending
-rounds-end sizes n a b k first s start is few which rounds here there e f at out later =
+    → is_running s.world.stopped a ≡ true → is_running s.world.stopped b ≡ true → (e : End)
+    → end_at first.wires.nodes a b ≡ Some e → IsOutstanding n e.sending → IsAcknowledged s a b n
+rounds-end sizes n a b k first s start is few which rounds here there e at out =
     let began = is.tied.ends a b e (rounds-ran sizes first _ s rounds a here) at in
     let low : n ≤ (start.ends a b).sending.numbered =
     subst (λ (d : End). n ≤ d.sending.numbered) (sym began) (let same = out.0 in omega (arith, same)) in
     let m = brought sizes n a b first start is few low which (suc (suc (suc (suc k)))) s rounds here there in
-    subst (λ (d : End). IsEnded n d.sending) (m.is.tied.ends a b f here later) m.come
+    acknowledged n a b s m.net m.is m.few here there m.come
 
 -- a node that runs is a processor of the site, or carries the terminals
 pub in-site : (stopped : List Bool) (processors a : ℕ) → length stopped ≡ processors → is_running stopped a ≡ true
@@ -425,15 +426,14 @@ pub lines-end : (site : Site) → site.processors ≤ 16 → (events : List Even
     → is_drain kind ≡ true → (left k : ℕ) (rest : List Line) (before now : ℕ) (agenda there : Agenda) (s : Packeted)
     → BeginsRound (sizes_of site) (counts start) agenda kind (left + suc (suc (suc (suc k)))) rest
     → GoesOn (sizes_of site) counts IsClearPlay before agenda start now there s → EndsRound there kind left rest
-    → (a b n : ℕ) → is_running s.world.stopped a ≡ true → is_running s.world.stopped b ≡ true → (e f : End)
-    → end_at start.wires.nodes a b ≡ Some e → IsOutstanding n e.sending → end_at s.wires.nodes a b ≡ Some f
-    → IsEnded n f.sending
+    → (a b n : ℕ) → is_running s.world.stopped a ≡ true → is_running s.world.stopped b ≡ true → (e : End)
+    → end_at start.wires.nodes a b ≡ Some e → IsOutstanding n e.sending → IsAcknowledged s a b n
 lines-end site low events start played counts counted kind drain left k rest before now agenda there s first on last
-    a b n here other e f at out later =
+    a b n here other e at out =
     let w = netted site low events start played in let size = w.size in
     let rounds = stretch-rounds (sizes_of site) buses_of counts IsClearPlay clear-buses counted kind drain left
     (suc (suc (suc k))) rest before now agenda there start s first on last in
     rounds-end (sizes_of site) n a b k start s w.net w.is (omega (arith, low, size))
     (in-site start.world.stopped site.processors a size (rounds-ran (sizes_of site) start _ s rounds a here)) rounds
     here
-    other e f at out later
+    other e at out

@@ -8,13 +8,14 @@ ghost use Rattle.player.specs.declared.standing.Rule.{Rule};
 ghost use Rattle.agendas.specs.Agendas.{Agenda};
 ghost use Rattle.link_control.specs.Ends.{End};
 ghost use Rattle.world_semantics.specs.World.{is_running};
-ghost use Rattle.channel_laws.specs.Way.{IsEnded, IsOutstanding};
+ghost use Rattle.channel_laws.specs.Way.{IsOutstanding};
 ghost use Rattle.packet_wires.specs.Nodes.{end_at};
 ghost use Rattle.packet_wires.specs.Play.{Packeted};
 ghost use Rattle.packet_wires.specs.Runs.{IsPlayed};
 ghost use Rattle.round_laws.specs.Buses.{IsGrown};
 ghost use Rattle.round_laws.specs.Rounds.{IsWholeRound};
 ghost use Rattle.round_laws.specs.Stretches.{BeginsRound, CountsBuses, EndsRound, GoesOn, is_drain};
+ghost use Rattle.packet_rounds.specs.Pieces.{IsAcknowledged};
 ghost use Rattle.packet_rounds.specs.Played.{IsClearPlay, IsPlay, buses_of, sizes_of};
 
 /// A whole round delivers all that was on both buses as it began, whatever is lost for want of room on the way: what
@@ -25,7 +26,8 @@ pub fn a_round_over_packets_delivers_all()
 {}
 
 /// Four whole rounds in a row of one `drain` or `until` line, or more, end each piece that was outstanding as they
-/// began. All their events are clear, and both nodes of the piece still run as they end. Whatever was played before.
+/// began: its sender's end has its acknowledgement, and its receiver's end has kept it. All events of the rounds are
+/// clear, and both nodes of the piece still run as they end. Whatever was played before.
 pub fn four_clear_rounds_end_a_piece()
     ensures { (site : Site) → site.processors ≤ 16 → (events : List Event) (start : Packeted)
         → IsPlayed site events start
@@ -33,9 +35,8 @@ pub fn four_clear_rounds_end_a_piece()
         → (left more : ℕ) (rest : List Line) (before now : ℕ) (agenda there : Agenda) (s : Packeted)
         → BeginsRound (sizes_of site) (counts start) agenda rule (left + more + 4) rest
         → GoesOn (sizes_of site) counts IsClearPlay before agenda start now there s → EndsRound there rule left rest
-        → (a b n : ℕ) → is_running s.world.stopped a ≡ true → is_running s.world.stopped b ≡ true → (e f : End)
-        → end_at start.wires.nodes a b ≡ Some e → IsOutstanding n e.sending → end_at s.wires.nodes a b ≡ Some f
-        → IsEnded n f.sending }
+        → (a b n : ℕ) → is_running s.world.stopped a ≡ true → is_running s.world.stopped b ≡ true → (e : End)
+        → end_at start.wires.nodes a b ≡ Some e → IsOutstanding n e.sending → IsAcknowledged s a b n }
 {}
 
 /// So do six.
@@ -46,7 +47,6 @@ pub fn six_clear_rounds_end_a_piece()
         → (left : ℕ) (rest : List Line) (before now : ℕ) (agenda there : Agenda) (s : Packeted)
         → BeginsRound (sizes_of site) (counts start) agenda rule (left + 6) rest
         → GoesOn (sizes_of site) counts IsClearPlay before agenda start now there s → EndsRound there rule left rest
-        → (a b n : ℕ) → is_running s.world.stopped a ≡ true → is_running s.world.stopped b ≡ true → (e f : End)
-        → end_at start.wires.nodes a b ≡ Some e → IsOutstanding n e.sending → end_at s.wires.nodes a b ≡ Some f
-        → IsEnded n f.sending }
+        → (a b n : ℕ) → is_running s.world.stopped a ≡ true → is_running s.world.stopped b ≡ true → (e : End)
+        → end_at start.wires.nodes a b ≡ Some e → IsOutstanding n e.sending → IsAcknowledged s a b n }
 {}
