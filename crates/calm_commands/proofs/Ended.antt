@@ -19,11 +19,12 @@ use Rattle.command_dues.specs.Written.{outcome_of, status_of}
 use Rattle.command_dues.specs.declared.due.Due.{Due}
 use Rattle.command_dues.specs.declared.due.Due.TheVariants as due
 use Rattle.command_dues.specs.declared.outcome.Outcome.{Outcome}
+use Rattle.command_dues.specs.declared.outcome.Status.{Status}
 use Rattle.command_dues.specs.declared.outcome.Status.TheVariants as status
 use Rattle.command_dues.specs.declared.task.Task.TheVariants as task
 use Rattle.command_dues.specs.declared.task.Telling.{Telling}
 use Rattle.command_dues.specs.declared.task.Telling.TheVariants.{Lines}
-use Rattle.calm_commands.specs.CalmRuns.{IsCalmAndClear, IsStatusOfCalmRun}
+use Rattle.calm_commands.specs.CalmRuns.{IsCalmAndClear, IsStatusOfCalmRun, IsStatusWithoutFaults}
 
 ended : (how : Ending) → ((p : ℕ) → how ≡ ending.Second p → ⊥) → IsStatusOfCalmRun (status_of_run how)
 ended ending.Idle never = tt
@@ -58,3 +59,15 @@ calm-ends words bytes before now acts stop deck decided (Ok done) outcome asked 
     (run-status deck stop (Lines acts) decided few calm
     (deck-run words bytes before now acts stop deck decided asked spelt able accepted is
     (none-failed decided done outcome same sure)))
+
+pub without-fault : (end : Status) → IsStatusOfCalmRun end → end ≢ status.WriteFault → IsStatusWithoutFaults end
+without-fault status.Done is sure = tt
+without-fault status.Cut is sure = tt
+without-fault (status.NoMemory memory) is sure = tt
+without-fault status.WriteFault is sure = absurd (sure refl)
+without-fault status.Usage is sure = absurd is
+without-fault (status.DeckRefused fault) is sure = absurd is
+without-fault (status.Refused process refusal) is sure = absurd is
+without-fault (status.SecondStop processor) is sure = absurd is
+without-fault status.ReadFault is sure = absurd is
+without-fault (status.Rejected line why) is sure = absurd is

@@ -23,3 +23,8 @@ IsStatusOfCalmRun status.Cut = Unit {0}
 IsStatusOfCalmRun status.WriteFault = Unit {0}
 IsStatusOfCalmRun (status.NoMemory _) = Unit {0}
 IsStatusOfCalmRun _ = ⊥
+
+-- how it ends where no read and no write failed: its run came to an idle end or was cut, or memory ran out
+abbrev pub IsStatusWithoutFaults : Status → Type 0
+IsStatusWithoutFaults status.WriteFault = ⊥
+IsStatusWithoutFaults end = IsStatusOfCalmRun end

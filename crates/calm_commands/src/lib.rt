@@ -7,4 +7,6 @@
 
 pub mod laws;
 
-pub use laws::a_calm_run_is_not_ended_by_a_second_stop;
+pub use laws::{
+    a_calm_run_is_not_ended_by_a_second_stop, a_calm_run_without_faults_is_idle_or_cut,
+};
