@@ -1,0 +1,34 @@
+-- Who waits for whom in a ring. Our own.
+use Rattle.std.specs.Prelude.{ℕ, zero, suc, ◌==◌, if◌then◌else◌, nat_lt, List, [], ◌∷◌, ◌++◌, length, slice_get}
+use Rattle.std.specs.Prelude.{Option, Some, None, option_and_then, option_to_list}
+
+-- who is awaited by one, if any
+abbrev pub awaited_by : List (Option ℕ) → ℕ → Option ℕ
+awaited_by awaited one = option_and_then (λ next. next) (slice_get awaited one)
+
+-- a ring is told from its lowest number on: who awaits the first one closes it, and who awaits a lower one is in none
+-- that begins here
+abbrev pub closed_by : (ℕ → Option (List ℕ)) → ℕ → List ℕ → Option ℕ → Option (List ℕ)
+closed_by goes_on first members None = None
+closed_by goes_on first members (Some next) =
+    if next == first then Some members else if nat_lt next first then None else goes_on next
+
+-- the ring that goes from one to whom it awaits, by at most so many waits, where these stand before it
+abbrev pub ring_on : List (Option ℕ) → ℕ → ℕ → ℕ → List ℕ → Option (List ℕ)
+ring_on awaited zero first one before = None
+ring_on awaited (suc more) first one before =
+    closed_by (λ next. ring_on awaited more first next (before ++ one ∷ [])) first (before ++ one ∷ [])
+    (awaited_by awaited one)
+
+-- the ring whose lowest number this is. No ring has more members than there are
+abbrev pub ring_of : List (Option ℕ) → ℕ → Option (List ℕ)
+ring_of awaited first = ring_on awaited (length awaited) first first []
+
+-- the rings whose lowest number is below this one
+abbrev pub rings_below : List (Option ℕ) → ℕ → List (List ℕ)
+rings_below awaited zero = []
+rings_below awaited (suc first) = rings_below awaited first ++ option_to_list (ring_of awaited first)
+
+-- all rings of those that wait, each once
+abbrev pub rings_of : List (Option ℕ) → List (List ℕ)
+rings_of awaited = rings_below awaited (length awaited)
