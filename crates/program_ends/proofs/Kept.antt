@@ -1,0 +1,165 @@
+-- A step of which something comes ends a program only at STOP, at the end of MAIN and at its RETURN.
+use Rattle.std.proofs.Common.{◌≡◌, ℕ, ℤ, pos, Bool, true, false, if◌then◌else◌, nat_le, List, [], ◌∷◌, drop, length}
+use Rattle.std.proofs.Common.{Option, Some, None, refl, ap, sym, ◌∙◌}
+use Rattle.process_semantics.specs.Changes.{done, left, with_word}
+use Rattle.process_semantics.specs.State.{Entry, Frame, ProgramState, Run, Test, Last, first_of, memory_of, next_of}
+use Rattle.process_semantics.specs.Steps.{assigned, counted, entered, entered_by, for_begun, given, given_in, given_to}
+use Rattle.process_semantics.specs.Steps.{counted_in, inner, inner_entry, inner_in, or_ends, result_of}
+use Rattle.process_semantics.specs.Steps.{returned, tested, tested_in}
+use Rattle.tal_tree.specs.declared.expression.Variable.{Variable}
+use Rattle.tal_tree.specs.declared.expression.Variable.TheVariants as variable
+use Rattle.tal_tree.specs.declared.program.Procedure.{Procedure}
+use Rattle.tal_tree.specs.declared.program.Program.{Program}
+use Rattle.tal_tree.specs.declared.statement.Statement.{Statement}
+use Rattle.tal_tree.specs.declared.statement.What.{What, What-F, out-What}
+use Rattle.tal_values.specs.Value.{cell_of}
+use Rattle.tal_values.specs.declared.memory.Cell.{Cell}
+use Rattle.tal_values.specs.declared.memory.Cell.TheVariants as cell
+use Rattle.program_ends.specs.Ends.{at_entry, at_statement, is_trap}
+use Rattle.program_ends.specs.declared.ending.LastStep.TheVariants.{MainEnded, Returned, Trapped, TrappedAtEnd}
+use Rattle.program_ends.specs.declared.ending.Trap.TheVariants as trap
+
+-- what comes of a step, if anything does, has ended exactly where this says
+abbrev Keeps : Bool → Option ProgramState → Type 0
+Keeps ended result = (t : ProgramState) → result ≡ Some t → t.ended ≡ ended
+
+abbrev ended_or : Bool → Option ProgramState → Bool
+ended_or ended None = ended
+ended_or ended (Some t) = t.ended
+
+none-keeps : (ended : Bool) → Keeps ended None
+none-keeps ended t same = absurd (cc)
+
+some-keeps : (ended : Bool) (u : ProgramState) → u.ended ≡ ended → Keeps ended (Some u)
+some-keeps ended u is t same = ap (ended_or ended) (sym same) ∙ is
+
+word-keeps : (to : Cell) (word : ℤ) (s : ProgramState) → (done (with_word to word s)).ended ≡ s.ended
+word-keeps (cell.Local local) word s = refl
+word-keeps (cell.Global item offset) word s = refl
+
+assigned-keeps : (s : ProgramState) (to : Option Cell) (word : Option ℤ) → Keeps s.ended (assigned s to word)
+assigned-keeps s to None = none-keeps s.ended
+assigned-keeps s None (Some word) = none-keeps s.ended
+assigned-keeps s (Some to) (Some word) = some-keeps s.ended (done (with_word to word s)) (word-keeps to word s)
+
+tested-keeps : (s : ProgramState) (first second : List Entry) (truth : Option Bool)
+    → Keeps s.ended (tested s first second truth)
+tested-keeps s first second None = none-keeps s.ended
+tested-keeps s first second (Some truth) = some-keeps s.ended _ refl
+
+entered_by-keeps : (s : ProgramState) (number : ℕ) (arguments : List ℤ) (procedure : Option Procedure)
+    → Keeps s.ended (entered_by s number arguments procedure)
+entered_by-keeps s number arguments None = none-keeps s.ended
+entered_by-keeps s number arguments (Some procedure) = some-keeps s.ended _ refl
+
+entered-keeps : (program : Program) (s : ProgramState) (number : ℕ) (arguments : Option (List ℤ))
+    → Keeps s.ended (entered program s number arguments)
+entered-keeps program s number None = none-keeps s.ended
+entered-keeps program s number (Some arguments) = entered_by-keeps s number arguments _
+
+given_in-keeps : (program : Program) (word : ℤ) (s : ProgramState) (layer : What-F What Statement)
+    → Keeps s.ended (given_in program word s layer)
+given_in-keeps program word s (What-F.AssignCall to procedure arguments) =
+    assigned-keeps s (cell_of (memory_of program s) to) (Some word)
+given_in-keeps program word s _ = some-keeps s.ended (done s) refl
+
+given-keeps : (program : Program) (word : ℤ) (s : ProgramState) (entry : Option Entry)
+    → Keeps s.ended (given program word s entry)
+given-keeps program word s None = some-keeps s.ended (done s) refl
+given-keeps program word s (Some (Run statement)) = given_in-keeps program word s (out-What statement.what)
+given-keeps program word s (Some (Test statement)) = some-keeps s.ended (done s) refl
+given-keeps program word s (Some (Last statement)) = some-keeps s.ended (done s) refl
+
+-- a word that goes back to a caller
+deep-keeps : (program : Program) (word : ℤ) (u : ProgramState) (frames : List Frame)
+    → nat_le (length frames) 1 ≡ false → Keeps u.ended (given_to program word u (drop 1 frames))
+deep-keeps program word u [] deep = absurd (cc)
+deep-keeps program word u (frame ∷ []) deep = absurd (cc)
+deep-keeps program word u (frame ∷ caller ∷ callers) deep = given-keeps program word u (first_of caller.rest)
+
+returned-keeps : (program : Program) (s : ProgramState) (word : Option ℤ) → nat_le (length s.frames) 1 ≡ false
+    → Keeps s.ended (returned program s word)
+returned-keeps program s None deep = none-keeps s.ended
+returned-keeps program s (Some word) deep = deep-keeps program word (left s) s.frames deep
+
+for-keeps : (s : ProgramState) (statement : Statement) (variable : Variable) (word : Option ℤ)
+    → Keeps s.ended (for_begun s statement variable word)
+for-keeps s statement variable None = none-keeps s.ended
+for-keeps s statement (variable.Local local) (Some word) =
+    some-keeps s.ended _ refl
+for-keeps s statement (variable.Simple item) (Some word) =
+    some-keeps s.ended _ refl
+
+counted-keeps : (s : ProgramState) (variable : Cell) (down : Bool) (step : ℤ) (word : Option ℤ)
+    → Keeps s.ended (counted s variable down step word)
+counted-keeps s variable down step None = none-keeps s.ended
+counted-keeps s variable down step (Some word) = some-keeps s.ended _ (word-keeps variable _ s)
+
+-- what is told of an end is no trap where one procedure runs
+main-only : (here : Bool) → is_trap (if here then MainEnded else TrappedAtEnd) ≡ true → here ≡ false
+main-only true is = absurd (cc)
+main-only false is = refl
+
+return-only : (here : Bool) (line : ℕ) → is_trap (if here then Returned line else Trapped line trap.Value) ≡ true
+    → here ≡ false
+return-only true line is = absurd (cc)
+return-only false line is = refl
+
+inner-keeps : (program : Program) (s : ProgramState) (in_hand : Bool) (statement : Statement)
+    (layer : What-F What Statement)
+    → is_trap (at_statement (length s.frames) in_hand statement.line layer) ≡ true
+    → Keeps s.ended (inner_in program s statement layer)
+inner-keeps program s in_hand statement (What-F.Assign to value) is = assigned-keeps s _ _
+inner-keeps program s in_hand statement (What-F.AssignCall to procedure arguments) is =
+    entered-keeps program s procedure _
+inner-keeps program s in_hand statement (What-F.If test first second) is = tested-keeps s _ _ _
+inner-keeps program s in_hand statement (What-F.While test body) is = tested-keeps s _ _ _
+inner-keeps program s in_hand statement (What-F.For variable from to down step body last) is =
+    for-keeps s statement variable _
+inner-keeps program s in_hand statement (What-F.DoUntil body test) is = tested-keeps s _ _ _
+inner-keeps program s in_hand statement (What-F.Call procedure arguments) is = entered-keeps program s procedure _
+inner-keeps program s in_hand statement (What-F.Return value) is =
+    returned-keeps program s (result_of (memory_of program s) value)
+    (return-only (nat_le (length s.frames) 1) statement.line is)
+inner-keeps program s in_hand statement What-F.CheckMonitor is = some-keeps s.ended (done s) refl
+inner-keeps program s in_hand statement (What-F.Open file) is = some-keeps s.ended (done s) refl
+inner-keeps program s in_hand statement What-F.Stop is = absurd (cc)
+inner-keeps program s in_hand statement (What-F.ReadUpdate buffer most got) is = none-keeps s.ended
+inner-keeps program s in_hand statement (What-F.Reply buffer count) is = none-keeps s.ended
+inner-keeps program s in_hand statement (What-F.WriteRead file buffer send room got) is = none-keeps s.ended
+inner-keeps program s in_hand statement (What-F.Checkpoint items files) is = none-keeps s.ended
+
+test-keeps : (program : Program) (s : ProgramState) (statement : Statement) (layer : What-F What Statement)
+    → Keeps s.ended (tested_in program s statement layer)
+test-keeps program s statement (What-F.For variable from to down step body last) = tested-keeps s _ _ _
+test-keeps program s statement _ = none-keeps s.ended
+
+last-keeps : (program : Program) (s : ProgramState) (layer : What-F What Statement)
+    → Keeps s.ended (counted_in program s layer)
+last-keeps program s (What-F.For variable from to down step body last) = counted-keeps s _ down step _
+last-keeps program s _ = none-keeps s.ended
+
+entry-keeps : (program : Program) (s : ProgramState) (in_hand : Bool) (entry : Option Entry)
+    → is_trap (at_entry (length s.frames) in_hand entry) ≡ true → Keeps s.ended (inner_entry program s entry)
+entry-keeps program s in_hand None is =
+    returned-keeps program s (Some (pos 0)) (main-only (nat_le (length s.frames) 1) is)
+entry-keeps program s in_hand (Some (Run statement)) is =
+    inner-keeps program s in_hand statement (out-What statement.what) is
+entry-keeps program s in_hand (Some (Test statement)) is = test-keeps program s statement (out-What statement.what)
+entry-keeps program s in_hand (Some (Last statement)) is = last-keeps program s (out-What statement.what)
+
+nothing-came : (s : ProgramState) (result : Option ProgramState) → Keeps false result
+    → (or_ends s result).ended ≡ true → result ≡ None
+nothing-came s None keeps ended = refl
+nothing-came s (Some t) keeps ended = let kept : t.ended ≡ false = keeps t refl in absurd (cc)
+
+pub traps-by : (program : Program) (s : ProgramState) (in_hand : Bool) → s.ended ≡ false
+    → (inner program s).ended ≡ true → is_trap (at_entry (length s.frames) in_hand (next_of s.frames)) ≡ true
+    → inner_entry program s (next_of s.frames) ≡ None
+traps-by program s in_hand runs ended is =
+    nothing-came s (inner_entry program s (next_of s.frames))
+    (λ t same. entry-keeps program s in_hand (next_of s.frames) is t same ∙ runs) ended
+
+pub ends-by : (program : Program) (s : ProgramState) → inner_entry program s (next_of s.frames) ≡ None
+    → (inner program s).ended ≡ true
+ends-by program s none = ap (λ (result : Option ProgramState). (or_ends s result).ended) none

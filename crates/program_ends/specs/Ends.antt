@@ -1,0 +1,81 @@
+-- With which step a program ended, and at which line of its text it stands. Our own.
+use Rattle.std.specs.Option.{option_map}
+use Rattle.std.specs.Prelude.{ℕ, ℤ, Bool, true, false, if◌then◌else◌, nat_le, List, Option, Some, None}
+use Rattle.image_places.specs.Running.{depth_in, next_in}
+use Rattle.process_semantics.specs.State.{Entry, Run, Test, Last}
+use Rattle.program_entries.specs.Entries.{entry_at}
+use Rattle.tal_tree.specs.declared.program.Program.{Program}
+use Rattle.tal_tree.specs.declared.statement.Statement.{Statement}
+use Rattle.tal_tree.specs.declared.statement.What.{What, What-F, out-What}
+use Rattle.program_ends.specs.declared.ending.LastStep.{LastStep}
+use Rattle.program_ends.specs.declared.ending.LastStep.TheVariants.{MainEnded, Stopped, Returned, Trapped}
+use Rattle.program_ends.specs.declared.ending.LastStep.TheVariants.{TrappedAtEnd}
+use Rattle.program_ends.specs.declared.ending.Trap.{Trap}
+use Rattle.program_ends.specs.declared.ending.Trap.TheVariants as trap
+
+-- What ended a program, by what it did last, where so many procedures ran
+
+-- the end of a procedure: MAIN's ends the program. Another one gives its word to a target that isn't there
+abbrev pub at_end : ℕ → LastStep
+at_end depth = if nat_le depth 1 then MainEnded else TrappedAtEnd
+
+abbrev pub at_return : ℕ → ℕ → LastStep
+at_return depth line = if nat_le depth 1 then Returned line else Trapped line trap.Value
+
+-- READUPDATE takes no request while one is in hand
+abbrev pub of_reading : Bool → Trap
+of_reading in_hand = if in_hand then trap.RequestInHand else trap.Count
+
+-- REPLY answers the request that is in hand
+abbrev pub of_replying : Bool → Trap
+of_replying in_hand = if in_hand then trap.Count else trap.NothingInHand
+
+abbrev pub at_statement : ℕ → Bool → ℕ → What-F What Statement → LastStep
+at_statement depth in_hand line What-F.Stop = Stopped line
+at_statement depth in_hand line (What-F.Return value) = at_return depth line
+at_statement depth in_hand line (What-F.ReadUpdate buffer most got) = Trapped line (of_reading in_hand)
+at_statement depth in_hand line (What-F.Reply buffer count) = Trapped line (of_replying in_hand)
+at_statement depth in_hand line (What-F.WriteRead file buffer send room got) = Trapped line trap.Count
+at_statement depth in_hand line (What-F.Assign to value) = Trapped line trap.Value
+at_statement depth in_hand line (What-F.AssignCall to procedure arguments) = Trapped line trap.Value
+at_statement depth in_hand line (What-F.If test first second) = Trapped line trap.Value
+at_statement depth in_hand line (What-F.While test body) = Trapped line trap.Value
+at_statement depth in_hand line (What-F.For variable from to down step body last) = Trapped line trap.Value
+at_statement depth in_hand line (What-F.DoUntil body test) = Trapped line trap.Value
+at_statement depth in_hand line (What-F.Call procedure arguments) = Trapped line trap.Value
+at_statement depth in_hand line (What-F.Checkpoint items files) = Trapped line trap.Value
+at_statement depth in_hand line What-F.CheckMonitor = Trapped line trap.Value
+at_statement depth in_hand line (What-F.Open file) = Trapped line trap.Value
+
+abbrev pub at_entry : ℕ → Bool → Option Entry → LastStep
+at_entry depth in_hand None = at_end depth
+at_entry depth in_hand (Some (Run statement)) = at_statement depth in_hand statement.line (out-What statement.what)
+at_entry depth in_hand (Some (Test statement)) = Trapped statement.line trap.Value
+at_entry depth in_hand (Some (Last statement)) = Trapped statement.line trap.Value
+
+-- By the words of an image
+
+-- what comes next in a program
+abbrev pub coming_in : Program → List ℤ → Option Entry
+coming_in program words = entry_at program (next_in program words)
+
+-- the step with which it ended that stood so, with a request in hand or none
+abbrev pub end_of_program : Program → List ℤ → Bool → LastStep
+end_of_program program words in_hand = at_entry (depth_in words) in_hand (coming_in program words)
+
+abbrev pub line_of_entry : Entry → ℕ
+line_of_entry (Run statement) = statement.line
+line_of_entry (Test statement) = statement.line
+line_of_entry (Last statement) = statement.line
+
+-- the line of what comes next; none at a procedure's end
+abbrev pub line_of_program : Program → List ℤ → Option ℕ
+line_of_program program words = option_map line_of_entry (coming_in program words)
+
+-- a trap, and no end that the program asks for
+abbrev pub is_trap : LastStep → Bool
+is_trap MainEnded = false
+is_trap (Stopped line) = false
+is_trap (Returned line) = false
+is_trap (Trapped line trap) = true
+is_trap TrappedAtEnd = true
