@@ -1,0 +1,111 @@
+-- The frames of a state are read off their words, and the last is the one that runs.
+use Rattle.std.proofs.Common.{◌≡◌, inl, inr, ℕ, suc, ℤ, List, [], ◌∷◌, ◌++◌, length, reverse, flat_map}
+use Rattle.std.proofs.Common.{Option, Some, None}
+use Rattle.std.proofs.Common.{refl, ap, sym, ◌∙◌, append_assoc, option_and_then}
+use Rattle.std.proofs.lemmas.Grind.{reverse_onto}
+use Rattle.std.proofs.lemmas.List.{length-reverse}
+use Rattle.std.specs.Option.{option_map}
+use Rattle.image_places.specs.Running.{Running, frame_in, frame_where, last_of, next_of, with_words}
+use Rattle.process_images.proofs.Frames.{AllFrames}
+use Rattle.process_images.proofs.Fronts.{words-read}
+use Rattle.process_images.proofs.Stacks.{all-from-main}
+use Rattle.gd_words.specs.Members.{IsAmong}
+use Rattle.gd_words.proofs.Among.{among-at}
+use Rattle.process_semantics.specs.Image.{frame_words, program_words}
+use Rattle.process_semantics.specs.Remains.{Remains}
+use Rattle.process_semantics.specs.Rests.{entry_number, next_number, rests_of}
+use Rattle.process_semantics.specs.State as state
+use Rattle.process_semantics.specs.State.{Entry, Frame, ProgramState, first_of, rest_of}
+use Rattle.program_ends.specs.Ends.{at_entry, coming_in, end_of_program}
+use Rattle.program_entries.specs.Entries.{entry_at}
+use Rattle.tal_tree.specs.Ordered.{IsNumbered}
+use Rattle.tal_tree.specs.declared.program.Procedure.{Procedure}
+use Rattle.tal_tree.specs.declared.program.Program.{Program}
+use Rattle.whole_states.specs.Whole.{AreFrames, IsFrame, IsWhole}
+
+abbrev running_of : Frame → Running
+running_of frame =
+    record { procedure = frame.procedure; next = next_number frame.rest; locals = frame.locals }
+
+frame_read : (program : Program) (frame : Frame) (left : List ℤ) → IsFrame program frame
+    → frame_in program (frame_words frame ++ left) ≡ Some (running_of frame, left)
+frame_read program frame left is =
+    ap (λ (procedure : Option Procedure). frame_where frame.procedure (next_number frame.rest) procedure
+    (frame.locals ++ left))
+    is.there
+    ∙ ap (option_map (λ (locals, rest). (
+      record {
+        procedure = frame.procedure;
+        next = next_number frame.rest;
+        locals = locals;
+      },
+      rest,
+    )))
+    (words-read frame.locals left (length is.procedure.locals) is.locals)
+
+abbrev last_running : List Frame → Option Running → Option Running
+last_running [] before = before
+last_running (frame ∷ frames) before = last_running frames (Some (running_of frame))
+
+last_read : (program : Program) (frames : List Frame) (left : List ℤ) (before : Option Running)
+    → AllFrames program frames
+    → last_of program (length frames) (flat_map frame_words frames ++ left) before
+    ≡ with_words left (last_running frames before)
+last_read program [] left before all = refl
+last_read program (frame ∷ frames) left before all =
+    ap (λ (words : List ℤ). last_of program (suc (length frames)) words before)
+    (append_assoc (frame_words frame) (flat_map frame_words frames) left)
+    ∙ ap (option_and_then (λ (one, rest). last_of program (length frames) rest (Some one)))
+    (frame_read program frame (flat_map frame_words frames ++ left) (all frame (inl refl)))
+    ∙ last_read program frames left (Some (running_of frame)) (λ one among. all one (inr among))
+
+last_is : (frames : List Frame) (frame : Frame) (before : Option Running)
+    → last_running (frames ++ frame ∷ []) before ≡ Some (running_of frame)
+last_is [] frame before = refl
+last_is (one ∷ frames) frame before = last_is frames frame (Some (running_of one))
+
+pub next_read : (program : Program) (frames : List Frame) (left : List ℤ) → AreFrames program frames
+    → next_of (last_of program (length frames) (flat_map frame_words (reverse frames) ++ left) None)
+    ≡ next_number (rest_of frames)
+next_read program [] left are = refl
+next_read program (frame ∷ callers) left are =
+    ap (λ (n : ℕ). next_of (last_of program n (flat_map frame_words (reverse (frame ∷ callers)) ++ left) None))
+    (sym (length-reverse (frame ∷ callers)))
+    ∙ ap next_of
+    (last_read program (reverse (frame ∷ callers)) left None (all-from-main program (frame ∷ callers) are))
+    ∙ ap (λ (frames : List Frame). next_of (with_words left (last_running frames None)))
+    (reverse_onto callers frame [])
+    ∙ ap (λ (last : Option Running). next_of (with_words left last)) (last_is (reverse callers) frame None)
+
+-- What comes next by its number
+
+-- numbers tell what comes next
+abbrev pub Told : Type 0
+Told = (program : Program) (procedure : Procedure) (entry : Entry) (rest : List Entry) → IsNumbered program
+    → IsAmong procedure program.procedures → IsAmong (entry ∷ rest) (rests_of procedure.body)
+    → entry_at program (entry_number entry) ≡ Some entry
+
+module _ (told : Told) (program : Program) where
+  coming : (frames : List Frame) → IsNumbered program → AreFrames program frames
+      → entry_at program (next_number (rest_of frames)) ≡ state.next_of frames
+  coming [] numbered are = refl
+  coming (frame ∷ callers) numbered are = by_rest frame.rest are.0.rest
+    where
+      by_rest : (rest : List Entry) → Remains are.0.procedure.body rest
+          → entry_at program (next_number rest) ≡ first_of rest
+      by_rest [] remains = refl
+      by_rest (entry ∷ rest) (inl none) = absurd (cc)
+      by_rest (entry ∷ rest) (inr among) =
+          told program are.0.procedure entry rest numbered
+          (among-at program.procedures frame.procedure are.0.procedure are.0.there) among
+
+  pub entry-read : (s : ProgramState) (items : List ℕ) → IsNumbered program → IsWhole program s
+      → coming_in program (program_words items s) ≡ state.next_of s.frames
+  entry-read s items numbered whole =
+      ap (entry_at program) (next_read program s.frames _ whole.frames) ∙ coming s.frames numbered whole.frames
+
+  pub end-read : (s : ProgramState) (items : List ℕ) → IsNumbered program → IsWhole program s
+      → end_of_program program (program_words items s) s.in_hand
+      ≡ at_entry (length s.frames) s.in_hand (state.next_of s.frames)
+  end-read s items numbered whole =
+      ap (at_entry (length s.frames) s.in_hand) (entry-read s items numbered whole)

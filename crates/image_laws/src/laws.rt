@@ -1,0 +1,28 @@
+ghost use Rattle.std.specs.Prelude.{◌≡◌, ℕ, List, length};
+ghost use Rattle.image_places.specs.Running.{depth_in, next_in};
+ghost use Rattle.process_semantics.specs.Image.{program_words};
+ghost use Rattle.process_semantics.specs.Rests.{next_number};
+ghost use Rattle.process_semantics.specs.State.{ProgramState, next_of, rest_of};
+ghost use Rattle.program_ends.specs.Ends.{at_entry, coming_in, end_of_program};
+ghost use Rattle.tal_tree.specs.Ordered.{IsNumbered};
+ghost use Rattle.tal_tree.specs.declared.program.Program.{Program};
+ghost use Rattle.whole_states.specs.Whole.{IsWhole};
+
+use program_entries::numbers_tell_what_comes_next;
+
+/// What is read off the words of a state that a program may be in, whatever items they have, is how many procedures run
+/// in it, and what comes next in the one that runs. So the step with which a program is told to have ended is that of
+/// the state in which it stood.
+pub fn an_image_tells_what_comes_next()
+    ensures depth { (program : Program) (s : ProgramState) (items : List ℕ)
+        → depth_in (program_words items s) ≡ length s.frames }
+    ensures number { (program : Program) (s : ProgramState) (items : List ℕ) → IsWhole program s
+        → next_in program (program_words items s) ≡ next_number (rest_of s.frames) }
+    ensures next { (program : Program) (s : ProgramState) (items : List ℕ) → IsNumbered program → IsWhole program s
+        → coming_in program (program_words items s) ≡ next_of s.frames }
+    ensures end { (program : Program) (s : ProgramState) (items : List ℕ) → IsNumbered program → IsWhole program s
+        → end_of_program program (program_words items s) s.in_hand
+        ≡ at_entry (length s.frames) s.in_hand (next_of s.frames) }
+{
+    numbers_tell_what_comes_next();
+}
