@@ -1,5 +1,5 @@
 -- Who waits for whom in a ring. Our own.
-use Rattle.std.specs.Prelude.{ℕ, zero, suc, ◌==◌, if◌then◌else◌, nat_lt, List, [], ◌∷◌, ◌++◌, length, slice_get}
+use Rattle.std.specs.Prelude.{◌≡◌, ℕ, zero, suc, ◌==◌, if◌then◌else◌, nat_lt, List, [], ◌∷◌, ◌++◌, length, slice_get}
 use Rattle.std.specs.Prelude.{Option, Some, None, option_and_then, option_to_list}
 
 -- who is awaited by one, if any
@@ -32,3 +32,15 @@ rings_below awaited (suc first) = rings_below awaited first ++ option_to_list (r
 -- all rings of those that wait, each once
 abbrev pub rings_of : List (Option ℕ) → List (List ℕ)
 rings_of awaited = rings_below awaited (length awaited)
+
+-- What a ring is
+
+-- each of these awaits the next, and the last awaits this one
+abbrev pub AwaitOn : List (Option ℕ) → ℕ → List ℕ → Type 0
+AwaitOn awaited last [] = Unit {0}
+AwaitOn awaited last (one ∷ []) = awaited_by awaited one ≡ Some last
+AwaitOn awaited last (one ∷ next ∷ rest) = (awaited_by awaited one ≡ Some next) × AwaitOn awaited last (next ∷ rest)
+
+-- a ring begins with its first, and the last of it awaits that
+abbrev pub IsRingFrom : List (Option ℕ) → ℕ → List ℕ → Type 0
+IsRingFrom awaited first ring = (slice_get ring 0 ≡ Some first) × AwaitOn awaited first ring
