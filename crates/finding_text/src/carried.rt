@@ -99,7 +99,8 @@ fn put_sends(
     put_needless(text, program, needless)
 }
 
-fn put_place_line(text: &mut List<u8>, bytes: &[u8], line: u64) -> Result<(), NoMemory>
+/// Puts a line of the deck with its number behind the text.
+pub fn put_place_line(text: &mut List<u8>, bytes: &[u8], line: u64) -> Result<(), NoMemory>
     ensures { OnOk result (text.new ≡ text.old ++ place_line bytes.now line) }
 {
     put_place(text, line)?;

@@ -4,7 +4,7 @@
 //!
 //! Below stand `pair_findings` with what is found, `fault_words` with the lines of a deck, and `text_pieces`, by whose
 //! pieces texts are put together. The layer above uses `put_pairs`, whose text is `pair_texts` of
-//! `specs/PairText.antt`.
+//! `specs/PairText.antt`, and for one line of a deck `pair_line` and `put_place_line`.
 #![tactic(auto)]
 
 mod carried;
@@ -16,6 +16,7 @@ pub mod pairs;
 mod sentence;
 mod steps;
 
+pub use carried::put_place_line;
 pub use deck_place::pair_line;
 pub use pair_findings;
 pub use pairs::put_pairs;
