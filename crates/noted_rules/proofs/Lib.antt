@@ -1,0 +1,3 @@
+pub mod Booted
+pub mod Forgotten
+pub mod Settled
