@@ -95,7 +95,20 @@ fn push_before<'a>(
 {
     match &statement.what {
         What::DoUntil { body, test: _ } => push_entries(body.as_slice(), entries),
-        _ => Ok(()),
+        What::Assign { .. }
+        | What::AssignCall { .. }
+        | What::If { .. }
+        | What::While { .. }
+        | What::For { .. }
+        | What::Call { .. }
+        | What::Return(_)
+        | What::ReadUpdate { .. }
+        | What::Reply { .. }
+        | What::WriteRead { .. }
+        | What::Checkpoint { .. }
+        | What::CheckMonitor
+        | What::Open(_)
+        | What::Stop => Ok(()),
     }
 }
 
@@ -126,7 +139,18 @@ fn push_within<'a>(
             push_entries(body.as_slice(), entries)?;
             entries.push(Entry::Last(statement))?;
         }
-        _ => {}
+        What::Assign { .. }
+        | What::AssignCall { .. }
+        | What::DoUntil { .. }
+        | What::Call { .. }
+        | What::Return(_)
+        | What::ReadUpdate { .. }
+        | What::Reply { .. }
+        | What::WriteRead { .. }
+        | What::Checkpoint { .. }
+        | What::CheckMonitor
+        | What::Open(_)
+        | What::Stop => {}
     }
     Ok(())
 }
