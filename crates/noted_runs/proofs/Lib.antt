@@ -1,0 +1,2 @@
+mod Booted
+mod Nothing

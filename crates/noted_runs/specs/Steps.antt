@@ -1,0 +1,123 @@
+-- With which step each process ended, as it is noted over the steps of a run. Our own.
+use Rattle.std.specs.Option.{option_map, option_and_then}
+use Rattle.std.specs.Prelude.{ℕ, Bool, true, false, if◌then◌else◌, List, [], slice_get, slice_set, Option, Some, None}
+use Rattle.noted_rules.specs.Noted.{Noting}
+use Rattle.process_semantics.specs.Image.{image_of}
+use Rattle.process_semantics.specs.Process.{ProcessState, in_hand, point}
+use Rattle.process_semantics.specs.declared.point.Point.{Point}
+use Rattle.process_semantics.specs.declared.point.Point.TheVariants as point
+use Rattle.program_ends.specs.Ends.{end_of_program}
+use Rattle.program_ends.specs.declared.ending.LastStep.{LastStep}
+use Rattle.schedule.specs.declared.event.Event.{Event}
+use Rattle.schedule.specs.declared.event.Event.TheVariants as event
+use Rattle.tal_tree.specs.declared.site.Kind.{Kind}
+use Rattle.tal_tree.specs.declared.site.Kind.TheVariants as kind
+use Rattle.tal_tree.specs.declared.site.ProcessSpec.{ProcessSpec}
+use Rattle.tal_tree.specs.declared.site.Site.{Site}
+use Rattle.world_semantics.specs.World.{Copy, Pair, World}
+use Rattle.world_semantics.specs.declared.role.Role.{Role}
+use Rattle.world_semantics.specs.declared.role.Role.TheVariants as role
+use Rattle.noted_runs.specs.declared.steps.Stood.{Stood}
+
+-- Where a process stands
+
+abbrev pub is_acting : Role → Bool
+is_acting role.Acting = true
+is_acting role.Watching = false
+is_acting role.Gone = false
+
+-- the copy of a process that acts, if one does
+abbrev pub acting_of : Pair → Option Copy
+acting_of pair =
+    if is_acting pair.first.role then Some pair.first
+    else if is_acting pair.second.role then Some pair.second else None
+
+-- the state of the process of a number, that of its copy that acts
+abbrev pub state_in : World → ℕ → Option ProcessState
+state_in w process =
+    option_map (λ copy. copy.core.state) (option_and_then acting_of (slice_get w.processes process))
+
+abbrev pub is_inner : Point → Bool
+is_inner point.Inner = true
+is_inner point.Take = false
+is_inner point.Ask = false
+is_inner point.Await = false
+is_inner point.Answer = false
+is_inner point.AtCheckpoint = false
+is_inner point.Device = false
+is_inner point.Ended = false
+
+abbrev pub has_ended : Point → Bool
+has_ended point.Ended = true
+has_ended point.Inner = false
+has_ended point.Take = false
+has_ended point.Ask = false
+has_ended point.Await = false
+has_ended point.Answer = false
+has_ended point.AtCheckpoint = false
+has_ended point.Device = false
+
+-- where a process stands whose next step is inside it: only such a step ends it
+abbrev pub stood_at : ProcessState → Option Stood
+stood_at s =
+    if is_inner (point s) then Some (record { words = image_of [] s; in_hand = in_hand s }) else None
+
+abbrev pub stood_by : Option ProcessState → Option Stood
+stood_by s = option_and_then stood_at s
+
+abbrev pub ended_at : Option ProcessState → Bool
+ended_at None = false
+ended_at (Some s) = has_ended (point s)
+
+-- Ends
+
+-- the step with which a process of a kind ended that stood so; a disc never ends
+abbrev pub end_of_kind : Kind → Stood → Option LastStep
+end_of_kind (kind.Disc sectors) stood = None
+end_of_kind (kind.Pair program) stood = Some (end_of_program program stood.words stood.in_hand)
+
+abbrev pub end_of_spec : Option ProcessSpec → Option Stood → Option LastStep
+end_of_spec None stood = None
+end_of_spec (Some spec) None = None
+end_of_spec (Some spec) (Some stood) = end_of_kind spec.what stood
+
+-- the steps with which the processes of a site ended, each in its place, once one more has
+abbrev pub with_end : ℕ → Option LastStep → List (Option LastStep) → List (Option LastStep)
+with_end process None steps = steps
+with_end process (Some step) steps = slice_set steps process (Some step)
+
+-- after a step of a process that stood so before it, and has ended by it or hasn't
+abbrev pub ends_after : Site → ℕ → Option Stood → Bool → List (Option LastStep) → List (Option LastStep)
+ends_after site process stood ended steps =
+    if ended then with_end process (end_of_spec (slice_get site.processes process) stood) steps else steps
+
+-- Notes
+
+-- what is noted: the site that is played, and of each of its processes the step with which it ended, if it has
+pub record Ends : Type 0 where
+  pub site : Site
+  pub steps : List (Option LastStep)
+
+abbrev pub ends_of_run : ℕ → World → World → Ends → Ends
+ends_of_run process before after ends = record ends {
+  steps = ends_after ends.site process (stood_by (state_in before process)) (ended_at (state_in after process))
+      ends.steps;
+}
+
+-- the process of which an event is a step
+abbrev pub stepped : Event → Option ℕ
+stepped (event.Run process) = Some process
+stepped (event.Enter terminal) = None
+stepped (event.Deliver y k) = None
+stepped (event.Lose y k) = None
+stepped (event.Repeat y k) = None
+stepped (event.Tick node) = None
+stepped (event.Fail processor) = None
+
+abbrev pub ends_of_step : Option ℕ → World → World → Ends → Ends
+ends_of_step None before after ends = ends
+ends_of_step (Some process) before after ends = ends_of_run process before after ends
+
+-- over an event that is a step of a process
+abbrev pub noting_ends : Noting Ends
+noting_ends event before after ends = ends_of_step (stepped event) before.world after.world ends

@@ -1,0 +1,195 @@
+ghost use Rattle.std.specs.Prelude.{◌≡◌, false, None, Some, IfOk, OnOk};
+ghost use Rattle.std.specs.Option.{option_copied, option_map};
+ghost use Rattle.machine_states.specs.States.{Settles};
+ghost use Rattle.noted_rules.specs.Noted.{IsReadyToo, NotedWires, noted_play, noted_rules, with_notes};
+ghost use Rattle.noted_rules.specs.packet_runs.specs.Runs.{concerned, is_alive, sender_of};
+ghost use Rattle.processes.specs.Seen.{state_of};
+ghost use Rattle.noted_rules.specs.packet_runs.specs.site_machine.specs.Needs.{IsReady};
+ghost use Rattle.noted_runs.specs.Steps as ends;
+ghost use Rattle.noted_runs.specs.Steps.{ends_after, noting_ends, state_in, stepped, stood_by};
+
+use crate::steps::{Stood, acting_of, end_of_spec, ended_at, put_end, stood_at};
+use gd_words::{List, NoMemory};
+use machine_states::Effect;
+use packet_runs::site_machine::Machine;
+use packet_words::{Packet, PacketKind};
+use player::Player;
+use processes::Process;
+use program_ends::LastStep;
+use schedule::{Counts, Event};
+use schedule_loop::ScheduleMachine;
+use std::alloc::Global;
+use tal_tree::Site;
+
+/// The machine over packets, as a schedule is played on it, and with which steps the processes of its site ended.
+#[derive(Drop)]
+pub struct NotedPackets<'a> {
+    pub alloc: Global,
+    pub machine: Machine,
+    pub site: &'a Site,
+    pub steps: List<Option<LastStep>>,
+}
+
+impl<'a> NotedPackets<'a> {
+    /// Plays an event that is a step of none.
+    fn other(&mut self, event: Event) -> Result<Effect, NoMemory>
+        requires ready { IsReady self.old.machine.state }
+        requires stepped { stepped event ≡ None }
+        ensures done { IfOk result (λ effect. Settles
+            (noted_play noting_ends
+            (with_notes (record { site = self.old.site.now; steps = self.old.steps }) self.old.machine.state) event)
+            (with_notes (record { site = self.old.site.now; steps = self.old.steps }) self.old.machine.state) effect
+            (with_notes (record { site = self.new.site.now; steps = self.new.steps }) self.new.machine.state)) }
+        ensures whole { IfOk result (λ effect. self.new.machine.is_broken ≡ false) }
+    {
+        self.machine.event(event)
+    }
+
+    /// Plays an event that is a step of a process.
+    fn step(&mut self, process: u8, event: Event) -> Result<Effect, NoMemory>
+        requires ready { IsReady self.old.machine.state }
+        requires stepped { stepped event ≡ Some process }
+        ensures done { IfOk result (λ effect. Settles
+            (noted_play noting_ends
+            (with_notes (record { site = self.old.site.now; steps = self.old.steps }) self.old.machine.state) event)
+            (with_notes (record { site = self.old.site.now; steps = self.old.steps }) self.old.machine.state) effect
+            (with_notes (record { site = self.new.site.now; steps = self.new.steps }) self.new.machine.state)) }
+        ensures whole { IfOk result (λ effect. self.new.machine.is_broken ≡ false) }
+    {
+        let process = usize::from(process);
+        let stood = stood_at(self.alloc, self.acting(process))?;
+        let effect = self.machine.event(event)?;
+        match effect {
+            Effect::Done => {
+                self.note(process, stood)?;
+                Ok(Effect::Done)
+            }
+            Effect::Skipped => Ok(Effect::Skipped),
+            Effect::WouldStopSecond(processor) => Ok(Effect::WouldStopSecond(processor)),
+        }
+    }
+
+    /// Notes the step with which a process ended that stood so before it, if it has.
+    fn note(&mut self, process: usize, stood: Option<Stood>) -> Result<(), NoMemory>
+        ensures steps { OnOk result (self.new.steps ≡ ends_after self.old.site.now process stood
+            (ends.ended_at (state_in self.old.machine.state.world process)) self.old.steps) }
+        ensures machine { self.new.machine ≡ self.old.machine }
+        ensures site { self.new.site ≡ self.old.site }
+    {
+        if !ended_at(self.acting(process)) {
+            return Ok(());
+        }
+        let step = end_of_spec(self.alloc, self.site.processes.get(process), stood)?;
+        put_end(&mut self.steps, process, step);
+        Ok(())
+    }
+
+    /// The process of the copy that acts for the process of a number, if one does.
+    fn acting(&self, process: usize) -> Option<&Process>
+        ensures { option_map state_of (option_copied result) ≡ state_in self.now.machine.state.world process }
+    {
+        acting_of(self.machine.processes().get(process)?)
+    }
+
+    /// The packet that the next event concerns where the line goes on.
+    fn concerned(&self, player: &Player, x: u32, y: u32) -> Option<&Packet>
+        ensures { option_copied result ≡ concerned self.now.machine.state x y player.now }
+    {
+        let (bus, k) = player.aim(x, y)?;
+        self.machine.packet_at(bus, k)
+    }
+}
+
+impl<'a> ScheduleMachine for NotedPackets<'a> {
+    ghost Wires = { NotedWires ends.Ends };
+
+    ghost rules = { noted_rules noting_ends };
+
+    ghost is_ready = { IsReadyToo };
+
+    ghost state = { λ packets. with_notes (record { site = packets.site.now; steps = packets.steps })
+        packets.machine.state };
+
+    ghost is_broken = { λ packets. packets.machine.is_broken };
+
+    fn event(&mut self, event: Event) -> Result<Effect, NoMemory> {
+        match stepped(event) {
+            None => self.other(event),
+            Some(process) => self.step(process, event),
+        }
+    }
+
+    fn deliver_at_once(&mut self, y: bool) -> bool {
+        self.machine.deliver_at_once(y)
+    }
+
+    fn counts(&self, player: &Player, idle: bool) -> Counts {
+        let x = self.machine.count(false) as u32;
+        let y = self.machine.count(true) as u32;
+        let packet = self.concerned(player, x, y);
+        Counts {
+            x,
+            y,
+            alive: is_alive(packet),
+            sender: sender_of(packet),
+            idle,
+            writes: self.machine.writes(),
+            replies: self.machine.replies(),
+        }
+    }
+
+    fn tally(&self, idle: bool) -> Counts {
+        Counts {
+            x: self.machine.count(false) as u32,
+            y: self.machine.count(true) as u32,
+            alive: false,
+            sender: 0,
+            idle,
+            writes: self.machine.writes(),
+            replies: self.machine.replies(),
+        }
+    }
+
+    fn is_idle(&self) -> bool {
+        self.machine.is_idle()
+    }
+
+    fn close(&mut self) -> Result<(), NoMemory> {
+        self.machine.close()
+    }
+}
+
+/// The process of which an event is a step.
+fn stepped(event: Event) -> Option<u8>
+    ensures { result ≡ stepped event }
+{
+    match event {
+        Event::Run(process) => Some(process),
+        Event::Enter(_) => None,
+        Event::Deliver { y: _, k: _ } => None,
+        Event::Lose { y: _, k: _ } => None,
+        Event::Repeat { y: _, k: _ } => None,
+        Event::Tick(_) => None,
+        Event::Fail(_) => None,
+    }
+}
+
+/// Whether this is an alive packet.
+fn is_alive(packet: Option<&Packet>) -> bool
+    ensures { result ≡ is_alive (option_copied packet.entry) }
+{
+    match packet {
+        None => false,
+        Some(packet) => matches!(packet.kind, PacketKind::Alive),
+    }
+}
+
+/// The node that sent a packet, or node 0 where there is none.
+fn sender_of(packet: Option<&Packet>) -> u8
+    ensures { result ≡ sender_of (option_copied packet.entry) }
+{
+    match packet {
+        None => 0,
+        Some(packet) => packet.sender,
+    }
+}
