@@ -8,11 +8,11 @@ use Rattle.player.specs.declared.stop.ProcessorStop.{ProcessorStop}
 use Rattle.verdicts.specs.Refused.{AreAccepted}
 
 -- all programs are accepted, and it is told what a run with this stop left
-abbrev pub IsOfRun : Deck → Option ProcessorStop → JudgedDeck → Type 0
-IsOfRun deck stop judged =
-    (judged.refused ≡ false) × AreAccepted deck.site.processes × IsLeftText deck stop judged.told
+abbrev pub IsOfRun : List ℕ → Deck → Option ProcessorStop → JudgedDeck → Type 0
+IsOfRun bytes deck stop judged =
+    (judged.refused ≡ false) × AreAccepted deck.site.processes × IsLeftText bytes deck stop judged.told
 
 -- a program is refused, and that is told; or it is told of the run
 abbrev pub IsLeftDeck : List ℕ → Deck → Option ProcessorStop → JudgedDeck → Type 0
 IsLeftDeck bytes deck stop judged =
-    ((judged.refused ≡ true) × IsJudgedDeck bytes deck.site.processes judged) ⊎ IsOfRun deck stop judged
+    ((judged.refused ≡ true) × IsJudgedDeck bytes deck.site.processes judged) ⊎ IsOfRun bytes deck stop judged

@@ -1,6 +1,5 @@
 ghost use Rattle.std.specs.Prelude.{◌≤◌, length, IfOk};
 ghost use Rattle.deck_reader.specs.Decks.{Decks};
-ghost use Rattle.left_runs.specs.LeftRuns.{IsSpelt};
 ghost use Rattle.verdicts.specs.Refused.{AreAccepted};
 ghost use Rattle.explain_left.specs.Left.{IsLeftDeck, IsOfRun};
 
@@ -31,19 +30,21 @@ pub fn left_deck(
     if judged.refused {
         return Ok(judged);
     }
-    left_of_run(alloc, deck, stop)
+    left_of_run(alloc, bytes, deck, stop)
 }
 
 fn left_of_run(
     alloc: Global,
+    bytes: &[u8],
     deck: Deck,
     stop: Option<ProcessorStop>,
 ) -> Result<JudgedDeck, NoMemory>
-    requires spelt { IsSpelt deck }
+    requires spelt { Decks bytes.now deck }
+    requires few { length bytes.now ≤ 1048576 }
     requires accepted { AreAccepted deck.site.processes }
-    ensures { IfOk result (λ judged. IsOfRun deck stop judged) }
+    ensures { IfOk result (λ judged. IsOfRun bytes.now deck stop judged) }
 {
-    let told = left_after(alloc, deck, stop)?;
+    let told = left_after(alloc, bytes, deck, stop)?;
     Ok(JudgedDeck {
         refused: false,
         told,

@@ -1,6 +1,6 @@
 -- What is left at the end of a run, by the view of its machine.
-use Rattle.std.specs.Prelude.{ℕ, ◌+◌, ◌==◌, Bool, false, if◌then◌else◌, nat_lt, List, [], ◌∷◌, map, slice_get}
-use Rattle.std.specs.Prelude.{Option, Some, None}
+use Rattle.std.specs.Prelude.{ℕ, ◌+◌, ◌==◌, Bool, false, if◌then◌else◌, is_some, length, nat_lt, List, [], ◌∷◌, map}
+use Rattle.std.specs.Prelude.{slice_get, Option, Some, None}
 use Rattle.machine_views.specs.declared.views.Awaited.{Awaited}
 use Rattle.machine_views.specs.declared.views.CopyView.{CopyView}
 use Rattle.machine_views.specs.declared.views.TerminalView.{TerminalView}
@@ -12,6 +12,8 @@ use Rattle.tal_tree.specs.declared.site.ProcessSpec.{ProcessSpec}
 use Rattle.tal_tree.specs.declared.site.Site.{Site}
 use Rattle.world_semantics.specs.declared.role.Role.{Role}
 use Rattle.world_semantics.specs.declared.role.Role.TheVariants as role
+use Rattle.wait_rings.specs.Rings.{rings_of}
+use Rattle.left_findings.specs.Places.{line_of_copy}
 use Rattle.left_findings.specs.declared.finding.Left.{Left}
 use Rattle.left_findings.specs.declared.finding.ProcessLeft.{ProcessLeft}
 use Rattle.left_findings.specs.declared.finding.Stand.{Stand}
@@ -51,11 +53,11 @@ is_acting_as process number role.Gone = false
 abbrev pub is_acting_of : ℕ → CopyView → Bool
 is_acting_of process copy = is_acting_as process copy.process copy.role
 
--- where a process stands is where its copy stands that acts; if none does, its other copy has yet to take over
-abbrev pub stand_among : ℕ → List CopyView → Stand
-stand_among process [] = stand.AtTakeover
-stand_among process (copy ∷ copies) =
-    if is_acting_of process copy then stand_at copy else stand_among process copies
+-- the copy that acts for this process
+abbrev pub acting_among : ℕ → List CopyView → Option CopyView
+acting_among process [] = None
+acting_among process (copy ∷ copies) =
+    if is_acting_of process copy then Some copy else acting_among process copies
 
 -- the process whose reply a process awaits that stands so
 abbrev pub server_of_stand : Site → ProcessSpec → Stand → Option ℕ
@@ -67,12 +69,25 @@ server_of_stand site spec stand.AtTake = None
 server_of_stand site spec (stand.AtAcknowledgement number) = None
 server_of_stand site spec stand.CanStep = None
 
+-- a process stands where its copy stands that acts
+abbrev pub left_acting : Site → ProcessSpec → CopyView → ProcessLeft
+left_acting site spec copy = record {
+  stand = stand_at copy;
+  server = server_of_stand site spec (stand_at copy);
+  line = line_of_copy spec.what copy;
+  in_hand = is_some copy.receive.in_hand;
+  waiting = length copy.waiting;
+}
+
+-- if none does, its other copy has yet to take over
+abbrev pub left_by : Site → ProcessSpec → Option CopyView → ProcessLeft
+left_by site spec None =
+    record { stand = stand.AtTakeover; server = None; line = None; in_hand = false; waiting = 0 }
+left_by site spec (Some copy) = left_acting site spec copy
+
 -- the process of this number
 abbrev pub left_process : Site → List CopyView → ℕ → ProcessSpec → ProcessLeft
-left_process site copies process spec = record {
-  stand = stand_among process copies;
-  server = server_of_stand site spec (stand_among process copies);
-}
+left_process site copies process spec = left_by site spec (acting_among process copies)
 
 -- each of these processes, of which the first has this number
 abbrev pub processes_left : Site → List CopyView → ℕ → List ProcessSpec → List ProcessLeft
@@ -85,8 +100,13 @@ abbrev pub terminal_left : TerminalView → TerminalLeft
 terminal_left view =
     if nat_lt view.printed view.entered then terminal.Unanswered (view.printed + 1) else terminal.Answered view.printed
 
+-- the process whose reply each awaits, if it awaits one
+abbrev pub servers_of : List ProcessLeft → List (Option ℕ)
+servers_of lefts = map (λ left. left.server) lefts
+
 abbrev pub left_of : Site → View → Left
 left_of site view = record {
   processes = processes_left site view.copies 0 site.processes;
   terminals = map terminal_left view.terminals;
+  rings = rings_of (servers_of (processes_left site view.copies 0 site.processes));
 }

@@ -1,18 +1,24 @@
 use gd_words::List;
 use machine_views::Awaited;
 
-/// What is left of the processes and the terminals of a site, both in the deck's order.
+/// What is left of the processes and the terminals of a site, both in the deck's order, and the rings of processes of
+/// which each awaits a reply of the next, and the last of the first.
 #[derive(Drop)]
 pub struct Left {
     pub processes: List<ProcessLeft>,
     pub terminals: List<TerminalLeft>,
+    pub rings: List<List<usize>>,
 }
 
-/// Where a process stands, and the number of the process whose reply it awaits, if it awaits one.
+/// Where a process stands; the number of the process whose reply it awaits, if it awaits one; the line of its program's
+/// text at which it stands, if that is known; whether it has a request in hand; and how many requests wait for it.
 #[derive(Clone, Copy, PartialEq, Eq, Drop)]
 pub struct ProcessLeft {
     pub stand: Stand,
     pub server: Option<usize>,
+    pub line: Option<u32>,
+    pub in_hand: bool,
+    pub waiting: usize,
 }
 
 /// Where a process stands.

@@ -1,14 +1,18 @@
 ghost use Rattle.std.specs.Prelude.{◌≡◌, ◌++◌, map, IfOk, OnOk};
-ghost use Rattle.left_findings.specs.Left.{is_acting_of, left_of, left_process, processes_left, stand_at};
-ghost use Rattle.left_findings.specs.Left.{stand_among, stand_awaiting, stand_checked, terminal_left};
+ghost use Rattle.std.specs.Option.{option_copied};
+ghost use Rattle.left_findings.specs.Left.{acting_among, is_acting_of, left_acting, left_of, left_process};
+ghost use Rattle.left_findings.specs.Left.{processes_left, servers_of, stand_at, stand_awaiting, stand_checked};
+ghost use Rattle.left_findings.specs.Left.{terminal_left};
 
 use crate::finding::{Left, ProcessLeft, Stand, TerminalLeft};
+use crate::places::line_of_copy;
 use crate::servers::server_of_stand;
 use gd_words::{List, NoMemory};
 use machine_views::{CopyView, TerminalView, View};
 use process_semantics::Point;
 use std::alloc::Global;
 use tal_tree::{ProcessSpec, Site};
+use wait_rings::rings;
 use world_semantics::Role;
 
 /// What is left at the end of a run of a site, by the view of its machine.
@@ -17,10 +21,24 @@ pub fn left_of(alloc: Global, site: &Site, view: &View) -> Result<Left, NoMemory
 {
     let processes = processes_left(alloc, site, view.copies.as_slice())?;
     let terminals = terminals_left(alloc, view.terminals.as_slice())?;
+    let servers = servers_of(alloc, processes.as_slice())?;
+    let rings = rings(alloc, servers.as_slice())?;
     Ok(Left {
         processes,
         terminals,
+        rings,
     })
+}
+
+/// The process whose reply each awaits, if it awaits one.
+fn servers_of(alloc: Global, lefts: &[ProcessLeft]) -> Result<List<Option<usize>>, NoMemory>
+    ensures { IfOk result (λ servers. servers ≡ servers_of lefts.now) }
+{
+    let mut servers = List::new(alloc);
+    for left in lefts {
+        servers.push(left.server)?;
+    }
+    Ok(servers)
 }
 
 fn processes_left(
@@ -31,11 +49,12 @@ fn processes_left(
     ensures { IfOk result (λ all. all ≡ processes_left site.now copies.now 0 site.now.processes) }
 {
     let mut all = List::new(alloc);
-    put_processes(&mut all, site, copies, site.processes.as_slice())?;
+    put_processes(alloc, &mut all, site, copies, site.processes.as_slice())?;
     Ok(all)
 }
 
 fn put_processes(
+    alloc: Global,
     all: &mut List<ProcessLeft>,
     site: &Site,
     copies: &[CopyView],
@@ -44,33 +63,65 @@ fn put_processes(
     ensures { OnOk result (all.new ≡ all.old ++ processes_left site.now copies.now 0 specs.now) }
 {
     for (process, spec) in specs.iter().enumerate() {
-        all.push(left_process(site, copies, process, spec))?;
+        let left = left_process(alloc, site, copies, process, spec)?;
+        all.push(left)?;
     }
     Ok(())
 }
 
-fn left_process(site: &Site, copies: &[CopyView], process: usize, spec: &ProcessSpec) -> ProcessLeft
-    ensures { result ≡ left_process site.now copies.now process spec.now }
+fn left_process(
+    alloc: Global,
+    site: &Site,
+    copies: &[CopyView],
+    process: usize,
+    spec: &ProcessSpec,
+) -> Result<ProcessLeft, NoMemory>
+    ensures { IfOk result (λ left. left ≡ left_process site.now copies.now process spec.now) }
 {
-    let stand = stand_among(copies, process);
-    ProcessLeft {
-        stand,
-        server: server_of_stand(site, spec, stand),
+    match acting_among(copies, process) {
+        None => Ok(ProcessLeft {
+            stand: Stand::AtTakeover,
+            server: None,
+            line: None,
+            in_hand: false,
+            waiting: 0,
+        }),
+        Some(copy) => left_acting(alloc, site, spec, copy),
     }
 }
 
-/// Where a process stands, by its copies among all.
-fn stand_among(copies: &[CopyView], process: usize) -> Stand
-    ensures { result ≡ stand_among process copies.now }
+/// What is left of a process, by its copy that acts.
+fn left_acting(
+    alloc: Global,
+    site: &Site,
+    spec: &ProcessSpec,
+    copy: &CopyView,
+) -> Result<ProcessLeft, NoMemory>
+    ensures { IfOk result (λ left. left ≡ left_acting site.now spec.now copy.now) }
+{
+    let stand = stand_at(copy);
+    let line = line_of_copy(alloc, &spec.what, copy)?;
+    Ok(ProcessLeft {
+        stand,
+        server: server_of_stand(site, spec, stand),
+        line,
+        in_hand: copy.receive.in_hand.is_some(),
+        waiting: copy.waiting.len(),
+    })
+}
+
+/// The copy that acts for a process, among all copies.
+fn acting_among(copies: &[CopyView], process: usize) -> Option<&CopyView>
+    ensures { option_copied result ≡ acting_among process copies.now }
 {
     let mut left = copies;
     while let Some((copy, rest)) = left.split_first() {
         if is_acting_of(process, copy) {
-            return stand_at(copy);
+            return Some(copy);
         }
         left = rest;
     }
-    Stand::AtTakeover
+    None
 }
 
 fn is_acting_of(process: usize, copy: &CopyView) -> bool

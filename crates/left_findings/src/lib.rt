@@ -1,12 +1,14 @@
-//! What is left at the end of a run, by the view of its machine: for each terminal the request that has no reply, and
-//! for each process where it stands and for whom it waits.
+//! What is left at the end of a run, by the view of its machine: for each terminal the request that has no reply, for
+//! each process where it stands, at which line, and for whom it waits; and which processes wait for each other.
 //!
-//! Below stand `machine_views` with the view, and `plain_semantics` with what files are opened to. The layer above uses
-//! `left_of`, whose answer is `left_of` of `specs/Left.antt`.
+//! Below stand `machine_views` with the view, `plain_semantics` with what files are opened to, `program_ends` with the
+//! line of what comes next, and `wait_rings`. The layer above uses `left_of`, whose answer is `left_of` of
+//! `specs/Left.antt`.
 #![tactic(auto)]
 
 pub mod finding;
 mod findings;
+mod places;
 mod servers;
 
 pub use finding::{Left, ProcessLeft, Stand, TerminalLeft};

@@ -1,12 +1,15 @@
-ghost use Rattle.std.specs.Prelude.{◌≡◌, [], true, false, Some, None};
+ghost use Rattle.std.specs.Prelude.{◌≡◌, ℤ, List, [], true, false, Some, None};
 ghost use Rattle.left_findings.specs.machine_views.specs.declared.views.Awaited.{Awaited};
 ghost use Rattle.left_findings.specs.machine_views.specs.declared.views.CopyView.{CopyView};
 ghost use Rattle.process_semantics.specs.declared.point.Point.TheVariants as point;
 ghost use Rattle.tal_tree.specs.declared.site.ProcessSpec.{ProcessSpec};
 ghost use Rattle.tal_tree.specs.declared.site.Site.{Site};
 ghost use Rattle.world_semantics.specs.declared.role.Role.TheVariants as role;
-ghost use Rattle.left_findings.specs.Left.{is_acting_as, server_of_stand, stand_among, stand_at_point, stand_awaiting};
-ghost use Rattle.left_findings.specs.Left.{stand_checked, terminal_left};
+ghost use Rattle.program_ends.specs.Ends.{line_of_program};
+ghost use Rattle.tal_tree.specs.declared.program.Program.{Program};
+ghost use Rattle.left_findings.specs.Left.{acting_among, is_acting_as, left_by, server_of_stand};
+ghost use Rattle.left_findings.specs.Left.{stand_at_point, stand_awaiting, stand_checked, terminal_left};
+ghost use Rattle.left_findings.specs.Places.{line_at_point};
 ghost use Rattle.left_findings.specs.declared.finding.Stand.TheVariants as stand;
 ghost use Rattle.left_findings.specs.declared.finding.TerminalLeft.TheVariants as terminal;
 
@@ -27,7 +30,9 @@ pub fn a_process_stands_by_its_acting_copy()
     ensures another { is_acting_as 2 3 role.Acting ≡ false }
     ensures watching { is_acting_as 2 2 role.Watching ≡ false }
     ensures gone { is_acting_as 2 2 role.Gone ≡ false }
-    ensures none { stand_among 2 [] ≡ stand.AtTakeover }
+    ensures none { acting_among 2 [] ≡ None }
+    ensures takeover { (site : Site) (spec : ProcessSpec) → left_by site spec None
+        ≡ record { stand = stand.AtTakeover; server = None; line = None; in_hand = false; waiting = 0 } }
 {}
 
 /// Only a process that awaits a reply waits for another.
@@ -43,4 +48,17 @@ pub fn one_request_has_no_reply()
     ensures first { terminal_left (record { entered = 1; printed = 0 }) ≡ terminal.Unanswered 1 }
     ensures answered { terminal_left (record { entered = 3; printed = 3 }) ≡ terminal.Answered 3 }
     ensures nothing { terminal_left (record { entered = 0; printed = 0 }) ≡ terminal.Answered 0 }
+{}
+
+/// A copy stands at the line of what comes next. At a checkpoint, whose image is of the state after it, and once it has
+/// ended, no line is told.
+pub fn a_copy_stands_at_the_line_that_comes_next()
+    ensures inner { (program : Program) (words : List ℤ)
+        → line_at_point program point.Inner words ≡ line_of_program program words }
+    ensures take { (program : Program) (words : List ℤ)
+        → line_at_point program point.Take words ≡ line_of_program program words }
+    ensures awaits { (program : Program) (words : List ℤ)
+        → line_at_point program point.Await words ≡ line_of_program program words }
+    ensures checkpoint { (program : Program) (words : List ℤ) → line_at_point program point.AtCheckpoint words ≡ None }
+    ensures ended { (program : Program) (words : List ℤ) → line_at_point program point.Ended words ≡ None }
 {}

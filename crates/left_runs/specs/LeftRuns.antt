@@ -1,21 +1,16 @@
 -- What is told once a deck was run.
 use Rattle.std.specs.Prelude.{◌≡◌, ℕ, List, [], ◌∷◌, ◌++◌, codes, Option}
 use Rattle.std.specs.Fmt.{decimal}
-use Rattle.deck_reader.specs.Decks.{Decks}
 use Rattle.deck_reader.specs.declared.deck.Deck.{Deck}
 use Rattle.left_text.specs.left_findings.specs.Left.{left_of}
 use Rattle.left_text.specs.LeftText.{left_text}
 use Rattle.left_text.specs.machine_views.specs.Views.{view_of}
-use Rattle.packet_runs.specs.Ends.{IsRunOf}
-use Rattle.packet_runs.specs.declared.ran.Ran.{Ran}
+use Rattle.noted_runs.specs.Runs.{IsRunWithSteps}
+use Rattle.noted_runs.specs.declared.running.NotedRan.{NotedRan}
 use Rattle.player.specs.declared.stop.ProcessorStop.{ProcessorStop}
 use Rattle.schedule_loop.specs.declared.ran.Ending.{Ending}
 use Rattle.schedule_loop.specs.declared.ran.Ending.TheVariants as ending
 use Rattle.tal_tree.specs.declared.site.Site.{Site}
-
--- some bytes spell the deck
-abbrev pub IsSpelt : Deck → Type 0
-IsSpelt deck = (bytes : List ℕ) × Decks bytes deck
 
 -- the processor that would have been the second to stop
 abbrev pub second_text : ℕ → List ℕ
@@ -26,12 +21,13 @@ ending_text ending.Idle = codes "the run ended idle" ++ 10 ∷ []
 ending_text ending.Cut = codes "the run was cut" ++ 10 ∷ []
 ending_text (ending.Second processor) = second_text processor
 
--- how it ended, and what is left in the world in which it ended
-abbrev pub run_text : Site → Ran → List ℕ
-run_text site ran =
-    ending_text ran.ending ++ left_text site (left_of site (view_of ran.machine.state.world))
+-- how it ended, and what is left in the world in which it ended, of a deck of these bytes
+abbrev pub run_text : List ℕ → Site → NotedRan → List ℕ
+run_text bytes site noted =
+    ending_text noted.ran.ending
+    ++ left_text bytes site (left_of site (view_of noted.ran.machine.state.world)) noted.steps
 
--- the text is told of a run of the deck's schedule, with this stop
-abbrev pub IsLeftText : Deck → Option ProcessorStop → List ℕ → Type 0
-IsLeftText deck stop text =
-    (ran : Ran) × IsRunOf deck.site deck.lines stop ran × (text ≡ run_text deck.site ran)
+-- the text is told of a run of the schedule of a deck of these bytes, with this stop
+abbrev pub IsLeftText : List ℕ → Deck → Option ProcessorStop → List ℕ → Type 0
+IsLeftText bytes deck stop text =
+    (noted : NotedRan) × IsRunWithSteps deck.site deck.lines stop noted × (text ≡ run_text bytes deck.site noted)

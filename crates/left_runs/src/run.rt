@@ -1,6 +1,7 @@
-ghost use Rattle.std.specs.Prelude.{◌≡◌, IfOk};
+ghost use Rattle.std.specs.Prelude.{◌≡◌, ◌≤◌, length, IfOk};
+ghost use Rattle.deck_reader.specs.Decks.{Decks};
 ghost use Rattle.verdicts.specs.Refused.{AreAccepted};
-ghost use Rattle.left_runs.specs.LeftRuns.{IsLeftText, IsSpelt, run_text};
+ghost use Rattle.left_runs.specs.LeftRuns.{IsLeftText, run_text};
 
 use crate::ending::put_ending;
 use accepted_decks::an_accepted_deck_meets_the_premises;
@@ -10,36 +11,45 @@ use left_text::left_findings::left_of;
 use left_text::machine_views::view;
 use left_text::put_left;
 use logs::Shared;
-use packet_runs::{Ran, run};
+use noted_runs::{NotedRan, run};
 use player::ProcessorStop;
 use std::alloc::Global;
 use tal_tree::Site;
 
-/// Runs a deck whose programs are accepted, with a stop of a processor where one is given, and tells what is left.
+/// Runs the deck of these bytes, whose programs are accepted, with a stop of a processor where one is given, and tells
+/// what is left.
 pub fn left_after(
     alloc: Global,
+    bytes: &[u8],
     deck: Deck,
     stop: Option<ProcessorStop>,
 ) -> Result<List<u8>, NoMemory>
-    requires spelt { IsSpelt deck }
+    requires spelt { Decks bytes.now deck }
+    requires few { length bytes.now ≤ 1048576 }
     requires accepted { AreAccepted deck.site.processes }
-    ensures { IfOk result (λ text. IsLeftText deck stop text) }
+    ensures { IfOk result (λ text. IsLeftText bytes.now deck stop text) }
 {
     an_accepted_deck_meets_the_premises();
     let Deck { site, lines } = deck;
     let site = Shared::new(alloc, site)?;
-    let ran = run(alloc, &site, lines.as_slice(), stop)?;
-    text_of_run(alloc, site.get(), &ran)
+    let noted = run(alloc, &site, lines.as_slice(), stop)?;
+    text_of_run(alloc, bytes, site.get(), &noted)
 }
 
 /// What is told of a run.
-fn text_of_run(alloc: Global, site: &Site, ran: &Ran) -> Result<List<u8>, NoMemory>
-    ensures { IfOk result (λ text. text ≡ run_text site.now ran.now) }
+fn text_of_run(
+    alloc: Global,
+    bytes: &[u8],
+    site: &Site,
+    noted: &NotedRan,
+) -> Result<List<u8>, NoMemory>
+    requires { length bytes.now ≤ 1048576 }
+    ensures { IfOk result (λ text. text ≡ run_text bytes.now site.now noted.now) }
 {
-    let view = view(alloc, &ran.machine)?;
+    let view = view(alloc, &noted.ran.machine)?;
     let left = left_of(alloc, site, &view)?;
     let mut text = List::new(alloc);
-    put_ending(&mut text, ran.ending)?;
-    put_left(&mut text, site, &left)?;
+    put_ending(&mut text, noted.ran.ending)?;
+    put_left(&mut text, bytes, site, &left, noted.steps.as_slice())?;
     Ok(text)
 }

@@ -1,15 +1,23 @@
 -- What is left at the end of a run, as text. Our own wording.
-use Rattle.std.specs.Prelude.{ℕ, List, [], ◌∷◌, ◌++◌, codes, slice_get, Option, Some, None}
+use Rattle.std.specs.Prelude.{ℕ, zero, suc, ◌+◌, Bool, true, false, List, [], ◌∷◌, ◌++◌, codes, flat_map, slice_get}
+use Rattle.std.specs.Prelude.{Option, Some, None}
 use Rattle.std.specs.Fmt.{decimal}
 use Rattle.tal_tree.specs.declared.site.ProcessSpec.{ProcessSpec}
 use Rattle.tal_tree.specs.declared.site.Site.{Site}
 use Rattle.tal_tree.specs.declared.site.TerminalSpec.{TerminalSpec}
+use Rattle.finding_text.specs.Carried.{place_line}
+use Rattle.finding_text.specs.DeckPlace.{pair_line}
 use Rattle.left_findings.specs.declared.finding.Left.{Left}
 use Rattle.left_findings.specs.declared.finding.ProcessLeft.{ProcessLeft}
 use Rattle.left_findings.specs.declared.finding.Stand.{Stand}
 use Rattle.left_findings.specs.declared.finding.Stand.TheVariants as stand
 use Rattle.left_findings.specs.declared.finding.TerminalLeft.{TerminalLeft}
 use Rattle.left_findings.specs.declared.finding.TerminalLeft.TheVariants as terminal
+use Rattle.program_ends.specs.declared.ending.LastStep.{LastStep}
+use Rattle.program_ends.specs.declared.ending.LastStep.TheVariants.{MainEnded, Stopped, Returned, Trapped}
+use Rattle.program_ends.specs.declared.ending.LastStep.TheVariants.{TrappedAtEnd}
+use Rattle.program_ends.specs.declared.ending.Trap.{Trap}
+use Rattle.program_ends.specs.declared.ending.Trap.TheVariants as trap
 
 -- Terminals
 
@@ -45,10 +53,10 @@ abbrev pub server_name : List ProcessSpec → Option ℕ → List ℕ
 server_name all None = []
 server_name all (Some number) = name_at all number
 
--- what is told where no number is
+-- what is told where neither a number is nor an end
 abbrev pub plain_text : Stand → List ℕ
 plain_text stand.AtTakeover = codes " waits until its backup takes over" ++ 10 ∷ []
-plain_text stand.Ended = codes " has ended" ++ 10 ∷ []
+plain_text stand.Ended = []
 plain_text stand.AtTake = codes " waits for a request" ++ 10 ∷ []
 plain_text stand.CanStep = codes " waits for nothing: it could go on" ++ 10 ∷ []
 plain_text (stand.AtAwait awaited) = []
@@ -61,25 +69,136 @@ awaiting_text server number =
 abbrev pub checked_text : ℕ → List ℕ
 checked_text number = codes " waits until its backup acknowledges checkpoint " ++ decimal number ++ 10 ∷ []
 
--- where a process stands that awaits the reply of a process of this name, if it awaits one
-abbrev pub stand_text : List ℕ → Stand → List ℕ
-stand_text server (stand.AtAwait awaited) = awaiting_text server awaited.number
-stand_text server (stand.AtAcknowledgement number) = checked_text number
-stand_text server stand.AtTakeover = plain_text stand.AtTakeover
-stand_text server stand.Ended = plain_text stand.Ended
-stand_text server stand.AtTake = plain_text stand.AtTake
-stand_text server stand.CanStep = plain_text stand.CanStep
+-- how a process has ended
+abbrev pub step_text : LastStep → List ℕ
+step_text MainEnded = codes " has ended: its MAIN came to its end" ++ 10 ∷ []
+step_text (Stopped line) = codes " has ended by STOP:" ++ 10 ∷ []
+step_text (Returned line) = codes " has ended with the RETURN of its MAIN:" ++ 10 ∷ []
+step_text (Trapped line trap) = codes " has ended by a trap of this statement:" ++ 10 ∷ []
+step_text TrappedAtEnd =
+    codes " has ended by a trap: a procedure came to its end, and its word goes to an element that isn't there"
+    ++ 10 ∷ []
 
-abbrev pub process_line : List ProcessSpec → List ℕ → ProcessLeft → List ℕ
-process_line all name left = name ++ stand_text (server_name all left.server) left.stand
+abbrev pub ended_text : Option LastStep → List ℕ
+ended_text None = codes " has ended" ++ 10 ∷ []
+ended_text (Some step) = step_text step
 
--- these processes, which stand among all
-abbrev pub process_lines : List ProcessSpec → List ProcessSpec → List ProcessLeft → List ℕ
-process_lines all [] lefts = []
-process_lines all (spec ∷ specs) [] = []
-process_lines all (spec ∷ specs) (left ∷ lefts) =
-    process_line all spec.name left ++ process_lines all specs lefts
+-- where a process stands that awaits the reply of a process of this name, if it awaits one, and ended with this step,
+-- if it has
+abbrev pub stand_text : List ℕ → Option LastStep → Stand → List ℕ
+stand_text server step (stand.AtAwait awaited) = awaiting_text server awaited.number
+stand_text server step (stand.AtAcknowledgement number) = checked_text number
+stand_text server step stand.AtTakeover = plain_text stand.AtTakeover
+stand_text server step stand.Ended = ended_text step
+stand_text server step stand.AtTake = plain_text stand.AtTake
+stand_text server step stand.CanStep = plain_text stand.CanStep
 
-abbrev pub left_text : Site → Left → List ℕ
-left_text site left =
-    terminal_lines site.terminals left.terminals ++ process_lines site.processes site.processes left.processes
+abbrev pub line_of_step : LastStep → Option ℕ
+line_of_step MainEnded = None
+line_of_step (Stopped line) = Some line
+line_of_step (Returned line) = Some line
+line_of_step (Trapped line trap) = Some line
+line_of_step TrappedAtEnd = None
+
+abbrev pub line_of_end : Option LastStep → Option ℕ
+line_of_end None = None
+line_of_end (Some step) = line_of_step step
+
+-- the line of its program's text at which a process stands or, where it has ended, that of its last step
+abbrev pub line_shown : Option LastStep → Stand → Option ℕ → Option ℕ
+line_shown step stand.Ended line = line_of_end step
+line_shown step (stand.AtAwait awaited) line = line
+line_shown step (stand.AtAcknowledgement number) line = line
+line_shown step stand.AtTakeover line = line
+line_shown step stand.AtTake line = line
+line_shown step stand.CanStep line = line
+
+-- the line of the deck, by that of the program's text of the pair of this name
+abbrev pub place_text : List ℕ → List ℕ → Option ℕ → List ℕ
+place_text bytes name None = []
+place_text bytes name (Some line) = place_line bytes (pair_line bytes name + line)
+
+-- why a statement trapped
+abbrev pub trap_text : Trap → List ℕ
+trap_text trap.NothingInHand = codes "         no request is in hand" ++ 10 ∷ []
+trap_text trap.RequestInHand = codes "         a request is in hand already" ++ 10 ∷ []
+trap_text trap.Value = codes "         a divisor is 0, or an index is out of its bounds" ++ 10 ∷ []
+trap_text trap.Count =
+    codes "         a count is below 0, above 16 or above its array, or it has no value" ++ 10 ∷ []
+
+abbrev pub why_text : LastStep → List ℕ
+why_text MainEnded = []
+why_text (Stopped line) = []
+why_text (Returned line) = []
+why_text (Trapped line trap) = trap_text trap
+why_text TrappedAtEnd = []
+
+-- why a process has ended, and that a request which it has in hand gets no reply
+abbrev pub lost_text : Bool → List ℕ
+lost_text false = []
+lost_text true = codes "         the request that it has in hand gets no reply" ++ 10 ∷ []
+
+abbrev pub reason_text : Option LastStep → List ℕ
+reason_text None = []
+reason_text (Some step) = why_text step
+
+abbrev pub end_text : Option LastStep → Bool → List ℕ
+end_text step in_hand = reason_text step ++ lost_text in_hand
+
+abbrev pub after_text : Option LastStep → Bool → Stand → List ℕ
+after_text step in_hand stand.Ended = end_text step in_hand
+after_text step in_hand (stand.AtAwait awaited) = []
+after_text step in_hand (stand.AtAcknowledgement number) = []
+after_text step in_hand stand.AtTakeover = []
+after_text step in_hand stand.AtTake = []
+after_text step in_hand stand.CanStep = []
+
+abbrev pub count_text : ℕ → List ℕ
+count_text count = codes "         requests that wait for it: " ++ decimal count ++ 10 ∷ []
+
+abbrev pub waiting_text : ℕ → List ℕ
+waiting_text zero = []
+waiting_text (suc more) = count_text (suc more)
+
+abbrev pub process_line : List ℕ → List ProcessSpec → List ℕ → ProcessLeft → Option LastStep → List ℕ
+process_line bytes all name left step =
+    name ++ stand_text (server_name all left.server) step left.stand
+    ++ place_text bytes name (line_shown step left.stand left.line)
+    ++ after_text step left.in_hand left.stand ++ waiting_text left.waiting
+
+-- these processes, which stand among all, with the steps with which they ended
+abbrev pub process_lines : List ℕ → List ProcessSpec → List ProcessSpec → List ProcessLeft
+    → List (Option LastStep) → List ℕ
+process_lines bytes all [] lefts steps = []
+process_lines bytes all (spec ∷ specs) [] steps = []
+process_lines bytes all (spec ∷ specs) (left ∷ lefts) [] = []
+process_lines bytes all (spec ∷ specs) (left ∷ lefts) (step ∷ steps) =
+    process_line bytes all spec.name left step ++ process_lines bytes all specs lefts steps
+
+-- Rings
+
+abbrev pub other_text : List ProcessSpec → ℕ → List ℕ
+other_text all one = codes ", " ++ name_at all one
+
+abbrev pub itself_text : List ℕ → List ℕ
+itself_text name = name ++ codes " waits for itself" ++ 10 ∷ []
+
+abbrev pub each_other_text : List ProcessSpec → ℕ → List ℕ → List ℕ
+each_other_text all first others =
+    name_at all first ++ flat_map (other_text all) others
+    ++ (codes " wait for each other: each for a reply of the next, the last for one of the first" ++ 10 ∷ [])
+
+-- processes of which each awaits the next, and the last one the first
+abbrev pub ring_text : List ProcessSpec → List ℕ → List ℕ
+ring_text all [] = []
+ring_text all (first ∷ []) = itself_text (name_at all first)
+ring_text all (first ∷ other ∷ others) = each_other_text all first (other ∷ others)
+
+-- Whole
+
+-- what is left at the end of a run of the deck of these bytes, whose processes ended with these steps
+abbrev pub left_text : List ℕ → Site → Left → List (Option LastStep) → List ℕ
+left_text bytes site left steps =
+    terminal_lines site.terminals left.terminals
+    ++ process_lines bytes site.processes site.processes left.processes steps
+    ++ flat_map (ring_text site.processes) left.rings

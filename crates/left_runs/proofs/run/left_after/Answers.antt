@@ -1,23 +1,23 @@
-use Rattle.std.proofs.Common.{◌≡◌, ◌∙◌, ap, subst, sym}
+use Rattle.std.proofs.Common.{◌∙◌, ap, subst, sym}
 use Rattle.std.proofs.lemmas.Result.{IfOk-weaker}
-use Rattle.left_runs.specs.LeftRuns.{IsLeftText, run_text}
-use Rattle.packet_runs.specs.Ends.{IsRunOf}
-use Rattle.packet_runs.specs.Runs.{course_on, packet_rules}
+use Rattle.left_runs.specs.LeftRuns.{run_text}
+use Rattle.noted_runs.specs.Runs.{IsRunWithSteps}
+use Rattle.noted_runs.specs.packet_runs.specs.Runs.{course_on, packet_rules}
+use Rattle.noted_runs.specs.packet_runs.specs.site_machine.specs.Needs.{IsReady}
 use Rattle.schedule_loop.specs.Ends.{CanBePlayed}
-use Rattle.packet_runs.specs.site_machine.specs.Needs.{IsReady}
 use Rattle.left_runs.proofs.run.left_after.Goals as goal
 
 pub returns : goal.returns
 returns c =
-    let run : IsRunOf c.args.deck.site c.args.deck.lines c.args.stop c.in_ok-ran.ran =
-    subst (λ site. IsRunOf site c.args.deck.lines c.args.stop c.in_ok-ran.ran) c.in_ok-site.ensures
-    (subst (λ lines. IsRunOf c.in_ok-site.site lines c.args.stop c.in_ok-ran.ran) c.as_slice.ensures
-    c.in_ok-ran.ensures) in
+    let run : IsRunWithSteps c.args.deck.site c.args.deck.lines c.args.stop c.in_ok-noted.noted =
+    subst (λ site. IsRunWithSteps site c.args.deck.lines c.args.stop c.in_ok-noted.noted) c.in_ok-site.ensures
+    (subst (λ lines. IsRunWithSteps c.in_ok-site.site lines c.args.stop c.in_ok-noted.noted) c.as_slice.ensures
+    c.in_ok-noted.ensures) in
     IfOk-weaker c.text_of_run.result _ _
     (λ text is. (
-      c.in_ok-ran.ran,
+      c.in_ok-noted.noted,
       run,
-      is ∙ ap (λ site. run_text site c.in_ok-ran.ran) (c.get.ensures ∙ c.in_ok-site.ensures),
+      is ∙ ap (λ site. run_text c.args.bytes.now site c.in_ok-noted.noted) (c.get.ensures ∙ c.in_ok-site.ensures),
     ))
     c.text_of_run.ensures
 
@@ -27,5 +27,5 @@ run-requires-clause-can c =
     (sym c.as_slice.ensures)
     (subst (λ site. CanBePlayed packet_rules IsReady (course_on site c.args.deck.lines c.args.stop))
     (sym c.in_ok-site.ensures)
-    (c.an_accepted_deck_meets_the_premises.ensures.can c.requires.spelt.0 c.args.deck c.args.stop c.requires.spelt.1
+    (c.an_accepted_deck_meets_the_premises.ensures.can c.args.bytes.now c.args.deck c.args.stop c.requires.spelt
     c.requires.accepted))
