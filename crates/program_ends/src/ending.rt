@@ -131,58 +131,26 @@ fn at_statement(depth: u16, in_hand: bool, statement: &Statement) -> LastStep
     match &statement.what {
         What::Stop => LastStep::Stopped(line),
         What::Return(_) => at_return(depth, line),
-        What::ReadUpdate {
-            buffer: _,
-            most: _,
-            got: _,
-        } => LastStep::Trapped {
+        What::ReadUpdate { .. } => LastStep::Trapped {
             line,
             trap: of_reading(in_hand),
         },
-        What::Reply {
-            buffer: _,
-            count: _,
-        } => LastStep::Trapped {
+        What::Reply { .. } => LastStep::Trapped {
             line,
             trap: of_replying(in_hand),
         },
-        What::WriteRead {
-            file: _,
-            buffer: _,
-            send: _,
-            room: _,
-            got: _,
-        } => LastStep::Trapped {
+        What::WriteRead { .. } => LastStep::Trapped {
             line,
             trap: Trap::Count,
         },
-        What::Assign { to: _, value: _ }
-        | What::AssignCall {
-            to: _,
-            procedure: _,
-            arguments: _,
-        }
-        | What::If {
-            test: _,
-            yes: _,
-            no: _,
-        }
-        | What::While { test: _, body: _ }
-        | What::For {
-            variable: _,
-            from: _,
-            to: _,
-            down: _,
-            step: _,
-            body: _,
-            last: _,
-        }
-        | What::DoUntil { body: _, test: _ }
-        | What::Call {
-            procedure: _,
-            arguments: _,
-        }
-        | What::Checkpoint { items: _, files: _ }
+        What::Assign { .. }
+        | What::AssignCall { .. }
+        | What::If { .. }
+        | What::While { .. }
+        | What::For { .. }
+        | What::DoUntil { .. }
+        | What::Call { .. }
+        | What::Checkpoint { .. }
         | What::CheckMonitor
         | What::Open(_) => LastStep::Trapped {
             line,
