@@ -1,3 +1,2 @@
 pub mod Booted
 pub mod Forgotten
-pub mod Settled
