@@ -1,0 +1,3 @@
+pub mod KeptTurns
+pub mod Passes
+pub mod Verdicts
