@@ -1,9 +1,9 @@
-//! The search for a stop of a processor with which a run of a deck's schedule isn't one of unfailing processes. Programs
-//! need not be accepted: the machine over whole messages runs any.
+//! The search for a stop of a processor with which a run of a deck's schedule isn't one of unfailing processes. The
+//! programs need not be accepted: the machine over whole messages runs any.
 //!
-//! Below stand `schedule_runs` with the runs, and `unfailing_judge` with what goes wrong in what they keep and show. The
-//! layer above uses `search_breaks`, whose answer is `IsSearch` of `specs/Breaks.antt`: the first of the stops that are
-//! tried, in their order, with which a run breaks, or that none does.
+//! Below stand `schedule_runs` with the runs, and `unfailing_judge` with what goes wrong in what they keep and show.
+//! The layer above uses `search_breaks`, whose answer is `IsSearch` of `specs/Breaks.antt`: the first of the stops that
+//! are tried, in their order, with which a run breaks, or that none does.
 #![tactic(auto)]
 
 pub mod found;
