@@ -1,0 +1,8 @@
+//! Guards of what breaks a run: acts in other orders, which act is next, where what was shown differs, how many stops
+//! are tried, and what is told. A wrong definition is refused here.
+//!
+//! Below stands `break_text`, whose definitions and those that it passes on are guarded; nothing stands above.
+#![tactic(auto)]
+
+pub mod judging;
+pub mod telling;
