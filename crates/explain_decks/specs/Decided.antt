@@ -6,7 +6,8 @@ use Rattle.deck_reader.specs.declared.deck.Deck.{Deck}
 use Rattle.explain_decks.specs.declared.due.Due.{Due}
 use Rattle.explain_decks.specs.declared.due.Due.TheVariants as due
 use Rattle.explain_decks.specs.declared.telling.Telling.{Telling}
-use Rattle.explain_decks.specs.declared.telling.Telling.TheVariants.{Why, Left}
+use Rattle.explain_decks.specs.declared.telling.Telling.TheVariants.{Why, Left, Breaks}
+use Rattle.explain_break.specs.Broken.{IsBreakDeck}
 use Rattle.explain_left.specs.Left.{IsLeftDeck}
 use Rattle.explain_left.specs.explain_why.specs.Judged.{IsJudgedDeck}
 use Rattle.explain_left.specs.explain_why.specs.declared.judged.JudgedDeck.{JudgedDeck}
@@ -28,11 +29,13 @@ abbrev pub can_stop : Telling → ℕ → Bool
 can_stop Why processors = true
 can_stop (Left None) processors = true
 can_stop (Left (Some stop)) processors = nat_lt stop.processor processors
+can_stop Breaks processors = true
 
 -- what is told of a deck
 abbrev pub IsTold : Telling → List ℕ → Deck → JudgedDeck → Type 0
 IsTold Why bytes deck judged = IsJudgedDeck bytes deck.site.processes judged
 IsTold (Left stop) bytes deck judged = IsLeftDeck bytes deck stop judged
+IsTold Breaks bytes deck judged = IsBreakDeck bytes deck judged
 
 -- what is due of a deck that bytes spell
 abbrev pub IsDueOfDeck : Telling → List ℕ → Deck → Due → Type 0

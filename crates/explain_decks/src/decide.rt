@@ -8,6 +8,7 @@ ghost use Rattle.explain_decks.specs.Written.{CanBeWritten};
 use crate::due::{Due, RefusedDeck};
 use crate::telling::Telling;
 use deck_reader::{Deck, read_deck};
+use explain_break::break_deck;
 use explain_left::explain_why::{JudgedDeck, judged_deck, programs_of_a_deck_can_be_judged};
 use explain_left::left_deck;
 use fault_text::told_text;
@@ -66,6 +67,7 @@ fn can_stop(telling: Telling, processors: u8) -> bool
         Telling::Why => true,
         Telling::Left(None) => true,
         Telling::Left(Some(stop)) => stop.processor < processors,
+        Telling::Breaks => true,
     }
 }
 
@@ -87,6 +89,10 @@ fn told_of_deck(
         }
         Telling::Left(stop) => {
             let judged = left_deck(alloc, bytes, deck, stop)?;
+            Ok(judged)
+        }
+        Telling::Breaks => {
+            let judged = break_deck(alloc, bytes, deck)?;
             Ok(judged)
         }
     }

@@ -7,4 +7,6 @@ pub enum Telling {
     Why,
     /// What is left once it was run, with a stop of a processor where one is given.
     Left(Option<ProcessorStop>),
+    /// A run of it that breaks, if a program of it is refused.
+    Breaks,
 }

@@ -7,7 +7,7 @@ use Rattle.explain_decks.specs.declared.telling.Telling.{Telling}
 use Rattle.explain_decks.specs.declared.telling.Telling.TheVariants as telling
 use Rattle.explain_words.specs.Asked.{IsAsked}
 use Rattle.explain_words.specs.declared.asked.Question.{Question}
-use Rattle.explain_words.specs.declared.asked.Question.TheVariants.{Why, Left, Help, Version}
+use Rattle.explain_words.specs.declared.asked.Question.TheVariants.{Why, Left, Breaks, Help, Version}
 use Rattle.explain_runner.specs.declared.ending.Ending.{Ending}
 use Rattle.explain_runner.specs.declared.ending.Ending.TheVariants as ending
 use Rattle.gd_words.specs.declared.memory.NoMemory.{NoMemory}
@@ -17,6 +17,7 @@ use Rattle.gd_io.specs.declared.writing.WriteFault.{WriteFault}
 abbrev pub usage_line : List ℕ
 usage_line =
     codes "usage: explain why [FILE]" ++ 10 ∷ [] ++ codes "       explain left [--fail P:K] [FILE]" ++ 10 ∷ []
+    ++ codes "       explain break [FILE]" ++ 10 ∷ []
 
 -- how a call ends that writes the usage, by whether it went out whole
 abbrev pub usage_ending : Result ⊤ WriteFault → Ending
@@ -71,6 +72,8 @@ module _ {S K : Type 0} (left : S → Option (List ℕ)) (failed_reads : S → �
   IsAnswer (Some Why) source source_now sink sink_now how = IsTold telling.Why source source_now sink sink_now how
   IsAnswer (Some (Left stop)) source source_now sink sink_now how =
       IsTold (telling.Left stop) source source_now sink sink_now how
+  IsAnswer (Some Breaks) source source_now sink sink_now how =
+      IsTold telling.Breaks source source_now sink sink_now how
   IsAnswer (Some Help) source source_now sink sink_now how =
       (source_now ≡ source) × IsShown held failed_writes sure_to_write sink sink_now how
   IsAnswer (Some Version) source source_now sink sink_now how =

@@ -25,8 +25,8 @@ pub fn exit_number<S: Source, K: Sink>(
 }
 
 /// Does what the words ask for, the program's name first. `why` tells why the deck of the source can't be read, or why
-/// its programs are refused, and `left` what is left once it was run. `--help` and `--version` write what they ask for,
-/// and other words give the usage.
+/// its programs are refused, `left` what is left once it was run, and `break` a run of it that breaks if a program is
+/// refused. `--help` and `--version` write what they ask for, and other words give the usage.
 pub fn explain<S: Source, K: Sink>(
     alloc: Global,
     words: &[String],
@@ -43,6 +43,7 @@ pub fn explain<S: Source, K: Sink>(
         Ok(Some(Question::Left(stop))) => {
             Ending::Told(tell(alloc, Telling::Left(stop), source, sink))
         }
+        Ok(Some(Question::Breaks)) => Ending::Told(tell(alloc, Telling::Breaks, source, sink)),
         Ok(Some(Question::Help)) => show(help_text(alloc), sink),
         Ok(Some(Question::Version)) => show(version_text(alloc), sink),
     }
@@ -53,7 +54,7 @@ fn write_usage<K: Sink>(sink: &mut K) -> Ending
 {
     match put_all(
         sink,
-        b"usage: explain why [FILE]\n       explain left [--fail P:K] [FILE]\n",
+        b"usage: explain why [FILE]\n       explain left [--fail P:K] [FILE]\n       explain break [FILE]\n",
     ) {
         Ok(()) => Ending::Usage,
         Err(WriteFault) => Ending::UsageUnwritten,

@@ -8,7 +8,7 @@ use Rattle.clap.specs.declared.error.kind.ErrorKind.TheVariants as kind
 use Rattle.command_words.specs.Asked.{stop_of}
 use Rattle.explain_words.specs.Line.{the_line}
 use Rattle.explain_words.specs.declared.asked.Question.{Question}
-use Rattle.explain_words.specs.declared.asked.Question.TheVariants.{Why, Left, Help, Version}
+use Rattle.explain_words.specs.declared.asked.Question.TheVariants.{Why, Left, Breaks, Help, Version}
 
 -- `why` takes no stop
 abbrev pub why_as : Option Text → Option Question
@@ -20,10 +20,16 @@ abbrev pub left_as : Option Text → Option Question
 left_as None = Some (Left None)
 left_as (Some fail) = option_map (λ stop. Left (Some stop)) (stop_of fail)
 
+-- `break` takes none
+abbrev pub breaks_as : Option Text → Option Question
+breaks_as None = Some Breaks
+breaks_as (Some fail) = None
+
 -- what a mode asks for with this value of `--fail`
 abbrev pub question_as : Text → Option Text → Option Question
 question_as mode fail =
-    if bytes_eq mode (codes "why") then why_as fail else if bytes_eq mode (codes "left") then left_as fail else None
+    if bytes_eq mode (codes "why") then why_as fail else if bytes_eq mode (codes "left") then left_as fail
+    else if bytes_eq mode (codes "break") then breaks_as fail else None
 
 -- what the parts that clap tells apart ask for
 abbrev pub question_in : List Row → Option Question

@@ -1,7 +1,7 @@
 ghost use Rattle.std.specs.Prelude.{◌≡◌, IfOk, map, option_map, string_bytes};
 ghost use Rattle.clap.specs.Words.{found_of, rows_of};
-ghost use Rattle.explain_words.specs.Asked.{IsAsked, IsFileAsked, kind_question, left_as, question_as, question_in};
-ghost use Rattle.explain_words.specs.Asked.{why_as};
+ghost use Rattle.explain_words.specs.Asked.{IsAsked, IsFileAsked, breaks_as, kind_question, left_as};
+ghost use Rattle.explain_words.specs.Asked.{question_as, question_in, why_as};
 
 use crate::line::{Parse, parsed, text_of};
 use clap::ArgMatches;
@@ -18,6 +18,8 @@ pub enum Question {
     Why,
     /// Of a deck, what is left once it was run, with this stop of a processor where there is one.
     Left(Option<ProcessorStop>),
+    /// Of a deck whose programs are refused, a run of it that breaks.
+    Breaks,
     /// What the program does and which words it takes.
     Help,
     /// The program's version.
@@ -61,6 +63,7 @@ fn question_as(mode: &str, fail: Option<&str>) -> Option<Question>
     match mode {
         "why" => why_as(fail),
         "left" => left_as(fail),
+        "break" => breaks_as(fail),
         _ => None,
     }
 }
@@ -83,6 +86,15 @@ fn left_as(fail: Option<&str>) -> Option<Question>
             let stop = stop_of(fail)?;
             Some(Question::Left(Some(stop)))
         }
+    }
+}
+
+fn breaks_as(fail: Option<&str>) -> Option<Question>
+    ensures { result ≡ breaks_as (option_map (λ text. text.now) fail.entry) }
+{
+    match fail {
+        None => Some(Question::Breaks),
+        Some(_) => None,
     }
 }
 

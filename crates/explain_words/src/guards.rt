@@ -1,7 +1,7 @@
 ghost use Rattle.std.specs.Prelude.{◌≡◌, [], ◌∷◌, Option, Some, None, codes};
 ghost use Rattle.explain_words.specs.Asked.{IsAsked, IsAskedAfter, IsFileAfter, left_with_stop};
 ghost use Rattle.explain_words.specs.declared.asked.Question.{Question};
-ghost use Rattle.explain_words.specs.declared.asked.Question.TheVariants.{Why, Left};
+ghost use Rattle.explain_words.specs.declared.asked.Question.TheVariants.{Why, Left, Breaks};
 
 /// `why`, alone or with a file, before `--` or after it.
 pub fn why_is_asked_for()
@@ -28,6 +28,14 @@ pub fn left_is_asked_for()
         → question ≡ None }
     ensures twice { (question : Option Question)
         → IsAskedAfter (codes "left" ∷ codes "--fail=1:7" ∷ codes "--fail=1:7" ∷ []) question → question ≡ None }
+{}
+
+/// `break`, alone or with a file; it takes no stop.
+pub fn a_run_that_breaks_is_asked_for()
+    ensures alone { IsAskedAfter (codes "break" ∷ []) (Some Breaks) }
+    ensures file { IsAskedAfter (codes "break" ∷ codes "a.deck" ∷ []) (Some Breaks) }
+    ensures fail { IsAskedAfter (codes "break" ∷ codes "--fail" ∷ codes "1:7" ∷ []) None }
+    ensures longer { IsAskedAfter (codes "breaks" ∷ []) None }
 {}
 
 /// The second word is the file.

@@ -23,7 +23,7 @@ fn mode_argument<'a>(alloc: Global) -> Arg<'a>
         .required(true)
         .action(ArgAction::Set)
         .help(
-            "why: tells why a deck can't be read, or why its programs are refused; left: runs a deck and tells what is left",
+            "why: tells why a deck can't be read, or why its programs are refused; left: runs a deck and tells what is left; break: looks for a run that breaks if a program is refused",
         )
 }
 
