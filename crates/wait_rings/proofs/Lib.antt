@@ -1,1 +1,3 @@
-mod Closed
+mod Told
+mod Turned
+mod Walk

@@ -1,10 +1,7 @@
--- Who waits for whom in a ring. Our own.
-use Rattle.std.specs.Prelude.{◌≡◌, ℕ, zero, suc, ◌==◌, if◌then◌else◌, nat_lt, List, [], ◌∷◌, ◌++◌, length, slice_get}
-use Rattle.std.specs.Prelude.{Option, Some, None, option_and_then, option_to_list}
-
--- who is awaited by one, if any
-abbrev pub awaited_by : List (Option ℕ) → ℕ → Option ℕ
-awaited_by awaited one = option_and_then (λ next. next) (slice_get awaited one)
+-- The rings of those that wait, by going from each to whom it awaits. `TellsRings` of Waits.antt says what they are.
+use Rattle.std.specs.Prelude.{ℕ, zero, suc, ◌==◌, if◌then◌else◌, nat_lt, List, [], ◌∷◌, ◌++◌, length}
+use Rattle.std.specs.Prelude.{Option, Some, None, option_to_list}
+use Rattle.wait_rings.specs.Waits.{awaited_by}
 
 -- a ring is told from its lowest number on: who awaits the first one closes it, and who awaits a lower one is in none
 -- that begins here
@@ -32,15 +29,3 @@ rings_below awaited (suc first) = rings_below awaited first ++ option_to_list (r
 -- all rings of those that wait, each once
 abbrev pub rings_of : List (Option ℕ) → List (List ℕ)
 rings_of awaited = rings_below awaited (length awaited)
-
--- What a ring is
-
--- each of these awaits the next, and the last awaits this one
-abbrev pub AwaitOn : List (Option ℕ) → ℕ → List ℕ → Type 0
-AwaitOn awaited last [] = Unit {0}
-AwaitOn awaited last (one ∷ []) = awaited_by awaited one ≡ Some last
-AwaitOn awaited last (one ∷ next ∷ rest) = (awaited_by awaited one ≡ Some next) × AwaitOn awaited last (next ∷ rest)
-
--- a ring begins with its first, and the last of it awaits that
-abbrev pub IsRingFrom : List (Option ℕ) → ℕ → List ℕ → Type 0
-IsRingFrom awaited first ring = (slice_get ring 0 ≡ Some first) × AwaitOn awaited first ring

@@ -1,8 +1,10 @@
-ghost use Rattle.std.specs.Prelude.{◌≡◌, ℕ, List, Option, Some};
-ghost use Rattle.wait_rings.specs.Rings.{IsRingFrom, ring_of};
+ghost use Rattle.std.specs.Prelude.{◌≡◌, ℕ, List, Option};
+ghost use Rattle.wait_rings.specs.Rings.{rings_of};
+ghost use Rattle.wait_rings.specs.Waits.{TellsRings};
 
-/// A ring that is told is one: each of it awaits the next, and the last one awaits the first.
-pub fn each_of_a_ring_awaits_the_next()
-    ensures { (awaited : List (Option ℕ)) (first : ℕ) (ring : List ℕ) → ring_of awaited first ≡ Some ring
-        → IsRingFrom awaited first ring }
+/// What is told of the rings is one list, whoever waits for whom.
+pub fn each_ring_is_told_once()
+    ensures told { (awaited : List (Option ℕ)) → TellsRings awaited (rings_of awaited) }
+    ensures only { (awaited : List (Option ℕ)) (told others : List (List ℕ)) → TellsRings awaited told
+        → TellsRings awaited others → told ≡ others }
 {}

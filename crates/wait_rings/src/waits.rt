@@ -1,5 +1,6 @@
 ghost use Rattle.std.specs.Prelude.{◌≡◌, ◌++◌, option_to_list, IfOk, OnOk};
-ghost use Rattle.wait_rings.specs.Rings.{awaited_by, ring_of, rings_of};
+ghost use Rattle.wait_rings.specs.Rings.{ring_of, rings_of};
+ghost use Rattle.wait_rings.specs.Waits.{TellsRings, awaited_by};
 
 use gd_words::{List, NoMemory};
 use std::alloc::Global;
@@ -7,7 +8,8 @@ use std::alloc::Global;
 /// The rings of those that wait, by the number of the one that each awaits, if it awaits one. Each ring stands there
 /// once, from its lowest number on, and the rings rise by that.
 pub fn rings(alloc: Global, awaited: &[Option<usize>]) -> Result<List<List<usize>>, NoMemory>
-    ensures { IfOk result (λ all. all ≡ rings_of awaited.now) }
+    ensures tells { IfOk result (λ all. TellsRings awaited.now all) }
+    ensures same { IfOk result (λ all. all ≡ rings_of awaited.now) }
 {
     let mut all = List::new(alloc);
     put_rings(alloc, &mut all, awaited)?;
