@@ -12,7 +12,7 @@ use std::alloc::Global;
 use tal_tree::{Item, Shape};
 
 /// The image of a process with everything that it may list.
-pub(crate) fn image_of_everything(alloc: Global, process: &Process) -> Result<List<i16>, NoMemory>
+pub fn image_of_everything(alloc: Global, process: &Process) -> Result<List<i16>, NoMemory>
     ensures { IfOk result (λ words. words ≡ image_of_everything (state_of process.now)) }
 {
     let everything = everything(alloc, process)?;
