@@ -17,7 +17,7 @@ use Rattle.packet_wires.specs.Runs.{IsPlayed}
 use Rattle.packet_lengths.specs.world_copies.specs.Closed.{closed_world}
 use Rattle.schedule_loop.specs.Ends.{EndsBy, Plays}
 use Rattle.schedule_loop.specs.declared.ran.Ending.{Ending}
-use Rattle.schedule_loop.specs.declared.ran.Ending.TheVariants.{Idle, Cut, Second}
+use Rattle.schedule_loop.specs.declared.ran.Ending.TheVariants.{Idle, Cut, Second, Lost}
 use Rattle.packet_lengths.specs.packet_runs.specs.Ends.{IsRunOf}
 use Rattle.packet_lengths.specs.packet_runs.specs.Runs.{course_on, packet_rules}
 use Rattle.packet_lengths.specs.packet_runs.specs.declared.ran.Ran.{Ran}
@@ -79,6 +79,9 @@ module _ (site : Site) (known : Known site) (lines : List Line) (stop : Option P
   keeps-ended s left asked (Second processor) ends =
       subst (λ (one : Packeted). Keeps site one.world (Second processor)) (sym ends.1)
       (keeps-on s (Second processor) (known.schedule lines stop events ends.0.agenda s ends.0.played) (λ e. cc))
+  keeps-ended s left asked (Lost process) ends =
+      subst (λ (one : Packeted). Keeps site one.world (Lost process)) (sym ends.1)
+      (keeps-on s (Lost process) (known.schedule lines stop events ends.0.agenda s ends.0.played) (λ e. cc))
 
 pub run-keeps : (site : Site) (lines : List Line) (stop : Option ProcessorStop) (ran : Ran) → Known site
     → IsRunOf site lines stop ran → KeepsPossibleActs site ran

@@ -47,28 +47,29 @@ loadable-program : (program : Program) → Read program → IsLoadable program
 loadable-program program read = read-is-loadable read.0 program read.1
 
 loadable-kind : (what : Kind) → AreRead what → IsLoadableKind what
-loadable-kind (kind.Disc sectors) read = tt
+loadable-kind (kind.Disc sectors mirrored) read = tt
 loadable-kind (kind.Pair program) read = loadable-program program (read program refl)
 
 judgeable-kind : (what : Kind) → AreRead what → IsJudgeableKind what
-judgeable-kind (kind.Disc sectors) read = tt
+judgeable-kind (kind.Disc sectors mirrored) read = tt
 judgeable-kind (kind.Pair program) read =
     let loadable = loadable-program program (read program refl) in
     record { ordered = loadable.ordered; limits = loadable.limits; regular = loadable.regular }
 
 few-files : (what : Kind) → IsKindWithinLimits what → length (files_of what) ≤ 8
-few-files (kind.Disc sectors) keeps = omega arith
+few-files (kind.Disc sectors mirrored) keeps = omega arith
 few-files (kind.Pair program) keeps = keeps.files
 
 has-sectors : (what : Kind) → IsKindWithinLimits what → HasSectors what
-has-sectors (kind.Disc sectors) keeps = keeps
+has-sectors (kind.Disc sectors mirrored) keeps = keeps
 has-sectors (kind.Pair program) keeps = tt
 
 depth-of : (program : Program) (file : FileUse) → IsFileWithinLimits program.items file → IsDepth file.depth
 depth-of program file keeps = (keeps.lowest, keeps.highest)
 
 has-depths : (what : Kind) → IsKindWithinLimits what → HasDepths what
-has-depths (kind.Disc sectors) keeps = at-each (λ (file : FileUse). IsDepth file.depth) [] (λ n file there. absurd (cc))
+has-depths (kind.Disc sectors mirrored) keeps =
+    at-each (λ (file : FileUse). IsDepth file.depth) [] (λ n file there. absurd (cc))
 has-depths (kind.Pair program) keeps =
     at-each (λ (file : FileUse). IsDepth file.depth) program.files
     (λ n file there. depth-of program file (keeps.each_file file (among-at program.files n file there)))

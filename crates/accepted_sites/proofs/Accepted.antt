@@ -21,13 +21,14 @@ accepted-fit site accepted = record {
   where
     regular : (number : ℕ) (spec : ProcessSpec) → slice_get site.processes number ≡ Some spec → (what : Kind)
         → spec.what ≡ what → IsRegularKind what
-    regular number spec there (kind.Disc sectors) is = tt
+    regular number spec there (kind.Disc sectors mirrored) is = tt
     regular number spec there (kind.Pair program) is =
         let read = accepted.read number spec program there is in read_is_regular read.0 program read.1
 
     disciplined : (number : ℕ) (spec : ProcessSpec) → slice_get site.processes number ≡ Some spec → (what : Kind)
         → spec.what ≡ what → IsDisciplined site number spec
-    disciplined number spec there (kind.Disc sectors) is = disc-disciplined site number sectors spec is
+    disciplined number spec there (kind.Disc sectors mirrored) is =
+        disc-disciplined site number sectors mirrored spec is
     disciplined number spec there (kind.Pair program) is =
         accepted-disciplined site number spec program is (regular number spec there (kind.Pair program) is)
         (accepted.accepted number spec program there is)

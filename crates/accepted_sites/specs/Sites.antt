@@ -1,5 +1,5 @@
 -- Sites that meet the premises, or don't.
-use Rattle.std.specs.Prelude.{ℕ, pos, [], ◌∷◌, replicate}
+use Rattle.std.specs.Prelude.{ℕ, pos, false, [], ◌∷◌, replicate}
 use Rattle.tal_tree.specs.declared.site.Kind.TheVariants as kind
 use Rattle.tal_tree.specs.declared.site.Site.{Site}
 
@@ -7,6 +7,6 @@ use Rattle.tal_tree.specs.declared.site.Site.{Site}
 abbrev pub asked_with : ℕ → Site
 asked_with words = record {
   processors = 2;
-  processes = record { name = 36 ∷ 68 ∷ []; primary = 0; backup = 1; what = kind.Disc 4 } ∷ [];
+  processes = record { name = 36 ∷ 68 ∷ []; primary = 0; backup = 1; what = kind.Disc 4 false } ∷ [];
   terminals = record { name = 36 ∷ 84 ∷ []; target = 0; requests = replicate words (pos 1) ∷ [] } ∷ [];
 }

@@ -6,7 +6,7 @@ use Rattle.std.proofs.Common.{arith}
 use Rattle.std.specs.List.{list_all}
 use Rattle.schedule.specs.declared.event.Counts.{Counts}
 use Rattle.schedule.specs.declared.event.Event.{Event}
-use Rattle.schedule.specs.declared.event.Event.TheVariants.{Run, Enter, Deliver, Lose, Repeat, Tick, Fail}
+use Rattle.schedule.specs.declared.event.Event.TheVariants.{Run, Enter, Deliver, Lose, Repeat, Tick, Fail, Drive}
 use Rattle.schedule.specs.declared.line.Line.{Line}
 use Rattle.schedule.specs.declared.line.Line.TheVariants.{One, Many, Drain, Mix, Mute, Until}
 use Rattle.player.specs.declared.stop.ProcessorStop.{ProcessorStop}
@@ -32,6 +32,7 @@ use Rattle.alive_rounds.specs.Fresh.{TwoRun, IsFresh}
 use Rattle.alive_rounds.specs.Runs.{shows_nothing, CountsShown, is_ticking, StandsFresh, ComesFresh, by_turn, by_stop}
 use Rattle.alive_rounds.specs.Runs.{RunsFresh}
 use Rattle.alive_rounds.proofs.Freshness.{fresh-turn, fresh-stopped, fresh-broken, none-silent}
+use Rattle.schedule.specs.declared.event.DriveEvent.{DriveEvent}
 
 -- Lines
 
@@ -72,6 +73,8 @@ line-gives sizes w counts counted s (standing.Event (Deliver bus k) left) h = ab
 line-gives sizes w counts counted s (standing.Event (Lose bus k) left) h = absurd (let bad : false ≡ true = h.1 in cc)
 line-gives sizes w counts counted s (standing.Event (Repeat bus k) left) h = absurd (let bad : false ≡ true = h.1 in cc)
 line-gives sizes w counts counted s (standing.Event (Tick node) left) h = absurd (let bad : false ≡ true = h.1 in cc)
+line-gives sizes w counts counted s (standing.Event (Drive change) left) h = absurd (let bad : false ≡ true = h.1 in
+    cc)
 line-gives {S} {P} sizes w counts counted s (standing.Rounds kind left at) h =
     by (next_event sizes (standing.Rounds kind left at) (counts s)) (drain-gives sizes (counts s) kind left at h.1)
   where
@@ -242,6 +245,33 @@ tick-turn node (delivers_y left empty some at) is below = absurd (cc)
 tick-turn node (ticks other low came at) is below = (came.0, at ∙ (let same : other ≡ node = cc in same))
 tick-turn node (ends came all) is below =
     absurd (let same : 16 ≡ node = cc in let bad : 16 < 16 = omega (arith, below, same) in omega (arith, bad))
+
+-- no turn is one of a drive
+turn-no-drive : {sizes : Sizes} {x y : ℕ} {from to : Place} {event : Event} (change : DriveEvent)
+    → Turns sizes x y from event to → event ≡ Drive change → ⊥
+turn-no-drive change (enters terminal early low) is = cc
+turn-no-drive change (runs process early low) is = cc
+turn-no-drive change (delivers_x left some at) is = cc
+turn-no-drive change (delivers_y left empty some at) is = cc
+turn-no-drive change (ticks other low came at) is = cc
+turn-no-drive change (ends came all) is = cc
+
+-- in a calm schedule nothing of a drive comes
+pub no-drive : {S P : Type 0} (sizes : Sizes) (w : Sight S P) (counts : S → Counts) → CountsBuses w.buses counts
+    → (before : ℕ) (agenda : Agenda) (s : S) → RunsFresh sizes w counts agenda s → (plan : Plan)
+    → upcoming sizes before (counts s) agenda ≡ Some plan → (change : DriveEvent) → plan.event ≡ Drive change → ⊥
+no-drive {S} {P} sizes w counts counted before agenda s h plan comes change is =
+    by plan (plan-is (PlansFresh sizes w counts s) _ plan
+    (upcoming-fresh sizes w counts counted s before agenda.standing agenda.lines agenda.stop agenda.held_back h) comes)
+    is
+  where
+    at_turn : (now : LinePlace) (event : Event) → ComesFresh sizes w counts s now event → event ≡ Drive change → ⊥
+    at_turn _ _ (by_turn kind left from to event turn h drain low) is = turn-no-drive change turn is
+    at_turn _ _ (by_stop left processor h) is = absurd (cc)
+
+    by : (plan : Plan) → PlansFresh sizes w counts s plan → plan.event ≡ Drive change → ⊥
+    by _ (its_own now lines stop event comes calm) is = at_turn now event comes is
+    by _ (stop_first now lines stop event processor comes calm) is = absurd (cc)
 
 -- in a calm schedule a processor that ticks finds nobody silent that runs
 pub nobody-silent : {S P : Type 0} (sizes : Sizes) (w : Sight S P) (counts : S → Counts) → CountsBuses w.buses counts

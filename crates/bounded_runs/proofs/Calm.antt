@@ -9,7 +9,7 @@ use Rattle.std.proofs.lemmas.List.{length-append}
 use Rattle.tal_tree.specs.declared.site.Site.{Site}
 use Rattle.schedule.specs.declared.event.Counts.{Counts}
 use Rattle.schedule.specs.declared.event.Event.{Event}
-use Rattle.schedule.specs.declared.event.Event.TheVariants.{Run, Enter, Deliver, Lose, Repeat, Tick, Fail}
+use Rattle.schedule.specs.declared.event.Event.TheVariants.{Run, Enter, Deliver, Lose, Repeat, Tick, Fail, Drive}
 use Rattle.schedule.specs.declared.line.Line.{Line}
 use Rattle.schedule.specs.declared.line.Line.TheVariants.{One, Many, Drain, Mix, Mute, Until}
 use Rattle.player.specs.declared.standing.Sizes.{Sizes}
@@ -23,7 +23,7 @@ use Rattle.calm_schedules.specs.Calm.{IsCalm, is_calm_line, is_stop}
 use Rattle.world_semantics.specs.World.{is_running}
 use Rattle.world_semantics.specs.Running.{Done}
 use Rattle.computed_changes.specs.Stopped.{stop_done}
-use Rattle.machine_states.specs.States.{Makes, WouldStop}
+use Rattle.machine_states.specs.States.{Makes, Would, SecondStop, Harm}
 use Rattle.message_wires.specs.Play.{has_stopped}
 use Rattle.packet_words.specs.declared.bus_name.BusName.{BusName}
 use Rattle.packet_wires.specs.Wires.{on_bus, packets_over}
@@ -31,8 +31,8 @@ use Rattle.packet_wires.specs.Play.{IsClear, Packeted, begun as event_begun, fai
 use Rattle.packet_wires.specs.Play.{sent_by}
 use Rattle.round_laws.specs.Stretches.{is_drain}
 use Rattle.calm_runs.specs.packet_rounds.specs.Played.{IsClearPlay}
-use Rattle.calm_runs.proofs.Calm.{calm-asks, goes-on-running, never-second}
-use Rattle.schedule_loop.specs.Ends.{Plays, RunsToStopBy, planned_in}
+use Rattle.calm_runs.proofs.Calm.{calm-asks, goes-on-running, never-harm}
+use Rattle.schedule_loop.specs.Ends.{Plays, RunsToHarmBy, planned_in}
 use Rattle.schedule_loop.specs.Plans.{Sight, next_seen, planned_seen, seen_none, seen_on, upcoming_seen}
 use Rattle.schedule_loop.specs.Plans.{upcoming_seen_after}
 use Rattle.schedule_loop.specs.Rules.{IsPlayBy, sight_of}
@@ -162,7 +162,7 @@ fail-sends s processor = by (stop_done processor s.world)
     by None = refl
     by (Some done) = of (has_stopped s.world.stopped)
       where
-        of : (stopped : Bool) → out_of (if stopped then WouldStop processor
+        of : (stopped : Bool) → out_of (if stopped then Would (SecondStop processor)
             else Makes (record (event_begun s) { world = done.world })) ≡ []
         of true = refl
         of false = refl
@@ -175,6 +175,7 @@ stop-clear s (Deliver y k) few stops name = absurd (cc)
 stop-clear s (Lose y k) few stops name = absurd (cc)
 stop-clear s (Repeat y k) few stops name = absurd (cc)
 stop-clear s (Tick node) few stops name = absurd (cc)
+stop-clear s (Drive event) few stops name = absurd (cc)
 stop-clear s (Fail processor) few stops name =
     let none = ap (λ out. length (packets_over name out)) (fail-sends s processor) in
     let low = few name in
@@ -246,11 +247,12 @@ module _ (site : Site) (lines : List Line) (stop : Option ProcessorStop) (calm :
           (as-counted (length events) agenda s plan so_far.stands comes) next
           (step-clear events agenda s plan so_far.stands before comes to clear low, playing)
 
-      pub no-second : IsCalm lines (is_some stop) → (events : List Event) (s : Packeted)
-          → AreClear site lines stop 0 (length events) → (p : ℕ)
-          → RunsToStopBy packet_rules (course_on site lines stop) events s p → ⊥
-      no-second one events s clear p ran =
+      pub no-harm : IsCalm lines (is_some stop) → (events : List Event) (s : Packeted)
+          → AreClear site lines stop 0 (length events) → (harm : Harm)
+          → RunsToHarmBy packet_rules (course_on site lines stop) events s harm → ⊥
+      no-harm one events s clear harm ran =
           let so_far = calmly events ran.agenda s ran.played (length events) clear
           (let all : length events ≤ length events = omega arith in all) in
-          never-second site few counts_in counted shown lines stop calm (calm-asks lines stop one) events ran.agenda s
-          so_far.plays ran.plan (as-counted (length events) ran.agenda s ran.plan so_far.stands ran.comes) p ran.would
+          never-harm site few counts_in counted shown lines stop calm (calm-asks lines stop one) events ran.agenda s
+          so_far.plays ran.plan (as-counted (length events) ran.agenda s ran.plan so_far.stands ran.comes)
+          harm ran.would

@@ -8,14 +8,15 @@ use Rattle.player.specs.declared.stop.ProcessorStop.{ProcessorStop}
 use Rattle.agendas.specs.Agendas.{Agenda}
 use Rattle.calm_schedules.specs.Calm.{IsCalm}
 use Rattle.packet_wires.specs.Play.{Packeted}
-use Rattle.schedule_loop.specs.Ends.{EndsBy, Plays}
+use Rattle.schedule_loop.specs.Ends.{EndsBy, Plays, RunsToHarmBy, ending_by}
 use Rattle.schedule_loop.specs.declared.ran.Ending.{Ending}
-use Rattle.schedule_loop.specs.declared.ran.Ending.TheVariants.{Cut, Idle, Second}
+use Rattle.schedule_loop.specs.declared.ran.Ending.TheVariants.{Cut, Idle, Lost, Second}
 use Rattle.packet_runs.specs.Ends.{IsRunOf}
 use Rattle.packet_runs.specs.Runs.{course_on, packet_rules}
 use Rattle.packet_runs.specs.declared.ran.Ran.{Ran}
 use Rattle.bounded_runs.specs.Moments.{AreClear, Moment}
-use Rattle.bounded_runs.proofs.Calm.{no-second}
+use Rattle.bounded_runs.proofs.Calm.{no-harm}
+use Rattle.machine_states.specs.States.{Harm, SecondStop, DiscLoss}
 
 -- how a schedule was played to these events and to this state
 record IsPlayedTo (site : Site) (lines : List Line) (stop : Option ProcessorStop) (events : List Event) (s : Packeted)
@@ -30,6 +31,7 @@ ended site lines stop events s left asked Idle ends = record { agenda = ends.0.a
 ended site lines stop events s left asked Cut ends = record { agenda = ends.0.agenda; played = ends.0.played }
 ended site lines stop events s left asked (Second p) ends =
     record { agenda = ends.0.agenda; played = ends.0.played }
+ended site lines stop events s left asked (Lost p) ends = record { agenda = ends.0.agenda; played = ends.0.played }
 
 pub run-moment : (site : Site) (lines : List Line) (stop : Option ProcessorStop) (ran : Ran)
     → (run : IsRunOf site lines stop ran)
@@ -38,10 +40,15 @@ run-moment site lines stop ran run =
     let to = ended site lines stop run.events run.state ran.machine.state ran.asked ran.ending run.ends in
     (record { events = run.events; agenda = to.agenda; state = run.state; played = to.played }, refl, refl)
 
-pub never-second-stop : (site : Site) → site.processors ≤ 16 → (lines : List Line) (stop : Option ProcessorStop)
+pub never-harmed : (site : Site) → site.processors ≤ 16 → (lines : List Line) (stop : Option ProcessorStop)
     → IsCalm lines (is_some stop) → (ran : Ran) → (run : IsRunOf site lines stop ran)
-    → AreClear site lines stop 0 (length run.events) → (p : ℕ) → ran.ending ≡ Second p → ⊥
-never-second-stop site few lines stop calm ran run clear p is =
-    no-second site lines stop calm.0 few calm run.events run.state clear p
-    (subst (EndsBy packet_rules (course_on site lines stop) run.events run.state ran.machine.state ran.asked) is
-    run.ends).0
+    → AreClear site lines stop 0 (length run.events) → (harm : Harm) → ran.ending ≡ ending_by harm → ⊥
+never-harmed site few lines stop calm ran run clear harm is =
+    no-harm site lines stop calm.0 few calm run.events run.state clear harm
+    (by harm (subst (EndsBy packet_rules (course_on site lines stop) run.events run.state ran.machine.state ran.asked)
+    is run.ends))
+  where
+    by : (harm : Harm) → EndsBy packet_rules (course_on site lines stop) run.events run.state ran.machine.state
+        ran.asked (ending_by harm) → RunsToHarmBy packet_rules (course_on site lines stop) run.events run.state harm
+    by (SecondStop processor) ends = ends.0
+    by (DiscLoss process) ends = ends.0

@@ -7,7 +7,7 @@ use Rattle.schedule.specs.declared.line.Line.{Line}
 use Rattle.player.specs.declared.standing.Rule.{Rule}
 use Rattle.player.specs.declared.stop.ProcessorStop.{ProcessorStop}
 use Rattle.agendas.specs.Agendas.{Agenda, Plan}
-use Rattle.machine_states.specs.States.{Played, Makes, Skips, WouldStop}
+use Rattle.machine_states.specs.States.{Played, Makes, Skips, Would}
 use Rattle.node_copies.specs.ShownCounts.{replies_in, writes_in}
 use Rattle.packet_words.specs.declared.bus_name.BusName.TheVariants as bus
 use Rattle.packet_words.specs.declared.packet.Packet.{Packet}
@@ -78,7 +78,7 @@ pub record AreDrainRounds (site : Site) (lines : List Line) (stop : Option Proce
 abbrev pub state_after : Packeted → Played Wires → Packeted
 state_after s (Makes next) = next
 state_after s Skips = s
-state_after s (WouldStop processor) = s
+state_after s (Would harm) = s
 
 -- the packets that events deliver of a bus, in their order
 abbrev pub delivered_by : Bool → Packeted → List Event → List Packet

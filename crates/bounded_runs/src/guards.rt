@@ -8,7 +8,7 @@ ghost use Rattle.player.specs.declared.standing.MixedPlace.{MixedPlace};
 ghost use Rattle.player.specs.declared.standing.Rule.TheVariants as rule;
 ghost use Rattle.player.specs.declared.standing.LinePlace.TheVariants as standing;
 ghost use Rattle.player.specs.declared.stop.ProcessorStop.{ProcessorStop};
-ghost use Rattle.machine_states.specs.States.{Makes, Skips, WouldStop};
+ghost use Rattle.machine_states.specs.States.{Harm, Makes, Skips, Would};
 ghost use Rattle.packet_wires.specs.Play.{Packeted};
 ghost use Rattle.bounded_runs.specs.Moments.{AreClear, state_after};
 ghost use Rattle.bounded_runs.specs.Places.{is_in_drain_round};
@@ -40,5 +40,5 @@ pub fn clear_stretches_join()
 pub fn what_is_not_played_changes_nothing()
     ensures made { (s next : Packeted) → state_after s (Makes next) ≡ next }
     ensures skipped { (s : Packeted) → state_after s Skips ≡ s }
-    ensures second { (s : Packeted) (processor : ℕ) → state_after s (WouldStop processor) ≡ s }
+    ensures harm { (s : Packeted) (harm : Harm) → state_after s (Would harm) ≡ s }
 {}

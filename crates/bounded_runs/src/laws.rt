@@ -16,7 +16,7 @@ ghost use Rattle.round_laws.specs.Buses.{IsGrown};
 ghost use Rattle.calm_runs.specs.packet_rounds.specs.Pieces.{IsAcknowledged};
 ghost use Rattle.calm_runs.specs.packet_rounds.specs.Played.{buses_of};
 ghost use Rattle.schedule_loop.specs.Rules.{IsPlayBy};
-ghost use Rattle.schedule_loop.specs.declared.ran.Ending.TheVariants.{Second};
+ghost use Rattle.schedule_loop.specs.declared.ran.Ending.TheVariants.{Lost, Second};
 ghost use Rattle.packet_runs.specs.Ends.{IsRunOf};
 ghost use Rattle.packet_runs.specs.Runs.{packet_rules};
 ghost use Rattle.packet_runs.specs.declared.ran.Ran.{Ran};
@@ -62,4 +62,7 @@ pub fn a_clear_run_of_a_calm_schedule_stops_nobody()
     ensures second { (site : Site) → site.processors ≤ 16 → (lines : List Line) (stop : Option ProcessorStop)
         → IsCalm lines (is_some stop) → (ran : Ran) → (run : IsRunOf site lines stop ran)
         → AreClear site lines stop 0 (length run.events) → (p : ℕ) → ran.ending ≡ Second p → ⊥ }
+    ensures lost { (site : Site) → site.processors ≤ 16 → (lines : List Line) (stop : Option ProcessorStop)
+        → IsCalm lines (is_some stop) → (ran : Ran) → (run : IsRunOf site lines stop ran)
+        → AreClear site lines stop 0 (length run.events) → (p : ℕ) → ran.ending ≡ Lost p → ⊥ }
 {}

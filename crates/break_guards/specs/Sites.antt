@@ -1,5 +1,5 @@
 -- A site that the guards name: a disc, and a terminal that asks it.
-use Rattle.std.specs.Prelude.{ℕ, pos, [], ◌∷◌, replicate, codes}
+use Rattle.std.specs.Prelude.{ℕ, pos, false, [], ◌∷◌, replicate, codes}
 use Rattle.tal_tree.specs.declared.act.Shown.{Shown}
 use Rattle.tal_tree.specs.declared.act.Shown.TheVariants.{Write, Reply}
 use Rattle.tal_tree.specs.declared.site.Kind.TheVariants as kind
@@ -8,7 +8,7 @@ use Rattle.tal_tree.specs.declared.site.Site.{Site}
 abbrev pub site : Site
 site = record {
   processors = 3;
-  processes = record { name = codes "$DATA"; primary = 0; backup = 1; what = kind.Disc 16 } ∷ [];
+  processes = record { name = codes "$DATA"; primary = 0; backup = 1; what = kind.Disc 16 false } ∷ [];
   terminals = record { name = codes "$T1"; target = 0; requests = [] } ∷ [];
 }
 

@@ -55,4 +55,5 @@ pub fn so_many_stops_are_tried()
     ensures idle { is_idle_end ending.Idle ≡ true }
     ensures cut { is_idle_end ending.Cut ≡ false }
     ensures second { (processor : ℕ) → is_idle_end (ending.Second processor) ≡ false }
+    ensures lost { (process : ℕ) → is_idle_end (ending.Lost process) ≡ false }
 {}

@@ -16,7 +16,7 @@ use Rattle.schedule_runs.specs.pair_machine.specs.number_laws.proofs.Within.{Wor
 use Rattle.schedule_runs.proofs.Played.{played}
 use Rattle.schedule_runs.specs.Ends.{EndsAs}
 use Rattle.schedule_runs.specs.declared.ran.Ending.{Ending}
-use Rattle.schedule_runs.specs.declared.ran.Ending.TheVariants.{Idle, Cut, Second}
+use Rattle.schedule_runs.specs.declared.ran.Ending.TheVariants.{Idle, Cut, Second, Lost}
 use Rattle.world_copies.specs.Closed.{closed_world}
 use Rattle.world_semantics.specs.Kept.{acts_of, closed, held_by}
 use Rattle.world_semantics.specs.Shares.{let_go}
@@ -71,6 +71,10 @@ ended-few site lines stop events s left asked Cut closes few ends =
     let same = ap (λ (one : MachineState). length (closed one.world)) ends.2 in
     omega (arith, most, same)
 ended-few site lines stop events s left asked (Second processor) closes few ends =
+    let most = played-few site events s few (played {lines = lines} {stop = stop} ends.0.played) in
+    let same = ap (λ (one : MachineState). length (closed one.world)) ends.1 in
+    omega (arith, most, same)
+ended-few site lines stop events s left asked (Lost process) closes few ends =
     let most = played-few site events s few (played {lines = lines} {stop = stop} ends.0.played) in
     let same = ap (λ (one : MachineState). length (closed one.world)) ends.1 in
     omega (arith, most, same)

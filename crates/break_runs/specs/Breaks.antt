@@ -7,7 +7,7 @@ use Rattle.schedule.specs.declared.line.Line.{Line}
 use Rattle.player.specs.declared.stop.ProcessorStop.{ProcessorStop}
 use Rattle.schedule_runs.specs.Ends.{IsRunOf}
 use Rattle.schedule_runs.specs.declared.ran.Ending.{Ending}
-use Rattle.schedule_runs.specs.declared.ran.Ending.TheVariants.{Idle, Cut, Second}
+use Rattle.schedule_runs.specs.declared.ran.Ending.TheVariants.{Idle, Cut, Second, Lost}
 use Rattle.schedule_runs.specs.declared.ran.Ran.{Ran}
 use Rattle.unfailing_judge.specs.Sound.{IsJudged}
 use Rattle.unfailing_judge.specs.declared.wrong.Wrong.{Wrong}
@@ -20,6 +20,7 @@ abbrev pub is_idle_end : Ending → Bool
 is_idle_end Idle = true
 is_idle_end Cut = false
 is_idle_end (Second processor) = false
+is_idle_end (Lost process) = false
 
 -- what a run shows, in order
 abbrev pub shown_in : Ran → List Shown

@@ -55,5 +55,6 @@ fn is_idle_end(ending: Ending) -> bool
         Ending::Idle => true,
         Ending::Cut => false,
         Ending::Second(_) => false,
+        Ending::Lost(_) => false,
     }
 }

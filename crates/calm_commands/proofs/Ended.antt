@@ -11,7 +11,7 @@ use Rattle.player.specs.declared.stop.ProcessorStop.{ProcessorStop}
 use Rattle.schedule_loop.specs.declared.ran.Ending.{Ending}
 use Rattle.schedule_loop.specs.declared.ran.Ending.TheVariants as ending
 use Rattle.verdicts.specs.Refused.{AreAccepted}
-use Rattle.bounded_runs.proofs.Runs.{never-second-stop}
+use Rattle.bounded_runs.proofs.Runs.{never-harmed}
 use Rattle.command_dues.specs.Decided.{IsDue, IsDueOfRun}
 use Rattle.command_dues.specs.RunEnds.{status_of_run}
 use Rattle.command_dues.specs.Tasks.{can_stop}
@@ -25,16 +25,19 @@ use Rattle.command_dues.specs.declared.task.Task.TheVariants as task
 use Rattle.command_dues.specs.declared.task.Telling.{Telling}
 use Rattle.command_dues.specs.declared.task.Telling.TheVariants.{Lines}
 use Rattle.calm_commands.specs.CalmRuns.{IsCalmAndClear, IsStatusOfCalmRun, IsStatusWithoutFaults}
+use Rattle.machine_states.specs.States.{Harm, SecondStop, DiscLoss}
+use Rattle.schedule_loop.specs.Ends.{ending_by}
 
-ended : (how : Ending) → ((p : ℕ) → how ≡ ending.Second p → ⊥) → IsStatusOfCalmRun (status_of_run how)
+ended : (how : Ending) → ((harm : Harm) → how ≡ ending_by harm → ⊥) → IsStatusOfCalmRun (status_of_run how)
 ended ending.Idle never = tt
 ended ending.Cut never = tt
-ended (ending.Second p) never = absurd (never p refl)
+ended (ending.Second p) never = absurd (never (SecondStop p) refl)
+ended (ending.Lost p) never = absurd (never (DiscLoss p) refl)
 
 run-status : (deck : Deck) (stop : Option ProcessorStop) (tells : Telling) (decided : Due) → deck.site.processors ≤ 16
     → IsCalmAndClear deck stop → IsDueOfRun deck stop tells decided → IsStatusOfCalmRun (status_of decided)
 run-status deck stop tells (due.Report report) few calm is =
-    ended report.run.ran.ending (never-second-stop deck.site few deck.lines stop calm.calm report.run.ran is.0.run
+    ended report.run.ran.ending (never-harmed deck.site few deck.lines stop calm.calm report.run.ran is.0.run
     (calm.clear report.run.ran is.0.run))
 run-status deck stop tells (due.NoMemory _) few calm is = tt
 run-status deck stop tells _ few calm is = absurd is
@@ -69,5 +72,6 @@ without-fault status.Usage is sure = absurd is
 without-fault (status.DeckRefused fault) is sure = absurd is
 without-fault (status.Refused process refusal) is sure = absurd is
 without-fault (status.SecondStop processor) is sure = absurd is
+without-fault (status.DiscLost process) is sure = absurd is
 without-fault status.ReadFault is sure = absurd is
 without-fault (status.Rejected line why) is sure = absurd is

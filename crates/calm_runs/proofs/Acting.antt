@@ -2,7 +2,7 @@
 use Rattle.std.proofs.Common.{◌≡◌, ℕ, Bool, true, false, if◌then◌else◌, slice_get, Option, Some}
 use Rattle.std.proofs.Common.{None, refl}
 use Rattle.schedule.specs.declared.event.Event.{Event}
-use Rattle.schedule.specs.declared.event.Event.TheVariants.{Run, Enter, Deliver, Lose, Repeat, Tick, Fail}
+use Rattle.schedule.specs.declared.event.Event.TheVariants.{Run, Enter, Deliver, Lose, Repeat, Tick, Fail, Drive}
 use Rattle.packet_words.specs.declared.packet.Packet.{Packet}
 use Rattle.world_semantics.specs.World.{is_running}
 use Rattle.world_semantics.specs.Running.{Done, run_done}
@@ -10,14 +10,14 @@ use Rattle.computed_changes.specs.Entered.{enter_done}
 use Rattle.computed_changes.specs.Stopped.{stop_where, stopped_world}
 use Rattle.single_stops.specs.message_wires_laws.proofs.Stopping.{StopsNone, run-none, enter-none}
 use Rattle.message_wires.specs.Play.{has_stopped}
-use Rattle.machine_states.specs.States.{Played, Makes, Skips, WouldStop}
+use Rattle.machine_states.specs.States.{Played, Makes, Skips, Would, SecondStop}
 use Rattle.packet_wires.specs.Wires.{Midst, bus_named}
 use Rattle.packet_wires.specs.Play.{Packeted, Underway, acted, begun, deliver_acted, fail_acted, lose_acted, made_by}
 use Rattle.packet_wires.specs.Play.{packet_at, received, repeat_acted}
 use Rattle.calm_runs.proofs.Sending.{over-still}
 use Rattle.calm_runs.proofs.Watching.{StateKeeps, state-none, any-keeps, received-keeps, still-keeps}
 
--- neither a tick nor a stop
+-- no tick, no stop and nothing of a drive
 abbrev pub is_quiet : Event → Bool
 is_quiet (Run number) = true
 is_quiet (Enter terminal) = true
@@ -26,11 +26,12 @@ is_quiet (Lose y k) = true
 is_quiet (Repeat y k) = true
 is_quiet (Tick node) = false
 is_quiet (Fail processor) = false
+is_quiet (Drive event) = false
 
 abbrev pub KeepsIf : Packeted → Played Midst → Type 0
 KeepsIf s (Makes after) = StateKeeps (begun s) after
 KeepsIf s Skips = Unit {0}
-KeepsIf s (WouldStop processor) = ⊥
+KeepsIf s (Would harm) = ⊥
 
 made-keeps : (s : Packeted) (done : Option Done) → StopsNone s.world done → KeepsIf s (made_by (begun s) done)
 made-keeps s None none = tt
@@ -65,6 +66,7 @@ quiet-keeps s (Repeat y k) quiet = by (packet_at s (bus_named y) k)
     }
 quiet-keeps s (Tick node) quiet = absurd (cc)
 quiet-keeps s (Fail processor) quiet = absurd (cc)
+quiet-keeps s (Drive event) quiet = absurd (cc)
 
 -- a stop changes nothing but who runs
 pub record StopsSo (s : Packeted) (after : Underway) : Type 0 where
@@ -74,13 +76,14 @@ pub record StopsSo (s : Packeted) (after : Underway) : Type 0 where
 abbrev pub StopsIf : Packeted → Played Midst → Type 0
 StopsIf s (Makes after) = StopsSo s after
 StopsIf s Skips = Unit {0}
-StopsIf s (WouldStop processor) = has_stopped s.world.stopped ≡ true
+StopsIf s (Would harm) = has_stopped s.world.stopped ≡ true
 
 pub stop-leaves : (s : Packeted) (processor : ℕ) → StopsIf s (acted s (Fail processor))
 stop-leaves s processor = by (slice_get s.world.stopped processor)
   where
     first : (any : Bool) → has_stopped s.world.stopped ≡ any → StopsIf s
-        (if any then WouldStop processor else Makes (record (begun s) { world = stopped_world processor s.world }))
+        (if any then Would (SecondStop processor)
+        else Makes (record (begun s) { world = stopped_world processor s.world }))
     first true is = is
     first false is = record { wires = refl; shown = refl }
 

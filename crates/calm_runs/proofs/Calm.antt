@@ -9,7 +9,7 @@ use Rattle.std.proofs.lemmas.Option.{slice_get_within}
 use Rattle.tal_tree.specs.declared.site.Site.{Site}
 use Rattle.schedule.specs.declared.event.Counts.{Counts}
 use Rattle.schedule.specs.declared.event.Event.{Event}
-use Rattle.schedule.specs.declared.event.Event.TheVariants.{Run, Enter, Deliver, Lose, Repeat, Tick, Fail}
+use Rattle.schedule.specs.declared.event.Event.TheVariants.{Run, Enter, Deliver, Lose, Repeat, Tick, Fail, Drive}
 use Rattle.schedule.specs.declared.line.Line.{Line}
 use Rattle.schedule.specs.declared.line.Line.TheVariants.{One, Many, Drain, Mix, Mute, Until}
 use Rattle.player.specs.declared.stop.ProcessorStop.{ProcessorStop}
@@ -17,14 +17,14 @@ use Rattle.agendas.specs.Agendas.{Agenda, Plan, PlaysOn, plays_none, plays_on, u
 use Rattle.calm_schedules.specs.Calm.{IsCalm, is_calm_line, is_stop, stops_one}
 use Rattle.world_semantics.specs.World.{is_running, runs_by}
 use Rattle.message_wires.specs.Play.{has_stopped}
-use Rattle.machine_states.specs.States.{Played, Makes, Skips, WouldStop}
+use Rattle.machine_states.specs.States.{Played, Makes, Skips, Would, Harm, SecondStop, DiscLoss}
 use Rattle.packet_wires.specs.Wires.{Midst}
 use Rattle.packet_wires.specs.Play.{Packeted, acted, ended, packeted_at_boot, play, taken_off}
 use Rattle.single_stops.specs.StopsAsked.{stops_asked, stops_in, stops_of, stops_of_lines}
 use Rattle.single_stops.proofs.Costs.{IsPaid, to_come, upcoming-paid}
 use Rattle.round_laws.specs.Stretches.{CountsBuses}
 use Rattle.alive_rounds.specs.Runs.{CountsShown, RunsFresh, shows_nothing}
-use Rattle.alive_rounds.proofs.Running.{nobody-silent, nobody-stopped, runs-fresh}
+use Rattle.alive_rounds.proofs.Running.{nobody-silent, no-drive, nobody-stopped, runs-fresh}
 use Rattle.packet_rounds.specs.Played.{IsClearPlay, IsPlay, buses_of, sizes_of}
 use Rattle.packet_rounds.proofs.Nets.{remains}
 use Rattle.calm_runs.specs.Sights.{CountsOfShown, packets_seen}
@@ -32,6 +32,9 @@ use Rattle.calm_runs.proofs.Acting.{KeepsIf, StopsIf, is_quiet, quiet-keeps, sto
 use Rattle.calm_runs.proofs.Sound.{IsSound, SoundPlay, boot-fresh, boot-sound, line-pulled, sound-buses, sound-on}
 use Rattle.calm_runs.proofs.Sound.{tick-made, watched}
 use Rattle.calm_runs.proofs.Ticking.{TicksIf, ticks-so}
+use Rattle.schedule.specs.declared.event.DriveEvent.{DriveEvent}
+use Rattle.packet_rounds.specs.packets_laws.proofs.Pieces.{drive-keeps}
+use Rattle.world_semantics.specs.World.{World}
 
 -- Ticks and stops show nothing
 
@@ -44,7 +47,7 @@ fail-shown s processor next made = by (acted s (Fail processor)) (stop-leaves s 
     by (Makes after) so made =
         let same : next.world.shown ≡ after.world.shown = cc in same ∙ so.shown
     by Skips so made = absurd (cc)
-    by (WouldStop k) so made = absurd (cc)
+    by (Would harm) so made = absurd (cc)
 
 play-shown : (s : Packeted) (event : Event) (next : Packeted) → shows_nothing event ≡ true → IsPlay s event next
     → next.world.shown ≡ s.world.shown
@@ -52,6 +55,7 @@ play-shown s event next shows (inr skips) = ap (λ (u : Packeted). u.world.shown
 play-shown s (Tick node) next shows (inl made) = let t = tick-made s node next made in
     ap (λ (u : Packeted). u.world.shown) t.next_is ∙ t.so.shown
 play-shown s (Fail processor) next shows (inl made) = fail-shown s processor next made
+play-shown s (Drive event) next shows (inl made) = ap (λ (w : World). w.shown) (drive-keeps s next event made)
 play-shown s (Run number) next shows (inl made) = absurd (cc)
 play-shown s (Enter number) next shows (inl made) = absurd (cc)
 play-shown s (Deliver y k) next shows (inl made) = absurd (cc)
@@ -93,7 +97,12 @@ module _ (site : Site) (few : site.processors ≤ 16) (counts : Packeted → Cou
       by (Makes after) k made =
           let same : next.world.stopped ≡ after.world.stopped = cc in same ∙ k.stopped
       by Skips k made = absurd (cc)
-      by (WouldStop processor) k made = absurd (cc)
+      by (Would harm) k made = absurd (cc)
+
+  turn-stays : (s : Packeted) (event : DriveEvent) (next : Packeted) → IsPlay s (Drive event) next
+      → next.world.stopped ≡ s.world.stopped
+  turn-stays s event next (inr skips) = ap (λ (u : Packeted). u.world.stopped) skips.1
+  turn-stays s event next (inl made) = ap (λ (w : World). w.stopped) (drive-keeps s next event made)
 
   -- who runs goes on running, whatever comes next but a stop
   pub goes-on-running : (events : List Event) (agenda : Agenda) (s : Packeted)
@@ -114,6 +123,8 @@ module _ (site : Site) (few : site.processors ≤ 16) (counts : Packeted → Cou
       by (Lose y k) is = quiet (Lose y k) is refl
       by (Repeat y k) is = quiet (Repeat y k) is refl
       by (Fail processor) is = absurd (let bad : true ≡ false = ap is_stop (sym is) ∙ no_stop in cc)
+      by (Drive event) is = subst (λ l. is_running l p ≡ true)
+          (sym (turn-stays s event next (subst (λ e. IsPlay s e next) is g.1))) here
       by (Tick node) is = nobody-stopped (sizes_of site) packets_seen counts (SoundPlay site) (watched site few) counted
           few
           (length events) agenda s next (fresh events agenda s played) plan comes (
@@ -175,6 +186,7 @@ module _ (site : Site) (few : site.processors ≤ 16) (counts : Packeted → Cou
   stop-or-not (Repeat y k) = inr (refl, refl)
   stop-or-not (Tick node) = inr (refl, refl)
   stop-or-not (Fail processor) = inl (refl, refl)
+  stop-or-not (Drive event) = inr (refl, refl)
 
   size-on : (s : Packeted) (event : Event) (next : Packeted) → IsPlay s event next
       → length next.world.stopped ≡ length s.world.stopped
@@ -215,34 +227,34 @@ module _ (site : Site) (few : site.processors ≤ 16) (counts : Packeted → Cou
             omega (arith, none, paid);
       }
 
-  -- nothing that comes next would stop a second processor
-  pub never-second : stops_asked lines stop ≤ 1 → (events : List Event) (agenda : Agenda) (s : Packeted)
+  -- nothing that comes next would do harm
+  pub never-harm : stops_asked lines stop ≤ 1 → (events : List Event) (agenda : Agenda) (s : Packeted)
       → PlaysOn (sizes_of site) counts IsClearPlay (packeted_at_boot site) lines stop events agenda s → (plan : Plan)
-      → upcoming (sizes_of site) (length events) (counts s) agenda ≡ Some plan → (j : ℕ)
-      → play s plan.event ≡ WouldStop j → ⊥
-  never-second asked events agenda s played plan comes j would = by plan.event refl
+      → upcoming (sizes_of site) (length events) (counts s) agenda ≡ Some plan → (harm : Harm)
+      → play s plan.event ≡ Would harm → ⊥
+  never-harm asked events agenda s played plan comes harm would = by plan.event refl
     where
       sound : IsSound site s
       sound = (sounded events agenda s played).0
 
-      at : (event : Event) → plan.event ≡ event → play s event ≡ WouldStop j
-      at event is = subst (λ e. play s e ≡ WouldStop j) is would
+      at : (event : Event) → plan.event ≡ event → play s event ≡ Would harm
+      at event is = subst (λ e. play s e ≡ Would harm) is would
 
       quiet : (event : Event) → plan.event ≡ event → is_quiet event ≡ true → ⊥
       quiet event is calm = of (acted s event) (quiet-keeps s event calm) (at event is)
         where
-          of : (p : Played Midst) → KeepsIf s p → ended (taken_off event s.wires) p ≡ WouldStop j → ⊥
+          of : (p : Played Midst) → KeepsIf s p → ended (taken_off event s.wires) p ≡ Would harm → ⊥
           of (Makes after) k bad = absurd (cc)
           of Skips k bad = absurd (cc)
-          of (WouldStop processor) k bad = k
+          of (Would other) k bad = k
 
       stopping : (processor : ℕ) → plan.event ≡ Fail processor → ⊥
       stopping processor is = of (acted s (Fail processor)) (stop-leaves s processor) (at (Fail processor) is)
         where
-          of : (p : Played Midst) → StopsIf s p → ended s.wires p ≡ WouldStop j → ⊥
+          of : (p : Played Midst) → StopsIf s p → ended s.wires p ≡ Would harm → ⊥
           of (Makes after) k bad = absurd (cc)
           of Skips k bad = absurd (cc)
-          of (WouldStop other) gone bad =
+          of (Would other) gone bad =
               let none = (single asked events agenda s played).none gone in
               let paid = paid-by agenda s (length events) plan comes in
               let cost : stops_in plan.event 1 ≡ 1 = ap (λ e. stops_in e 1) is in omega (arith, none, paid, cost)
@@ -250,10 +262,11 @@ module _ (site : Site) (few : site.processors ≤ 16) (counts : Packeted → Cou
       ticking : (node : ℕ) → plan.event ≡ Tick node → ⊥
       ticking node is = of (acted s (Tick node)) (ticks-so s node) (at (Tick node) is)
         where
-          of : (p : Played Midst) → TicksIf node s p → ended s.wires p ≡ WouldStop j → ⊥
+          of : (p : Played Midst) → TicksIf node s p → ended s.wires p ≡ Would harm → ⊥
           of (Makes after) k bad = absurd (cc)
           of Skips k bad = absurd (cc)
-          of (WouldStop k) so bad =
+          of (Would (DiscLoss process)) so bad = so
+          of (Would (SecondStop k)) so bad =
               let line = line-pulled site few s node k sound so.0 so.1 in
               let within = slice_get_within s.world.stopped k false so.2 in let size = sound.size in
               nobody-silent (sizes_of site) packets_seen counts counted few (length events) agenda s
@@ -265,6 +278,11 @@ module _ (site : Site) (few : site.processors ≤ 16) (counts : Packeted → Cou
                 there = ap (runs_by k) so.2;
               }) line.silent
 
+      turning : (event : DriveEvent) → plan.event ≡ Drive event → ⊥
+      turning event is =
+          no-drive (sizes_of site) packets_seen counts counted (length events) agenda s
+          (fresh events agenda s played) plan comes event is
+
       by : (event : Event) → plan.event ≡ event → ⊥
       by (Run number) is = quiet (Run number) is refl
       by (Enter number) is = quiet (Enter number) is refl
@@ -273,6 +291,7 @@ module _ (site : Site) (few : site.processors ≤ 16) (counts : Packeted → Cou
       by (Repeat y k) is = quiet (Repeat y k) is refl
       by (Tick node) is = ticking node is
       by (Fail processor) is = stopping processor is
+      by (Drive event) is = turning event is
 
 -- A calm schedule asks for one stop at most
 
@@ -284,6 +303,7 @@ line-stops (One (Deliver y k)) calm = refl
 line-stops (One (Lose y k)) calm = refl
 line-stops (One (Repeat y k)) calm = refl
 line-stops (One (Tick node)) calm = refl
+line-stops (One (Drive event)) calm = refl
 line-stops (Many event times) calm = absurd (cc)
 line-stops (Drain rounds) calm = refl
 line-stops (Mix start rounds) calm = refl

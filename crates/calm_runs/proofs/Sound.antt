@@ -10,7 +10,7 @@ use Rattle.gd_words.specs.Members.{IsAmong}
 use Rattle.gd_words.proofs.Among.{among-right}
 use Rattle.tal_tree.specs.declared.site.Site.{Site}
 use Rattle.schedule.specs.declared.event.Event.{Event}
-use Rattle.schedule.specs.declared.event.Event.TheVariants.{Run, Enter, Deliver, Lose, Repeat, Tick, Fail}
+use Rattle.schedule.specs.declared.event.Event.TheVariants.{Run, Enter, Deliver, Lose, Repeat, Tick, Fail, Drive}
 use Rattle.packet_words.specs.declared.bus_name.BusName.TheVariants as bus
 use Rattle.packet_words.specs.declared.packet.Packet.{Packet}
 use Rattle.packet_words.specs.declared.packet.PacketKind.TheVariants as kind
@@ -23,7 +23,7 @@ use Rattle.world_semantics.specs.World.{is_running, runs_by}
 use Rattle.channel_laws.specs.Net.{Net, incarnation_of}
 use Rattle.channel_laws.specs.Rounds.{Passes, nothing, by_push, by_packet, by_drop, by_tick, by_alive, by_bus, by_stop}
 use Rattle.channel_laws.specs.Rounds.{by_mark}
-use Rattle.machine_states.specs.States.{Played, Makes, Skips, WouldStop}
+use Rattle.machine_states.specs.States.{Played, Makes, Skips, Would}
 use Rattle.packet_wires.specs.Nodes.{Node, all_nodes, end_at, never_reloaded, node_at_boot, nodes_at_boot, numbers}
 use Rattle.packet_wires.specs.Wires.{Wires, Midst, Outgoing, packets_over, is_bus}
 use Rattle.packet_wires.specs.Play.{Packeted, Underway, IsClear, acted, begun, deliver_acted, ended, line_of, out_of}
@@ -45,6 +45,8 @@ use Rattle.calm_runs.proofs.Acting.{KeepsIf, StopsIf, is_quiet, quiet-keeps, sto
 use Rattle.calm_runs.proofs.Ticking.{IsLine, TicksIf, TicksSo, alive-sent, line-is, over_x, sent_before, ticked-checks}
 use Rattle.calm_runs.proofs.Ticking.{ticked-knows, ticked-me, ticked-other, ticked-own, tick-me, ticks-so}
 use Rattle.calm_runs.proofs.Watching.{Keeps, alive-heard, keeps-same}
+use Rattle.machine_states.proofs.Turning.{drive-cases}
+use Rattle.schedule.specs.declared.event.DriveEvent.{DriveEvent}
 
 -- States that are sound: the wires are those of a net, no processor was loaded anew, and each node's watch has its
 -- number
@@ -85,7 +87,7 @@ tick-made s node next made = by (tick_acted node (begun s)) refl (ticks-so s nod
     by (Makes after) is so made =
         record { after = after; acts = is; next_is = (let same : next ≡ over s.wires after = cc in same); so = so }
     by Skips is so made = absurd (cc)
-    by (WouldStop k) is so made = absurd (cc)
+    by (Would harm) is so made = absurd (cc)
 
 pub tick-skips : (s : Packeted) (node : ℕ) → play s (Tick node) ≡ Skips → is_running s.world.stopped node ≡ false
 tick-skips s node skips = by (tick_acted node (begun s)) (ticks-so s node) skips
@@ -94,14 +96,14 @@ tick-skips s node skips = by (tick_acted node (begun s)) (ticks-so s node) skips
         → is_running s.world.stopped node ≡ false
     by (Makes after) so skips = absurd (cc)
     by Skips so skips = so
-    by (WouldStop k) so skips = absurd (cc)
+    by (Would harm) so skips = absurd (cc)
 
 -- What nodes keep
 
 abbrev OnlyIf : (Packeted → Type 0) → Played Wires → Type 0
 OnlyIf holds (Makes next) = holds next
 OnlyIf holds Skips = Unit {0}
-OnlyIf holds (WouldStop processor) = Unit {0}
+OnlyIf holds (Would harm) = Unit {0}
 
 only-if : (holds : Packeted → Type 0) (played : Played Wires) (next : Packeted) → OnlyIf holds played
     → played ≡ Makes next → holds next
@@ -119,7 +121,7 @@ module _ (s : Packeted) (q : ℕ) where
       by (Makes after) k = subst (λ l. Keeps l (watch_at s.wires.nodes q) (watch_at after.wires.nodes q))
           (sym k.stopped) (k.keep.keeps q)
       by Skips k = tt
-      by (WouldStop processor) k = tt
+      by (Would harm) k = tt
 
   fail-kept : (processor : ℕ) → OnlyIf
       (λ next. Keeps next.world.stopped (watch_at s.wires.nodes q) (watch_at next.wires.nodes q))
@@ -132,7 +134,17 @@ module _ (s : Packeted) (q : ℕ) where
       by (Makes after) k = keeps-same after.world.stopped (watch_at s.wires.nodes q) (watch_at after.wires.nodes q)
           (ap (λ (m : Midst). watch_at m.nodes q) k.wires)
       by Skips k = tt
-      by (WouldStop processor) k = tt
+      by (Would harm) k = tt
+
+  drive-kept : (event : DriveEvent) → OnlyIf
+      (λ next. Keeps next.world.stopped (watch_at s.wires.nodes q) (watch_at next.wires.nodes q))
+      (play s (Drive event))
+  drive-kept event =
+      drive-cases event (begun s) (λ (played : Played Midst). OnlyIf
+      (λ next. Keeps next.world.stopped (watch_at s.wires.nodes q) (watch_at next.wires.nodes q))
+      (ended s.wires played))
+      (λ drives. keeps-same s.world.stopped (watch_at s.wires.nodes q) (watch_at s.wires.nodes q) refl) tt
+      (λ process. tt)
 
   pub event-keeps : (event : Event) (next : Packeted) → play s event ≡ Makes next → event ≢ Tick q
       → Keeps next.world.stopped (watch_at s.wires.nodes q) (watch_at next.wires.nodes q)
@@ -145,6 +157,7 @@ module _ (s : Packeted) (q : ℕ) where
   event-keeps (Repeat y k) next made apart = only-if _ (play s (Repeat y k)) next (quiet-kept (Repeat y k) refl) made
   event-keeps (Fail processor) next made apart =
       only-if _ (play s (Fail processor)) next (fail-kept processor) made
+  event-keeps (Drive event) next made apart = only-if _ (play s (Drive event)) next (drive-kept event) made
   event-keeps (Tick node) next made apart = let t = tick-made s node next made in
       subst (λ (u : Packeted). Keeps u.world.stopped (watch_at s.wires.nodes q) (watch_at u.wires.nodes q))
       (sym t.next_is)
@@ -160,6 +173,7 @@ module _ (s : Packeted) (q : ℕ) where
   event-me (Lose y k) next made = (event-keeps (Lose y k) next made (λ is. cc)).me
   event-me (Repeat y k) next made = (event-keeps (Repeat y k) next made (λ is. cc)).me
   event-me (Fail processor) next made = (event-keeps (Fail processor) next made (λ is. cc)).me
+  event-me (Drive event) next made = (event-keeps (Drive event) next made (λ is. cc)).me
   event-me (Tick node) next made = let t = tick-made s node next made in
       ap (λ (u : Packeted). option_map (λ (w : Watching). w.me) (watch_at u.wires.nodes q)) t.next_is
       ∙ (t.so.keep.keeps q).me ∙ ticked-me s.site.processors node (begun s).wires q
@@ -295,7 +309,7 @@ keeps-watch s event next q (inr skips) apart here = subst (λ (u : Packeted). Ke
 abbrev HeardIf : ℕ → ℕ → Played Wires → Type 0
 HeardIf p q (Makes next) = WasHeard (known_of (watch_at next.wires.nodes q) p)
 HeardIf p q Skips = ⊥
-HeardIf p q (WouldStop processor) = Unit {0}
+HeardIf p q (Would harm) = Unit {0}
 
 hears-alive : (s next : Packeted) (p q : ℕ) (rest : List Packet) → IsPlay s (Deliver false 0) next
     → s.wires.x ≡ alive_packet p q ∷ rest → is_running next.world.stopped p ≡ true

@@ -18,7 +18,7 @@ use Rattle.world_semantics.specs.World.{is_running, runs_by, terminal_node}
 use Rattle.world_semantics.proofs.Lists.{set-other}
 use Rattle.computed_changes.specs.Stopped.{may_note, marked_where, mark_where, stopped_world}
 use Rattle.message_wires.specs.Play.{has_stopped}
-use Rattle.machine_states.specs.States.{Played, Makes, Skips, WouldStop}
+use Rattle.machine_states.specs.States.{Played, Makes, Skips, Would, SecondStop, DiscLoss}
 use Rattle.packet_wires.specs.Nodes.{Node, numbers, others}
 use Rattle.packet_wires.specs.Lines.{first_held, line_pulled}
 use Rattle.packet_wires.specs.Wires.{Midst, Outgoing, alive_at, at_end, at_end_of, at_node, check_at, checks, for_each}
@@ -275,7 +275,8 @@ pub record TicksSo (node : ℕ) (s : Packeted) (after : Underway) : Type 0 where
 abbrev pub TicksIf : ℕ → Packeted → Played Midst → Type 0
 TicksIf node s (Makes after) = TicksSo node s after
 TicksIf node s Skips = is_running s.world.stopped node ≡ false
-TicksIf node s (WouldStop k) = (is_running s.world.stopped node ≡ true)
+TicksIf node s (Would (DiscLoss process)) = ⊥
+TicksIf node s (Would (SecondStop k)) = (is_running s.world.stopped node ≡ true)
     × (line_of node (sent_before node s) ≡ Some k) × (slice_get s.world.stopped k ≡ Some false)
 
 not-both : {A : Type 0} (b : Bool) → b ≡ true → b ≡ false → A
@@ -334,7 +335,8 @@ ticks-so s node = by (is_running s.world.stopped node) refl
             (sym (ap (runs_by p) (set-other s.world.stopped k p true apart)) ∙ gone)
 
     first : is_running s.world.stopped node ≡ true → (k : ℕ) → line_of node (sent_before node s) ≡ Some k
-        → slice_get s.world.stopped k ≡ Some false → (any : Bool) → TicksIf node s (if any then WouldStop k else Makes
+        → slice_get s.world.stopped k ≡ Some false → (any : Bool)
+        → TicksIf node s (if any then Would (SecondStop k) else Makes
         (marks_and_declares node k (record (sent_before node s) { world = stopped_world k s.world })))
     first runs k is there true = (runs, is, there)
     first runs k is there false = stops runs k is

@@ -9,7 +9,7 @@ ghost use Rattle.player.specs.declared.stop.ProcessorStop.{ProcessorStop};
 ghost use Rattle.agendas.specs.Agendas.{Agenda, Plan, PlaysOn, upcoming};
 ghost use Rattle.calm_schedules.specs.Calm.{IsCalm, is_calm_line, is_stop};
 ghost use Rattle.world_semantics.specs.World.{is_running};
-ghost use Rattle.machine_states.specs.States.{WouldStop};
+ghost use Rattle.machine_states.specs.States.{Harm, Would};
 ghost use Rattle.packet_wires.specs.Play.{Packeted, packeted_at_boot, play};
 ghost use Rattle.round_laws.specs.Stretches.{CountsBuses};
 ghost use Rattle.packet_rounds.specs.Played.{IsClearPlay, buses_of, sizes_of};
@@ -30,13 +30,13 @@ pub fn a_calm_schedule_stops_nobody_that_runs()
 {}
 
 /// Where a schedule is calm and all its events so far were clear, the next one isn't one that would stop a second
-/// processor.
-pub fn a_calm_schedule_asks_for_no_second_stop()
+/// processor or lose a disc.
+pub fn a_calm_schedule_does_no_harm()
     ensures { (site : Site) → site.processors ≤ 16 → (counts : Packeted → Counts) → CountsBuses buses_of counts
         → CountsOfShown counts
         → (lines : List Line) (stop : Option ProcessorStop) → IsCalm lines (is_some stop)
         → (events : List Event) (agenda : Agenda) (s : Packeted)
         → PlaysOn (sizes_of site) counts IsClearPlay (packeted_at_boot site) lines stop events agenda s
         → (plan : Plan) → upcoming (sizes_of site) (length events) (counts s) agenda ≡ Some plan
-        → (processor : ℕ) → play s plan.event ≡ WouldStop processor → ⊥ }
+        → (harm : Harm) → play s plan.event ≡ Would harm → ⊥ }
 {}

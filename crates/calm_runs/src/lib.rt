@@ -7,4 +7,4 @@
 
 pub mod laws;
 
-pub use laws::{a_calm_schedule_asks_for_no_second_stop, a_calm_schedule_stops_nobody_that_runs};
+pub use laws::{a_calm_schedule_does_no_harm, a_calm_schedule_stops_nobody_that_runs};

@@ -2,7 +2,7 @@
 use Rattle.std.specs.Prelude.{◌≡◌, ◌≤◌, ℕ, Bool, true, false, List, count_by}
 use Rattle.std.specs.List.{list_all}
 use Rattle.schedule.specs.declared.event.Event.{Event}
-use Rattle.schedule.specs.declared.event.Event.TheVariants.{Run, Enter, Deliver, Lose, Repeat, Tick, Fail}
+use Rattle.schedule.specs.declared.event.Event.TheVariants.{Run, Enter, Deliver, Lose, Repeat, Tick, Fail, Drive}
 use Rattle.schedule.specs.declared.line.Line.{Line}
 use Rattle.schedule.specs.declared.line.Line.TheVariants.{One, Many, Drain, Mix, Mute, Until}
 
@@ -14,6 +14,7 @@ is_stop (Lose bus k) = false
 is_stop (Repeat bus k) = false
 is_stop (Tick node) = false
 is_stop (Fail processor) = true
+is_stop (Drive event) = false
 
 -- a line stops a processor
 abbrev pub stops_one : Line → Bool

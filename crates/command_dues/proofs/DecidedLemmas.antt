@@ -9,7 +9,7 @@ use Rattle.verdicts.specs.Refused.{AreAccepted}
 use Rattle.gd_io.specs.Reads.{Leaves}
 use Rattle.gd_io.specs.declared.writing.WriteFault.{WriteFault}
 use Rattle.schedule_loop.specs.declared.ran.Ending.{Ending}
-use Rattle.schedule_loop.specs.declared.ran.Ending.TheVariants.{Idle, Cut, Second}
+use Rattle.schedule_loop.specs.declared.ran.Ending.TheVariants.{Idle, Cut, Second, Lost}
 use Rattle.tal_tree.specs.declared.fault.DeckFault.{DeckFault}
 use Rattle.tal_tree.specs.declared.fault.DeckFault.TheVariants as fault
 use Rattle.tal_tree.specs.declared.fault.TalFault.{TalFault}
@@ -62,6 +62,7 @@ run_read : (ending : Ending) → status_of_run ending ≡ status.ReadFault → �
 run_read Idle e = cc
 run_read Cut e = cc
 run_read (Second processor) e = cc
+run_read (Lost process) e = cc
 
 -- a read fault is the status of no other decision
 read_fault_only : (decided : Due) (result : Result ⊤ WriteFault)

@@ -20,6 +20,7 @@ use Rattle.shown_sectors.specs.Sectors.{sectors_after}
 use Rattle.report_judge.specs.site_advice.specs.SiteAdvised.{AreAdvised, IsFirstUnadvised}
 use Rattle.verdicts.specs.Refused.{AreAccepted, IsFirstRefused}
 use Rattle.command_dues.specs.RunEnds.{acts_of_run, shown_in}
+use Rattle.command_dues.specs.Mirrors.{mirrors_from}
 use Rattle.command_dues.specs.Stopped.{stopped_from}
 use Rattle.command_dues.specs.Tasks.{can_stop, judges, load_task}
 use Rattle.command_dues.specs.Verified.{IsDueOfInput}
@@ -38,7 +39,8 @@ IsSpelt deck = (bytes : List ℕ) × Decks bytes deck
 -- the run of a deck, after Bartlett's paper: it is a run of the schedule, with the stop of the words, on the machine
 -- over packets; the acts that it keeps are possible on the machine of single unfailing processes; what it shows, in
 -- order, is what they show there; where it ended idle no act is possible after them; the sectors are those that what is
--- shown leaves written; and the processors that have stopped are those of its world at the end
+-- shown leaves written; the drives of mirrored discs stand as at its end; and the processors that have stopped are
+-- those of its world at the end
 pub record IsReportOf (deck : Deck) (stop : Option ProcessorStop) (report : Report) : Type 0 where
   pub site : report.site ≡ deck.site
   pub run : IsRunOf deck.site deck.lines stop report.run.ran
@@ -46,6 +48,7 @@ pub record IsReportOf (deck : Deck) (stop : Option ProcessorStop) (report : Repo
   pub shown : shown_in report.run ≡ shown_by deck.site (acts_of_run report.run)
   pub none : report.run.ran.ending ≡ Idle → IsNoneLeft deck.site (acts_of_run report.run)
   pub sectors : report.sectors ≡ sectors_after deck.site (shown_in report.run)
+  pub mirrors : report.mirrors ≡ mirrors_from 0 deck.site.processes report.run.ran.machine.state.drives
   pub stopped : report.stopped ≡ stopped_from 0 report.run.ran.machine.state.world.stopped
 
 -- what is due of a deck that is run: the report of its run, which is to tell so of it

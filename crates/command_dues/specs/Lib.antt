@@ -1,5 +1,6 @@
 pub mod Decided
 pub mod Ends
+pub mod Mirrors
 pub mod Numbers
 pub mod RunEnds
 pub mod Stopped

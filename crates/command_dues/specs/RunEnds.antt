@@ -3,12 +3,14 @@ use Rattle.std.specs.Prelude.{ℕ, List, reverse}
 use Rattle.schedule_sweeps.specs.node_copies.specs.ShownCounts.{replies_in, writes_in}
 use Rattle.tal_tree.specs.declared.act.Act.{Act}
 use Rattle.tal_tree.specs.declared.act.Shown.{Shown}
-use Rattle.report_judge.specs.trace_print.specs.declared.closing.End.{End}
+use Rattle.report_judge.specs.trace_print.specs.declared.closing.Closing.{Closing}
+use Rattle.report_judge.specs.trace_print.specs.declared.closing.Closing.TheVariants as closing
+use Rattle.report_judge.specs.trace_print.specs.declared.closing.Closing.TheVariants.{Ended}
 use Rattle.report_judge.specs.trace_print.specs.declared.closing.End.TheVariants as end
 use Rattle.report_judge.specs.trace_print.specs.declared.load.LoadCounts.{LoadCounts}
 use Rattle.world_semantics.specs.Kept.{acts_of}
 use Rattle.schedule_loop.specs.declared.ran.Ending.{Ending}
-use Rattle.schedule_loop.specs.declared.ran.Ending.TheVariants.{Idle, Cut, Second}
+use Rattle.schedule_loop.specs.declared.ran.Ending.TheVariants.{Idle, Cut, Second, Lost}
 use Rattle.command_dues.specs.declared.outcome.RunEnd.{RunEnd}
 use Rattle.command_dues.specs.declared.outcome.Status.{Status}
 use Rattle.command_dues.specs.declared.outcome.Status.TheVariants as status
@@ -29,14 +31,16 @@ load_counts requests run = record {
   replies = replies_in run.ran.machine.state.world.shown;
 }
 
--- the end that its report tells
-abbrev pub end_of : Ending → End
-end_of Idle = end.Idle
-end_of Cut = end.Cut
-end_of (Second processor) = end.Second processor
+-- how its report ends
+abbrev pub closing_of : Ending → Closing
+closing_of Idle = Ended end.Idle
+closing_of Cut = Ended end.Cut
+closing_of (Second processor) = Ended (end.Second processor)
+closing_of (Lost process) = closing.Lost process
 
 -- the status of a command that made it
 abbrev pub status_of_run : Ending → Status
 status_of_run Idle = status.Done
 status_of_run Cut = status.Cut
 status_of_run (Second processor) = status.SecondStop processor
+status_of_run (Lost process) = status.DiscLost process

@@ -7,13 +7,13 @@ use Rattle.tal_tree.specs.declared.act.Act.{Act}
 use Rattle.report_judge.specs.trace_print.specs.AdviceText.{advised_text}
 use Rattle.report_judge.specs.trace_print.specs.EndLine.{usage_line}
 use Rattle.report_judge.specs.trace_print.specs.FaultLine.{fault_line, IsOfDeck}
-use Rattle.report_judge.specs.trace_print.specs.ReportText.{load_report_text, report_text}
+use Rattle.report_judge.specs.trace_print.specs.ReportText.{load_report_text, run_text}
 use Rattle.report_judge.specs.trace_print.specs.RowLine.{sweep_text}
 use Rattle.report_judge.specs.trace_print.specs.VerdictLine.{rejected_line, verified_line}
 use Rattle.report_judge.specs.trace_print.specs.VerdictText.{accepted_text, refusal_text}
 use Rattle.report_judge.specs.declared.judge.Why.{Why}
 use Rattle.report_judge.specs.declared.judge.Why.TheVariants as why
-use Rattle.command_dues.specs.RunEnds.{acts_of_run, end_of, load_counts, shown_in, status_of_run}
+use Rattle.command_dues.specs.RunEnds.{acts_of_run, closing_of, load_counts, shown_in, status_of_run}
 use Rattle.command_dues.specs.declared.due.Due.{Due}
 use Rattle.command_dues.specs.declared.due.Due.TheVariants as due
 use Rattle.command_dues.specs.declared.due.Report.{Report}
@@ -31,11 +31,11 @@ told_acts acts run = if acts then acts_of_run run else []
 -- the report of a run, by what it tells
 abbrev pub text_telling : Telling → Report → List ℕ
 text_telling (telling.Lines acts) report =
-    report_text report.site (shown_in report.run) report.sectors report.stopped (told_acts acts report.run)
-    (end_of report.run.ran.ending)
+    run_text report.site (shown_in report.run) report.sectors report.mirrors report.stopped
+    (told_acts acts report.run) (closing_of report.run.ran.ending)
 text_telling (telling.Counts requests) report =
     load_report_text report.site (load_counts requests report.run) report.sectors report.stopped
-    (end_of report.run.ran.ending)
+    (closing_of report.run.ran.ending)
 
 abbrev pub text_of_run : Report → List ℕ
 text_of_run report = text_telling report.tells report

@@ -4,6 +4,7 @@ use gd_words::{List, NoMemory};
 use logs::Shared;
 use report_judge::Why;
 use report_judge::site_advice::PairAdvice;
+use report_judge::trace_print::MirrorDrives;
 use run_table::Table;
 use shown_sectors::SectorWords;
 use tal_tree::{DeckFault, Site};
@@ -34,13 +35,14 @@ pub enum Due {
     Unadvised(RefusedSite),
 }
 
-/// A run that was made: its site, the run, what stands on the sectors that were written, the processors that have
-/// stopped, and what is to be told of it.
+/// A run that was made: its site, the run, what stands on the sectors that were written, how the drives of mirrored
+/// discs stand, the processors that have stopped, and what is to be told of it.
 #[derive(Drop)]
 pub struct Report {
     pub site: Shared<Site>,
     pub run: RunEnd,
     pub sectors: List<SectorWords>,
+    pub mirrors: List<MirrorDrives>,
     pub stopped: List<u8>,
     pub tells: Telling,
 }

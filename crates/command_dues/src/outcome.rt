@@ -48,6 +48,8 @@ pub enum Status {
     NoMemory(NoMemory),
     /// The report isn't one of its deck, by its line of this number, from 1.
     Rejected { line: u32, why: Why },
+    /// This disc would have been lost, the process at a place in the deck.
+    DiscLost(u8),
 }
 
 impl Status {
@@ -69,6 +71,7 @@ impl Status {
             Status::WriteFault => 7,
             Status::NoMemory(_) => 8,
             Status::Rejected { line: _, why: _ } => 9,
+            Status::DiscLost(_) => 10,
         }
     }
 }
@@ -120,6 +123,7 @@ impl RunEnd {
             Ending::Idle => Status::Done,
             Ending::Cut => Status::Cut,
             Ending::Second(processor) => Status::SecondStop(processor),
+            Ending::Lost(process) => Status::DiscLost(process),
         }
     }
 }

@@ -94,6 +94,7 @@ ended : (how : Ending) → IsStatusOfRun (status_of_run how)
 ended ending.Idle = tt
 ended ending.Cut = tt
 ended (ending.Second processor) = tt
+ended (ending.Lost process) = tt
 
 run-status : (deck : Deck) (stop : Option ProcessorStop) (tells : Telling) (decided : Due)
     → IsDueOfRun deck stop tells decided → IsStatusOfRun (status_of decided)

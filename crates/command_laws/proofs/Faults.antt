@@ -9,7 +9,7 @@ use Rattle.gd_io.specs.Faults.{HasRisen}
 use Rattle.gd_io.specs.declared.writing.WriteFault.{WriteFault}
 use Rattle.load_deck.specs.LoadText.{load_text}
 use Rattle.schedule_loop.specs.declared.ran.Ending.{Ending}
-use Rattle.schedule_loop.specs.declared.ran.Ending.TheVariants.{Idle, Cut, Second}
+use Rattle.schedule_loop.specs.declared.ran.Ending.TheVariants.{Idle, Cut, Second, Lost}
 use Rattle.command_dues.specs.Decided.{IsDue, IsDueOn}
 use Rattle.command_dues.specs.RunEnds.{status_of_run}
 use Rattle.command_dues.specs.Tasks.{load_task}
@@ -54,6 +54,7 @@ run-written : (ending : Ending) → status_of_run ending ≡ status.WriteFault �
 run-written Idle e = cc
 run-written Cut e = cc
 run-written (Second processor) e = cc
+run-written (Lost process) e = cc
 
 -- a write fault is the status where writing failed, and nowhere else
 write-fault-only : (decided : Due) (result : Result ⊤ WriteFault)

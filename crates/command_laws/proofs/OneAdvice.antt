@@ -160,7 +160,7 @@ first-listed : (spec : ProcessSpec) (specs : List ProcessSpec) (start place : �
     → IsAmong place (pair_at start what ++ pairs_from (start + 1) specs)
     → (IsAmong place (pairs_from (start + 1) specs) → IsListed specs (start + 1) place)
     → IsListed (spec ∷ specs) start place
-first-listed spec specs start place (kind.Disc sectors) is among later =
+first-listed spec specs start place (kind.Disc sectors mirrored) is among later =
     later-listed spec specs start place (later among)
 first-listed spec specs start place (kind.Pair program) is (inr among) later =
     later-listed spec specs start place (later among)
@@ -179,12 +179,13 @@ listed (spec ∷ specs) start place among =
 
 back-here : (specs : List ProcessSpec) (start : ℕ) (what : Kind) (program : Program)
     → program_of what ≡ Some program → IsAmong (start + 0) (pair_at start what ++ pairs_from (start + 1) specs)
-back-here specs start (kind.Disc sectors) program there = absurd (let wrong : None ≡ Some program = there in cc)
+back-here specs start (kind.Disc sectors mirrored) program there =
+    absurd (let wrong : None ≡ Some program = there in cc)
 back-here specs start (kind.Pair own) program there = inl (let same : start + 0 ≡ start = omega arith in same)
 
 back-later : (specs : List ProcessSpec) (start place : ℕ) (what : Kind) → IsAmong place (pairs_from (start + 1) specs)
     → IsAmong place (pair_at start what ++ pairs_from (start + 1) specs)
-back-later specs start place (kind.Disc sectors) among = among
+back-later specs start place (kind.Disc sectors mirrored) among = among
 back-later specs start place (kind.Pair program) among = inr among
 
 list-back : (specs : List ProcessSpec) (start at : ℕ) (program : Program) → program_at specs at ≡ Some program

@@ -34,11 +34,13 @@ use Rattle.report_judge.specs.Verdicts.{IsVerdict as IsJudgement}
 use Rattle.report_judge.specs.declared.judge.VerifyRefusal.{VerifyRefusal}
 use Rattle.report_judge.specs.declared.judge.VerifyRefusal.TheVariants as refusal
 use Rattle.report_judge.specs.declared.judge.Why.{Why}
+use Rattle.report_judge.specs.trace_print.specs.declared.mirrors.MirrorDrives.{MirrorDrives}
 use Rattle.report_laws.proofs.OneVerdict.{one-verdict}
 use Rattle.report_laws.specs.OneVerdict.{IsSameVerdict}
 use Rattle.command_dues.specs.Verified.{IsDueOfInput, IsDueOfJudged, deck_in, report_in}
 use Rattle.command_dues.specs.Decided.{IsDue, IsDueOfTask, IsDueOfBytes, IsDueOfDeck, IsDueOfRun, IsDueOfSource}
 use Rattle.command_dues.specs.Decided.{IsDueOfAdvice, IsDueOfSweep, IsDueOfVerify, IsDueOn, IsReportOf}
+use Rattle.command_dues.specs.Mirrors.{mirrors_from}
 use Rattle.command_dues.specs.RunEnds.{shown_in}
 use Rattle.command_dues.specs.Stopped.{stopped_from}
 use Rattle.command_dues.specs.Tasks.{can_stop, judges, load_task}
@@ -65,6 +67,8 @@ pub one-report : (deck : Deck) (stop : Option ProcessorStop) (report other : Rep
 one-report deck stop report other one two tells =
     same (one.site ∙ sym two.site) run
     (one.sectors ∙ ap (λ (run : RunEnd). sectors_after deck.site (shown_in run)) run ∙ sym two.sectors)
+    (one.mirrors ∙ ap (λ (run : RunEnd). mirrors_from 0 deck.site.processes run.ran.machine.state.drives) run
+    ∙ sym two.mirrors)
     (one.stopped ∙ ap (λ (run : RunEnd). stopped_from 0 run.ran.machine.state.world.stopped) run ∙ sym two.stopped)
     tells
   where
@@ -74,15 +78,21 @@ one-report deck stop report other one two tells =
     run : report.run ≡ other.run
     run = ap run_of (one-run deck.site deck.lines stop report.run.ran other.run.ran one.run two.run)
 
-    report_of : Site → RunEnd → List SectorWords → List ℕ → Telling → Report
-    report_of site run sectors stopped tells =
-        record { site = site; run = run; sectors = sectors; stopped = stopped; tells = tells }
+    report_of : Site → RunEnd → List SectorWords → List MirrorDrives → List ℕ → Telling → Report
+    report_of site run sectors mirrors stopped tells = record {
+      site = site;
+      run = run;
+      sectors = sectors;
+      mirrors = mirrors;
+      stopped = stopped;
+      tells = tells;
+    }
 
-    same : {a b : Site} {r s : RunEnd} {m n : List SectorWords} {p q : List ℕ} {x y : Telling} → a ≡ b → r ≡ s → m ≡ n
-        → p ≡ q → x ≡ y
-        → report_of a r m p x ≡ report_of b s n q y
-    same {a = a} {b = b} {r = r} {s = s} {m = m} {n = n} {p = p} {q = q} {x = x} {y = y} site run sectors stopped
-        tells = cc
+    same : {a b : Site} {r s : RunEnd} {m n : List SectorWords} {d e : List MirrorDrives} {p q : List ℕ} {x y : Telling}
+        → a ≡ b → r ≡ s → m ≡ n → d ≡ e → p ≡ q → x ≡ y
+        → report_of a r m d p x ≡ report_of b s n e q y
+    same {a = a} {b = b} {r = r} {s = s} {m = m} {n = n} {d = d} {e = e} {p = p} {q = q} {x = x} {y = y} site
+        run sectors mirrors stopped tells = cc
 
 -- Refusals of programs
 

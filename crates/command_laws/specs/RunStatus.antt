@@ -9,8 +9,10 @@ IsStatusOfCheck status.WriteFault = Unit {0}
 IsStatusOfCheck (status.NoMemory _) = Unit {0}
 IsStatusOfCheck _ = ⊥
 
--- a run: so, where it came to an idle end, or it was cut, or a second processor would have stopped
+-- a run: so, where it came to an idle end, or it was cut, or a second processor would have stopped, or a mirrored disc
+-- would have been lost
 abbrev pub IsStatusOfRun : Status → Type 0
 IsStatusOfRun status.Cut = Unit {0}
 IsStatusOfRun (status.SecondStop processor) = Unit {0}
+IsStatusOfRun (status.DiscLost process) = Unit {0}
 IsStatusOfRun end = IsStatusOfCheck end

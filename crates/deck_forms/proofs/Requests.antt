@@ -143,9 +143,9 @@ terminal_wordy parts (Some words) e = by (name_of words.0) (name_of words.1) ref
 parts_wordy : (parts : List (List ℕ)) (word : Keyword) → SaidWordy (parts_say parts word)
 parts_wordy parts key.Processors =
     wordy_then _ (λ word. wordy_map said.Processors (λ count. tt) (written_number word)) (one_word parts)
-parts_wordy parts key.Disc =
+parts_wordy parts (key.Disc mirrored) =
     wordy_then _ (λ words. wordy_then _ (λ placing.
-    wordy_map (λ sectors. said.Disc placing sectors) (λ sectors. tt) (written_number words.3))
+    wordy_map (λ sectors. said.Disc placing sectors mirrored) (λ sectors. tt) (written_number words.3))
     (placing_of words.0 words.1 words.2))
     (four_words parts)
 parts_wordy parts key.Pair =
@@ -211,8 +211,8 @@ terminal_begins outline number name target wordy = by (not (is_new outline name)
 blocks_wordy : (outline : Outline) (number : ℕ) (saying : Saying) → HaveWordy outline
     → StepWordy (in_blocks outline number saying)
 blocks_wordy outline number said.Nothing wordy = wordy
-blocks_wordy outline number (said.Disc placing sectors) wordy =
-    disc_wordy outline number (disc_of outline placing sectors) wordy
+blocks_wordy outline number (said.Disc placing sectors mirrored) wordy =
+    disc_wordy outline number (disc_of outline placing sectors mirrored) wordy
 blocks_wordy outline number (said.Pair placing) wordy = wordy
 blocks_wordy outline number (said.Terminal name target) wordy = terminal_begins outline number name target wordy
 blocks_wordy outline number said.Schedule wordy = wordy
@@ -236,8 +236,8 @@ requests_wordy outline name terminal number said.LongSend one wordy own = by (na
         (step.Broken (broken outline number (fault.Limit 4))))
     by true = tt
     by false = tt
-requests_wordy outline name terminal number (said.Disc placing sectors) one wordy own =
-    blocks_wordy (with_terminal outline name terminal) number (said.Disc placing sectors)
+requests_wordy outline name terminal number (said.Disc placing sectors mirrored) one wordy own =
+    blocks_wordy (with_terminal outline name terminal) number (said.Disc placing sectors mirrored)
     (all_more HasWordy outline.terminals (name, terminal) wordy own)
 requests_wordy outline name terminal number (said.Pair placing) one wordy own =
     blocks_wordy (with_terminal outline name terminal) number (said.Pair placing)

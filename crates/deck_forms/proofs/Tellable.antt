@@ -41,7 +41,7 @@ all-at P xs k x all there =
 module _ (bytes : List ℕ) (deck : Deck) (decks : Decks bytes deck) where
   kind-tellable : (number : ℕ) (spec : ProcessSpec) → slice_get deck.site.processes number ≡ Some spec
       → (what : Kind) → spec.what ≡ what → IsKindWithinLimits what → IsTellableKind what
-  kind-tellable number spec there (kind.Disc sectors) is within = omega (arith, within.1)
+  kind-tellable number spec there (kind.Disc sectors mirrored) is within = omega (arith, within.1)
   kind-tellable number spec there (kind.Pair program) is within =
       let text = deck_programs bytes deck number spec program decks there is in
       (read_is_regular text.0 program text.1, read-numbers text.0 program text.1)

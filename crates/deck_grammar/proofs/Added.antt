@@ -20,8 +20,8 @@ use Rattle.deck_grammar.proofs.NewNames.{IsNew, new_is}
 abbrev pub heading_with : Placing → Heading
 heading_with placing = record { name = placing.name; primary = placing.primary; backup = placing.backup }
 
-abbrev pub disc_with : Placing → ℕ → Named ProcessLines
-disc_with placing sectors = process_with (heading_with placing) (body.Disc sectors)
+abbrev pub disc_with : Placing → ℕ → Bool → Named ProcessLines
+disc_with placing sectors mirrored = process_with (heading_with placing) (body.Disc sectors mirrored)
 
 abbrev pub terminal_with : ℕ → List ℕ → TerminalLines
 terminal_with number target = record { line = number; target = target; requests = [] }
@@ -48,23 +48,24 @@ heading_is outline placing =
     by false false false false true p = tt
     by false false false false false p = (refl, new_names outline placing.name p)
 
-abbrev pub DiscIs : Outline → Placing → ℕ → Result (Named ProcessLines) LineFault → Type 0
-DiscIs outline placing sectors (Err why) = Unit {0}
-DiscIs outline placing sectors (Ok process) = (process ≡ disc_with placing sectors) × IsNew outline placing.name
+abbrev pub DiscIs : Outline → Placing → ℕ → Bool → Result (Named ProcessLines) LineFault → Type 0
+DiscIs outline placing sectors mirrored (Err why) = Unit {0}
+DiscIs outline placing sectors mirrored (Ok process) = (process ≡ disc_with placing sectors mirrored)
+    × IsNew outline placing.name
 
-pub disc_is : (outline : Outline) (placing : Placing) (sectors : ℕ)
-    → DiscIs outline placing sectors (disc_of outline placing sectors)
-disc_is outline placing sectors = by (heading_of outline placing) (heading_is outline placing)
+pub disc_is : (outline : Outline) (placing : Placing) (sectors : ℕ) (mirrored : Bool)
+    → DiscIs outline placing sectors mirrored (disc_of outline placing sectors mirrored)
+disc_is outline placing sectors mirrored = by (heading_of outline placing) (heading_is outline placing)
   where
     sized : (heading : Heading) → HeadingIs outline placing (Ok heading) → (a b : Bool)
-        → DiscIs outline placing sectors (cond a (Err (fault.Limit 5))
-        (cond b (Err (fault.Limit 5)) (Ok (process_with heading (body.Disc sectors)))))
+        → DiscIs outline placing sectors mirrored (cond a (Err (fault.Limit 5))
+        (cond b (Err (fault.Limit 5)) (Ok (process_with heading (body.Disc sectors mirrored)))))
     sized heading is true b = tt
     sized heading is false true = tt
-    sized heading is false false = (ap (λ (h : Heading). process_with h (body.Disc sectors)) is.0, is.1)
+    sized heading is false false = (ap (λ (h : Heading). process_with h (body.Disc sectors mirrored)) is.0, is.1)
 
     by : (o : Result Heading LineFault) → HeadingIs outline placing o
-        → DiscIs outline placing sectors (with_sectors sectors o)
+        → DiscIs outline placing sectors mirrored (with_sectors sectors mirrored o)
     by (Err why) is = tt
     by (Ok heading) is = sized heading is (nat_lt sectors 1) (nat_lt 64 sectors)
 
@@ -111,14 +112,14 @@ heading_added outline placing new primary backup apart room =
     (cond (c i) (Err fault.NoProcessor) (cond (d i) (Err fault.NoProcessor)
     (cond (e i) (Err (fault.Limit 1)) (Ok (heading_with placing))))))
 
-pub disc_added : (outline : Outline) (placing : Placing) (sectors : ℕ)
+pub disc_added : (outline : Outline) (placing : Placing) (sectors : ℕ) (mirrored : Bool)
     → heading_of outline placing ≡ Ok (heading_with placing) → 1 ≤ sectors → sectors ≤ 64
-    → disc_of outline placing sectors ≡ Ok (disc_with placing sectors)
-disc_added outline placing sectors heading least most =
+    → disc_of outline placing sectors mirrored ≡ Ok (disc_with placing sectors mirrored)
+disc_added outline placing sectors mirrored heading least most =
     let a = le-ltb sectors 1 least in
     let b = le-ltb 64 sectors most in
-    ap (with_sectors sectors) heading ∙ (λ i.
-    cond (a i) (Err (fault.Limit 5)) (cond (b i) (Err (fault.Limit 5)) (Ok (disc_with placing sectors))))
+    ap (with_sectors sectors mirrored) heading ∙ (λ i.
+    cond (a i) (Err (fault.Limit 5)) (cond (b i) (Err (fault.Limit 5)) (Ok (disc_with placing sectors mirrored))))
 
 pub terminal_added : (outline : Outline) (number : ℕ) (name target : List ℕ) → IsNew outline name
     → length outline.terminals < 16

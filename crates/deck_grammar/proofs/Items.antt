@@ -34,13 +34,13 @@ program_items lines rest = map Program (lines ++ point ∷ []) ++ rest
 -- what the first line of blocks says, and the lines after it
 abbrev pub first_saying : List Block → Saying
 first_saying [] = said.Schedule
-first_saying (Disc placing sectors ∷ blocks) = said.Disc placing sectors
+first_saying (Disc placing sectors mirrored ∷ blocks) = said.Disc placing sectors mirrored
 first_saying (Pair placing lines ∷ blocks) = said.Pair placing
 first_saying (Terminal name target requests ∷ blocks) = said.Terminal name target
 
 abbrev pub after_first : List Block → List EventSaying → List Item
 after_first [] events = event_items events
-after_first (Disc placing sectors ∷ blocks) events = body_items blocks events
+after_first (Disc placing sectors mirrored ∷ blocks) events = body_items blocks events
 after_first (Pair placing lines ∷ blocks) events = program_items lines (body_items blocks events)
 after_first (Terminal name target requests ∷ blocks) events = request_items requests (body_items blocks events)
 
@@ -53,7 +53,7 @@ pub body_starts : (line : List ℕ) (lines : List (List ℕ)) (blocks : List Blo
     → AreItems (line ∷ lines) (body_items blocks events)
     → StartsWith line lines (first_saying blocks) (after_first blocks events) (body_items blocks events)
 body_starts line lines [] events are = are
-body_starts line lines (Disc placing sectors ∷ blocks) events are = are
+body_starts line lines (Disc placing sectors mirrored ∷ blocks) events are = are
 body_starts line lines (Pair placing program ∷ blocks) events are = are
 body_starts line lines (Terminal name target requests ∷ blocks) events are = are
 
@@ -62,7 +62,7 @@ pub before_body : (line : List ℕ) (lines : List (List ℕ)) (blocks : List Blo
     → saying_of line ≡ said.Nothing → AreItems lines (body_items blocks events)
     → AreItems (line ∷ lines) (body_items blocks events)
 before_body line lines [] events silent are = inr (silent, are)
-before_body line lines (Disc placing sectors ∷ blocks) events silent are = inr (silent, are)
+before_body line lines (Disc placing sectors mirrored ∷ blocks) events silent are = inr (silent, are)
 before_body line lines (Pair placing program ∷ blocks) events silent are = inr (silent, are)
 before_body line lines (Terminal name target requests ∷ blocks) events silent are = inr (silent, are)
 
@@ -86,7 +86,7 @@ more_text text line rest =
 -- lines have to be there
 pub no_body : (blocks : List Block) (events : List EventSaying) → AreItems [] (body_items blocks events) → ⊥
 no_body [] events are = are
-no_body (Disc placing sectors ∷ blocks) events are = are
+no_body (Disc placing sectors mirrored ∷ blocks) events are = are
 no_body (Pair placing program ∷ blocks) events are = are
 no_body (Terminal name target requests ∷ blocks) events are = are
 

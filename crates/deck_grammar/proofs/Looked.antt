@@ -1,6 +1,7 @@
 -- Names are looked up in an outline as in the site of its deck.
-use Rattle.std.proofs.Common.{◌≡◌, ℕ, ◌+◌, Bool, true, false, cond, not, nat_lt, List, [], ◌∷◌, position, Some, None}
-use Rattle.std.proofs.Common.{is_some, refl, sym, ap, ap₂, ◌∙◌, true≢false, get_or}
+use Rattle.std.proofs.Common.{◌≡◌, ℕ, zero, suc, ◌+◌, Bool, true, false, cond, not, nat_lt, List, [], ◌∷◌, position}
+use Rattle.std.proofs.Common.{Option, Some, None, option_and_then, slice_get, is_some, refl, sym, ap, ap₂, ◌∙◌}
+use Rattle.std.proofs.Common.{true≢false, get_or}
 use Rattle.std.specs.List.{All, position_or_len, list_all}
 use Rattle.std.specs.Cmp.Lexicographic.{bytes_decides}
 use Rattle.std.proofs.lemmas.List.Sums.{AllPass-from_list_all, list_all-from_AllPass}
@@ -8,13 +9,20 @@ use Rattle.name_table.specs.Entries.{Named, place_of}
 use Rattle.tal_tree.specs.declared.program.FileUse.{FileUse}
 use Rattle.tal_tree.specs.declared.program.Target.{Target}
 use Rattle.tal_tree.specs.declared.program.Target.TheVariants as target
+use Rattle.tal_tree.specs.declared.site.Kind.{Kind}
+use Rattle.tal_tree.specs.declared.site.Kind.TheVariants as kind
+use Rattle.tal_tree.specs.declared.site.ProcessSpec.{ProcessSpec}
 use Rattle.tal_tree.specs.declared.site.Site.{Site}
-use Rattle.deck_reader.specs.Decks.{EachWith}
+use Rattle.deck_reader.specs.Decks.{AreProcessesOf, EachWith, IsKindOf}
+use Rattle.deck_reader.specs.EventLineOf as written
+use Rattle.deck_reader.specs.EventLineOf.{lines_at, mirror_of}
 use Rattle.deck_reader.specs.Names.{files_misnamed, is_known, is_other}
 use Rattle.deck_reader.specs.declared.names.NameFault.{NameFault}
+use Rattle.deck_reader.specs.declared.outline.Body.{Body}
+use Rattle.deck_reader.specs.declared.outline.Body.TheVariants as body
 use Rattle.deck_reader.specs.declared.outline.ProcessLines.{ProcessLines}
 use Rattle.deck_reader.proofs.DeckLimits.{same_length}
-use Rattle.deck_grammar.specs.Spells.{MayOpen, process_at}
+use Rattle.deck_grammar.specs.Spells.{MayOpen, is_mirror, is_mirror_there, mirror_at, process_at}
 use Rattle.deck_grammar.proofs.NewNames.{differ}
 
 -- what passes stands at the same place in lists that belong together
@@ -40,6 +48,34 @@ each_so R S so (x ∷ xs) [] each = absurd each
 -- the processes of an outline are those of the site by their names
 abbrev pub AreThere : List (Named ProcessLines) → Site → Type 0
 AreThere all site = (name : List ℕ) → place_of all name ≡ process_at site name
+
+-- lines of processes with the processes that are read of them have mirrored discs at the same places
+same_kind : (lines : List (Named ProcessLines)) (processes : List ProcessSpec) → AreProcessesOf lines processes
+    → (place : ℕ) → written.is_mirror_there (lines_at lines place) ≡ is_mirror_there (slice_get processes place)
+same_kind [] [] of place = refl
+same_kind [] (process ∷ processes) of place = absurd of
+same_kind (one ∷ lines) [] of place = absurd of
+same_kind (one ∷ lines) (process ∷ processes) of zero = by one.1.body process.what of.0.what
+  where
+    by : (lines : Body) (what : Kind) → IsKindOf lines what → written.is_mirror lines ≡ is_mirror what
+    by (body.Disc told both) (kind.Disc sectors mirrored) is = sym is.1
+    by (body.Disc told both) (kind.Pair program) is = absurd is
+    by (body.Pair lines) (kind.Disc sectors mirrored) is = absurd is
+    by (body.Pair lines) (kind.Pair program) is = refl
+same_kind (one ∷ lines) (process ∷ processes) of (suc place) = same_kind lines processes of.1 place
+
+-- and so a name tells the same mirrored disc
+pub same_mirror : (lines : List (Named ProcessLines)) (site : Site) → AreThere lines site
+    → AreProcessesOf lines site.processes → (name : List ℕ) → mirror_of lines name ≡ mirror_at site name
+same_mirror lines site there of name =
+    ap (option_and_then (λ place. cond (written.is_mirror_there (lines_at lines place)) (Some place) None)) (there name)
+    ∙ by (process_at site name)
+  where
+    by : (o : Option ℕ)
+        → option_and_then (λ place. cond (written.is_mirror_there (lines_at lines place)) (Some place) None) o
+        ≡ option_and_then (λ place. cond (is_mirror_there (slice_get site.processes place)) (Some place) None) o
+    by None = refl
+    by (Some place) = ap (λ (b : Bool). cond b (Some place) None) (same_kind lines site.processes of place)
 
 module _ (all : List (Named ProcessLines)) (site : Site) (there : AreThere all site) (own : List ℕ) where
   may_open : (one : Target) → is_known all one ≡ true → is_other own one ≡ true → MayOpen site own one

@@ -4,6 +4,7 @@ use Rattle.std.proofs.Common.{None, option_map, refl, sym, ap, ap₂, ◌∙◌,
 use Rattle.std.specs.List.{AllZip}
 use Rattle.std.specs.Str.{bytes_eq}
 use Rattle.name_table.specs.Entries.{Named, place_of}
+use Rattle.schedule.specs.declared.event.DriveChange.TheVariants.{Copy}
 use Rattle.schedule.specs.declared.event.Event.TheVariants as event
 use Rattle.schedule.specs.declared.line.Line.{Line}
 use Rattle.schedule.specs.declared.line.Line.TheVariants as line
@@ -20,7 +21,7 @@ use Rattle.deck_lines.specs.declared.event_saying.EventSaying.TheVariants as ask
 use Rattle.deck_lines.specs.declared.saying.Placing.{Placing}
 use Rattle.deck_lines.specs.declared.saying.Saying.TheVariants as said
 use Rattle.deck_reader.specs.Decks as d
-use Rattle.deck_reader.specs.EventLineOf.{event_line}
+use Rattle.deck_reader.specs.EventLineOf.{event_line, mirror_of}
 use Rattle.deck_reader.specs.Names.{earlier, event_misnamed, first_of, pairs_misnamed, process_misnamed}
 use Rattle.deck_reader.specs.Names.{targets_misnamed}
 use Rattle.deck_reader.specs.declared.deck.Deck.{Deck}
@@ -33,10 +34,11 @@ use Rattle.deck_reader.specs.declared.outline.TerminalLines.{TerminalLines}
 use Rattle.deck_reader.specs.declared.step.Stage.TheVariants as at
 use Rattle.deck_reader.proofs.DeckLimits.{deck_within}
 use Rattle.deck_grammar.specs.Grammar.{AreItems, Block, Disc, Item, Pair, Says, Terminal, text_of}
-use Rattle.deck_grammar.specs.Spells.{Declare, IsPairOf, IsTerminalOf, Spells, line_of, placed, terminal_at}
+use Rattle.deck_grammar.specs.Spells.{Declare, IsPairOf, IsTerminalOf, Spells, line_of, mirror_at, placed}
+use Rattle.deck_grammar.specs.Spells.{terminal_at}
 use Rattle.deck_grammar.proofs.Added.{disc_with, heading_with, terminal_with}
 use Rattle.deck_grammar.proofs.Items.{body-is}
-use Rattle.deck_grammar.proofs.Looked.{AreThere, files_open, same_place}
+use Rattle.deck_grammar.proofs.Looked.{AreThere, files_open, same_mirror, same_place}
 use Rattle.deck_grammar.proofs.Parsed.{InOpening, IsPairTold, IsTerminalTold, Told, all_lead, named, pair_with}
 use Rattle.deck_grammar.proofs.Parsed.{program_at, with_requests}
 
@@ -53,19 +55,20 @@ none_noted : (unknown : Option ℕ) → event_misnamed unknown ≡ None → unkn
 none_noted None e = refl
 none_noted (Some number) e = absurd (cc)
 
-disc_kind : (sectors : ℕ) (what : Kind) → d.IsKindOf (body.Disc sectors) what → what ≡ kind.Disc sectors
-disc_kind sectors (kind.Disc told) is = ap kind.Disc is
-disc_kind sectors (kind.Pair program) is = absurd is
+disc_kind : (sectors : ℕ) (mirrored : Bool) (what : Kind) → d.IsKindOf (body.Disc sectors mirrored) what
+    → what ≡ kind.Disc sectors mirrored
+disc_kind sectors mirrored (kind.Disc told both) is = ap₂ kind.Disc is.0 is.1
+disc_kind sectors mirrored (kind.Pair program) is = absurd is
 
 pair_kind : (lines : ProgramLines) (what : Kind) → d.IsKindOf (body.Pair lines) what
     → (program : Program) × Reads lines.text program × (what ≡ kind.Pair program)
-pair_kind lines (kind.Disc told) is = absurd is
+pair_kind lines (kind.Disc told both) is = absurd is
 pair_kind lines (kind.Pair program) reads = (program, reads, refl)
 
-disc_declared : (placing : Placing) (sectors : ℕ) (process : ProcessSpec)
-    → d.IsProcessOf (disc_with placing sectors) process → process ≡ placed placing (kind.Disc sectors)
-disc_declared placing sectors process one =
-    let what = disc_kind sectors process.what one.what in
+disc_declared : (placing : Placing) (sectors : ℕ) (mirrored : Bool) (process : ProcessSpec)
+    → d.IsProcessOf (disc_with placing sectors mirrored) process → process ≡ placed placing (kind.Disc sectors mirrored)
+disc_declared placing sectors mirrored process one =
+    let what = disc_kind sectors mirrored process.what one.what in
     λ i. record { name = one.name i; primary = one.primary i; backup = one.backup i; what = what i }
 
 module _ (site : Site) (all : List (Named ProcessLines)) (there : AreThere all site) where
@@ -105,13 +108,15 @@ module _ (site : Site) (all : List (Named ProcessLines)) (there : AreThere all s
   all_declared [] [] [] [] (terminal ∷ terminals) told of asks none = absurd asks
   all_declared [] [] (one ∷ more) processes terminals told of asks none = absurd told
   all_declared [] (one ∷ lines) more processes terminals told of asks none = absurd told
-  all_declared (Disc placing sectors ∷ blocks) [] more processes terminals told of asks none = absurd told
-  all_declared (Disc placing sectors ∷ blocks) (one ∷ lines) more [] terminals told of asks none = absurd of
-  all_declared (Disc placing sectors ∷ blocks) (one ∷ lines) more (process ∷ processes) terminals told of asks none = (
-    disc_declared placing sectors process (subst (λ (p : Named ProcessLines). d.IsProcessOf p process) told.0 of.0),
-    all_declared blocks lines more processes terminals told.1 of.1 asks
-        (neither (process_misnamed all one.0 one.1.body process.what) (pairs_misnamed all lines processes) none).1,
-  )
+  all_declared (Disc placing sectors mirrored ∷ blocks) [] more processes terminals told of asks none = absurd told
+  all_declared (Disc placing sectors mirrored ∷ blocks) (one ∷ lines) more [] terminals told of asks none = absurd of
+  all_declared (Disc placing sectors mirrored ∷ blocks) (one ∷ lines) more (process ∷ processes) terminals told of
+      asks none = (
+        disc_declared placing sectors mirrored process (subst (λ (p : Named ProcessLines). d.IsProcessOf p process)
+            told.0 of.0),
+        all_declared blocks lines more processes terminals told.1 of.1 asks
+            (neither (process_misnamed all one.0 one.1.body process.what) (pairs_misnamed all lines processes) none).1,
+      )
   all_declared (Pair placing rows ∷ blocks) [] more processes terminals told of asks none = absurd told
   all_declared (Pair placing rows ∷ blocks) (one ∷ lines) more [] terminals told of asks none = absurd of
   all_declared (Pair placing rows ∷ blocks) (one ∷ lines) more (process ∷ processes) terminals told of asks none = (
@@ -129,7 +134,8 @@ module _ (site : Site) (all : List (Named ProcessLines)) (there : AreThere all s
       )
 
 module _ (outline : Outline) (site : Site) (processes : AreThere outline.processes site)
-    (terminals : (name : List ℕ) → place_of outline.terminals name ≡ terminal_at site name) where
+    (terminals : (name : List ℕ) → place_of outline.terminals name ≡ terminal_at site name)
+    (mirrors : (name : List ℕ) → mirror_of outline.processes name ≡ mirror_at site name) where
   -- what passes a test is told
   tested : {X : Type 0} (b : Bool) (one told : X) → cond b (Some one) None ≡ Some told → Some one ≡ Some told
   tested true one told e = e
@@ -155,6 +161,13 @@ module _ (outline : Outline) (site : Site) (processes : AreThere outline.process
       tested (nat_lt node outline.processors || nat_eq node 16) (line.One (event.Tick node)) told e
   line_meant (asked.Fail processor) told e =
       tested (nat_lt processor outline.processors) (line.One (event.Fail processor)) told e
+  line_meant (asked.Drive name drive change) told e =
+      ap (option_map (λ place. line.One (event.Drive (record { process = place; drive = drive; change = change }))))
+      (sym (mirrors name)) ∙ e
+  line_meant (asked.CopyTimes name drive times) told e =
+      ap (option_map
+      (λ place. line.Many (event.Drive (record { process = place; drive = drive; change = Copy })) times))
+      (sym (mirrors name)) ∙ untested (nat_lt times 1) _ told e
   line_meant (asked.Drain rounds) told e = e
   line_meant (asked.Mix start rounds) told e = e
   line_meant (asked.Mute processor rounds) told e =
@@ -193,6 +206,8 @@ spelt bytes deck decks =
     (λ (terminal : TerminalSpec). bytes_eq terminal.name name) (d.IsTerminalOf outline.processes)
     (λ lines terminal one. ap (λ (n : List ℕ). bytes_eq n name) (sym one.name)) outline.terminals site.terminals
     is.terminals in
+    let mirrors : (name : List ℕ) → mirror_of outline.processes name ≡ mirror_at site name =
+    same_mirror outline.processes site processes is.processes in
     let items = ap₂ (λ (count : ℕ) (rest : List Item). Says (said.Processors count) ∷ rest)
     (sym (is.processors ∙ of.processors)) (sym (body-is parts.blocks parts.events)) in record {
       short = decks.short;
@@ -211,6 +226,6 @@ spelt bytes deck decks =
       scheduled =
           subst (AllZip (λ (saying : EventSaying) (told : Line). line_of site saying ≡ Some told) parts.events)
           (sym (is.lines ∙ scheduled.2))
-          (lines_meant outline site processes terminals parts.events scheduled.0 scheduled.3);
+          (lines_meant outline site processes terminals mirrors parts.events scheduled.0 scheduled.3);
       limits = deck_within bytes deck decks;
     }

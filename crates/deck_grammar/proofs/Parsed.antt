@@ -68,8 +68,8 @@ IsTerminalTold name target requests terminal =
 -- blocks are these lines of an outline
 abbrev pub Told : List Block → List (Named ProcessLines) → List (Named TerminalLines) → Type 0
 Told [] [] [] = Unit {0}
-Told (Disc placing sectors ∷ blocks) (process ∷ processes) terminals =
-    (process ≡ disc_with placing sectors) × Told blocks processes terminals
+Told (Disc placing sectors mirrored ∷ blocks) (process ∷ processes) terminals =
+    (process ≡ disc_with placing sectors mirrored) × Told blocks processes terminals
 Told (Pair placing lines ∷ blocks) (process ∷ processes) terminals =
     IsPairTold placing lines process × Told blocks processes terminals
 Told (Terminal name target requests ∷ blocks) processes (terminal ∷ terminals) =
@@ -221,20 +221,21 @@ module _ (final : Outline) (line : List ℕ) (lines : List (List ℕ)) where
           (count, later.0, inl (says, later.1), subst (λ (one : Outline). Leads one final later.0) are later.2)
   opening_leads number _ says later = absurd later
 
-  disc_leads : (outline : Outline) (number : ℕ) (placing : Placing) (sectors : ℕ)
-      → saying_of line ≡ said.Disc placing sectors
-      → LeadOn (o.disc_told outline number (disc_of outline placing sectors)) final lines
+  disc_leads : (outline : Outline) (number : ℕ) (placing : Placing) (sectors : ℕ) (mirrored : Bool)
+      → saying_of line ≡ said.Disc placing sectors mirrored
+      → LeadOn (o.disc_told outline number (disc_of outline placing sectors mirrored)) final lines
       → InBlocks outline final (line ∷ lines)
-  disc_leads outline number placing sectors says later =
-      by (disc_of outline placing sectors) (disc_is outline placing sectors) later
+  disc_leads outline number placing sectors mirrored says later =
+      by (disc_of outline placing sectors mirrored) (disc_is outline placing sectors mirrored) later
     where
-      by : (r : Result (Named ProcessLines) LineFault) → DiscIs outline placing sectors r
+      by : (r : Result (Named ProcessLines) LineFault) → DiscIs outline placing sectors mirrored r
           → LeadOn (o.disc_told outline number r) final lines → InBlocks outline final (line ∷ lines)
       by (Err why) is later = absurd later
       by (Ok process) is later = (
-        more_process (Disc placing sectors) process later.0,
+        more_process (Disc placing sectors mirrored) process later.0,
         inl (says, later.1),
-        process_leads outline final later.0 (Disc placing sectors) process (ap (λ (p : Named ProcessLines). p.0) is.0)
+        process_leads outline final later.0 (Disc placing sectors mirrored) process
+            (ap (λ (p : Named ProcessLines). p.0) is.0)
             is.1 (is.0, later.2.told) later.2,
       )
 
@@ -291,8 +292,8 @@ module _ (final : Outline) (line : List ℕ) (lines : List (List ℕ)) where
       → InBlocks outline final (line ∷ lines)
   blocks_lead outline number said.Nothing says later =
       (later.0, before_body line lines later.0.blocks later.0.events says later.1, later.2)
-  blocks_lead outline number (said.Disc placing sectors) says later =
-      disc_leads outline number placing sectors says later
+  blocks_lead outline number (said.Disc placing sectors mirrored) says later =
+      disc_leads outline number placing sectors mirrored says later
   blocks_lead outline number (said.Pair placing) says later = pair_leads outline number placing says later
   blocks_lead outline number (said.Terminal name target) says later =
       terminal_begins outline number name target says later

@@ -4,20 +4,21 @@ use Rattle.std.proofs.Common.{Option, Some, None, option_map, Result, Ok, Err, r
 use Rattle.std.proofs.Common.{inr}
 use Rattle.std.proofs.lemmas.Bool.{le-ltb, lt-ltb, eq-eqb, or_right}
 use Rattle.name_table.specs.Entries.{place_of}
+use Rattle.schedule.specs.declared.event.DriveChange.TheVariants.{Copy}
 use Rattle.schedule.specs.declared.event.Event.TheVariants as event
 use Rattle.schedule.specs.declared.line.Line.{Line}
 use Rattle.schedule.specs.declared.line.Line.TheVariants as line
 use Rattle.tal_tree.specs.declared.site.Site.{Site}
 use Rattle.deck_lines.specs.declared.event_saying.EventSaying.{EventSaying}
 use Rattle.deck_lines.specs.declared.event_saying.EventSaying.TheVariants as asked
-use Rattle.deck_reader.specs.EventLineOf.{event_line}
+use Rattle.deck_reader.specs.EventLineOf.{event_line, mirror_of}
 use Rattle.deck_reader.specs.LineFaults.{asks, more_rounds, more_singles}
 use Rattle.deck_reader.specs.Schedules.{IsLineOf, IsNodeOf, rounds_in, singles_in}
 use Rattle.deck_reader.specs.declared.line_fault.LineFault.{LineFault}
 use Rattle.deck_reader.specs.declared.line_fault.LineFault.TheVariants as fault
 use Rattle.deck_reader.specs.declared.outline.Outline.{Outline}
 use Rattle.deck_reader.specs.declared.outline.Sums.{Sums}
-use Rattle.deck_grammar.specs.Spells.{line_of, process_at, terminal_at}
+use Rattle.deck_grammar.specs.Spells.{line_of, mirror_at, process_at, terminal_at}
 use Rattle.deck_grammar.proofs.Looked.{AreThere}
 
 some_same : {X : Type 0} (x y : X) → Some x ≡ Some y → x ≡ y
@@ -60,7 +61,8 @@ tick_there processors node (inr same) = or_right (nat_lt node processors) (nat_e
 
 module _ (outline : Outline) (site : Site) (sums : Sums) (same : outline.processors ≡ site.processors)
     (processes : AreThere outline.processes site)
-    (terminals : (name : List ℕ) → place_of outline.terminals name ≡ terminal_at site name) where
+    (terminals : (name : List ℕ) → place_of outline.terminals name ≡ terminal_at site name)
+    (mirrors : (name : List ℕ) → mirror_of outline.processes name ≡ mirror_at site name) where
   -- the line is added, and what it asks for
   abbrev pub IsAdded : EventSaying → Line → Type 0
   IsAdded saying told = IsLineOf site.processors (length site.processes) (length site.terminals) told
@@ -118,6 +120,23 @@ module _ (outline : Outline) (site : Site) (sums : Sums) (same : outline.process
         ap (λ (c : Bool). cond c (Some (line.One (event.Fail processor))) None) there,
         where_true sums 1 0 (nat_lt processor outline.processors) (more_singles sums 1) fault.NoProcessor there
             (singles_more sums 1 few),
+      ))
+  line_added (asked.Drive name drive change) told e =
+      let one = λ (place : ℕ). line.One (event.Drive (record { process = place; drive = drive; change = change })) in
+      let found = mapped one (mirror_at site name) told e in
+      subst (IsAdded (asked.Drive name drive change)) found.2
+      (λ of few brief. (ap (option_map one) (mirrors name ∙ found.1), singles_more sums 1 few))
+  line_added (asked.CopyTimes name drive times) told e =
+      let many = λ (place : ℕ). line.Many (event.Drive (record { process = place; drive = drive; change = Copy }))
+      times in
+      let found = mapped many (mirror_at site name) told e in
+      subst (IsAdded (asked.CopyTimes name drive times)) found.2
+      (λ of few brief.
+      let some = le-ltb times 1 of.1 in (
+        ap (λ (c : Bool). cond c None (option_map many (mirror_of outline.processes name))) some
+            ∙ ap (option_map many) (mirrors name ∙ found.1),
+        where_false sums times 0 (nat_lt times 1) (more_singles sums times) fault.Form some
+            (singles_more sums times few),
       ))
   line_added (asked.Drain rounds) told e =
       subst (IsAdded (asked.Drain rounds)) (some_same _ told e) (λ of few brief. (refl, rounds_more sums rounds brief))

@@ -22,6 +22,7 @@ use Rattle.deck_lines.specs.declared.saying.Placing.{Placing}
 use Rattle.deck_lines.specs.declared.saying.Saying.TheVariants as said
 use Rattle.deck_reader.specs.Decks as d
 use Rattle.deck_reader.specs.Limits.{IsProcessWithinLimits, IsTerminalWithinLimits, IsWithinDeckLimits}
+use Rattle.deck_reader.specs.EventLineOf.{mirror_of}
 use Rattle.deck_reader.specs.LineFaults.{heading_of, outline_with, process_with}
 use Rattle.deck_reader.specs.Names.{event_misnamed, pairs_misnamed, process_misnamed, first_of}
 use Rattle.deck_reader.specs.Outlined as o
@@ -46,13 +47,14 @@ use Rattle.deck_reader.proofs.DeckLimits.{same_length}
 use Rattle.deck_reader.proofs.EachLemmas.{each_more}
 use Rattle.deck_reader.proofs.NameLemmas.{found_in}
 use Rattle.deck_grammar.specs.Grammar.{AreItems, Block, Disc, Pair, Says, Terminal, point, text_of}
-use Rattle.deck_grammar.specs.Spells.{AreDistinct, Declare, MayOpen, line_of, name_in, placed, process_at, terminal_at}
+use Rattle.deck_grammar.specs.Spells.{AreDistinct, Declare, MayOpen, line_of, mirror_at, name_in, placed}
+use Rattle.deck_grammar.specs.Spells.{process_at, terminal_at}
 use Rattle.deck_grammar.proofs.Added.{disc_added, disc_with, heading_added, heading_with, processors_added}
 use Rattle.deck_grammar.proofs.Added.{terminal_added, terminal_with}
 use Rattle.deck_grammar.proofs.Items.{StartsWith, after_first, body_items, body_starts, event_items, first_saying}
 use Rattle.deck_grammar.proofs.Items.{more_text, no_body, no_events as no_event_items, no_program, no_requests}
 use Rattle.deck_grammar.proofs.Items.{program_items, request_items}
-use Rattle.deck_grammar.proofs.Looked.{AreThere, each_so, open_files, same_place}
+use Rattle.deck_grammar.proofs.Looked.{AreThere, each_so, open_files, same_mirror, same_place}
 use Rattle.deck_grammar.proofs.NewNames.{AreNew, IsNew, differ, new_after_process, new_after_terminal}
 use Rattle.deck_grammar.proofs.Parsed.{named, pair_with, program_at, with_requests}
 use Rattle.deck_grammar.proofs.Played.{line_added}
@@ -62,7 +64,7 @@ no_lines = record { lines = []; sums = record { singles = 0; rounds = 0 }; unkno
 
 -- what a program opens may be opened
 abbrev pub Opens : Deck → List ℕ → Kind → Type 0
-Opens deck own (kind.Disc sectors) = Unit {0}
+Opens deck own (kind.Disc sectors mirrored) = Unit {0}
 Opens deck own (kind.Pair program) = All (λ (file : FileUse). MayOpen deck.site own file.target) program.files
 
 abbrev pub IsProcessSaid : Deck → Named ProcessLines → ProcessSpec → Type 0
@@ -243,10 +245,16 @@ module _ (deck : Deck) (outline : Outline) (holds : Holds deck outline [] []) wh
       (λ lines terminal one. ap (λ (n : List ℕ). bytes_eq n name) (sym one.0)) outline.terminals deck.site.terminals
       each_terminal
 
+  mirrors_there : (name : List ℕ) → mirror_of outline.processes name ≡ mirror_at deck.site name
+  mirrors_there =
+      same_mirror outline.processes deck.site processes_there
+      (each_so (IsProcessSaid deck) d.IsProcessOf (λ lines process said. said.0) outline.processes
+      deck.site.processes each_process)
+
   file_fine : (own : List ℕ) (lines : Body) (what : Kind) → Opens deck own what
       → process_misnamed outline.processes own lines what ≡ None
-  file_fine own (body.Disc sectors) what opens = refl
-  file_fine own (body.Pair lines) (kind.Disc sectors) opens = refl
+  file_fine own (body.Disc sectors mirrored) what opens = refl
+  file_fine own (body.Pair lines) (kind.Disc sectors mirrored) opens = refl
   file_fine own (body.Pair lines) (kind.Pair program) opens =
       open_files outline.processes deck.site processes_there own lines.line program.files opens
 
@@ -347,28 +355,31 @@ module _ (deck : Deck) (limits : IsWithinDeckLimits deck) where
   )
   blocks_go outline number lines [] (process ∷ processes) terminals events are fits asked = absurd fits.declared
   blocks_go outline number lines [] [] (terminal ∷ terminals) events are fits asked = absurd fits.declared
-  blocks_go outline number lines (Disc placing sectors ∷ blocks) [] terminals events are fits asked =
+  blocks_go outline number lines (Disc placing sectors mirrored ∷ blocks) [] terminals events are fits asked =
       absurd fits.declared
-  blocks_go outline number lines (Disc placing sectors ∷ blocks) (process ∷ processes) terminals events are fits asked =
+  blocks_go outline number lines (Disc placing sectors mirrored ∷ blocks) (process ∷ processes) terminals events are
+      fits asked =
       let same = fits.declared.0 in
-      let one = disc_with placing sectors in
-      let within : IsProcessWithinLimits deck.site.processors (placed placing (kind.Disc sectors)) =
+      let one = disc_with placing sectors mirrored in
+      let within : IsProcessWithinLimits deck.site.processors (placed placing (kind.Disc sectors mirrored)) =
       subst (IsProcessWithinLimits deck.site.processors) same
       (process_within outline process processes terminals fits.holds).0 in
       let heading =
-      heading_fits outline placing (kind.Disc sectors) process processes terminals same fits.new.0 fits.holds in
+      heading_fits outline placing (kind.Disc sectors mirrored) process processes terminals same fits.new.0
+      fits.holds in
       let said : IsProcessSaid deck one process =
       subst (IsProcessSaid deck one) (sym same)
-      (record { name = refl; primary = refl; backup = refl; what = refl }, tt) in (
+      (record { name = refl; primary = refl; backup = refl; what = (refl, refl) }, tt) in (
         at.Blocks (o.with_process outline one),
-        ap (o.disc_told outline number) (disc_added outline placing sectors heading within.what.0 within.what.1),
+        ap (o.disc_told outline number) (disc_added outline placing sectors mirrored heading within.what.0
+            within.what.1),
         (
           blocks,
           processes,
           terminals,
           events,
           are,
-          process_fits deck outline (Disc placing sectors) blocks process processes terminals one refl said
+          process_fits deck outline (Disc placing sectors mirrored) blocks process processes terminals one refl said
               fits.declared.1 fits,
           asked,
         ),
@@ -513,7 +524,7 @@ module _ (deck : Deck) (limits : IsWithinDeckLimits deck) where
         → o.in_requests outline name terminal number (first_saying blocks)
         ≡ o.in_blocks (o.with_terminal outline name terminal) number (first_saying blocks)
     after_requests outline name terminal number [] = refl
-    after_requests outline name terminal number (Disc placing sectors ∷ blocks) = refl
+    after_requests outline name terminal number (Disc placing sectors mirrored ∷ blocks) = refl
     after_requests outline name terminal number (Pair placing rows ∷ blocks) = refl
     after_requests outline name terminal number (Terminal other target requests ∷ blocks) = refl
 
@@ -595,7 +606,8 @@ module _ (deck : Deck) (limits : IsWithinDeckLimits deck) where
         fits.whole limits.each_line) in
         let added = line_added outline deck.site outline.events.sums fits.holds.processors
         (processes_there deck outline fits.holds) (terminals_there deck outline fits.holds)
-        saying told fits.each.0 of (omega (arith, fits.singles)) (omega (arith, fits.rounds)) in
+        (mirrors_there deck outline fits.holds) saying told fits.each.0 of (omega (arith, fits.singles))
+        (omega (arith, fits.rounds)) in
         let next : EventLines = record {
           lines = outline.events.lines ++ told ∷ [];
           sums = added.1.0;

@@ -6,17 +6,17 @@
 --     schedule
 --     { an event line }
 --     END
-use Rattle.std.specs.Prelude.{◌≡◌, ◌⊎◌, ℕ, ℤ, List, [], ◌∷◌, ◌++◌, map, flat_map, codes}
+use Rattle.std.specs.Prelude.{◌≡◌, ◌⊎◌, ℕ, ℤ, Bool, List, [], ◌∷◌, ◌++◌, map, flat_map, codes}
 use Rattle.deck_lines.specs.SayingOf.{saying_of}
 use Rattle.deck_lines.specs.declared.event_saying.EventSaying.{EventSaying}
 use Rattle.deck_lines.specs.declared.saying.Placing.{Placing}
 use Rattle.deck_lines.specs.declared.saying.Saying.{Saying}
 use Rattle.deck_lines.specs.declared.saying.Saying.TheVariants as said
 
--- a block: a disc with its sectors, a pair with the lines of its program, or a terminal with the name of the process
--- that it asks and its requests
+-- a block: a disc with its sectors, mirrored or not, a pair with the lines of its program, or a terminal with the name
+-- of the process that it asks and its requests
 pub data Block : Type 0 where
-  Disc : Placing → ℕ → Block
+  Disc : Placing → ℕ → Bool → Block
   Pair : Placing → List (List ℕ) → Block
   Terminal : List ℕ → List ℕ → List (List ℤ) → Block
 
@@ -35,7 +35,7 @@ text_of lines = flat_map (λ line. line ++ 10 ∷ []) lines
 
 -- the lines of a block
 abbrev pub block_items : Block → List Item
-block_items (Disc placing sectors) = Says (said.Disc placing sectors) ∷ []
+block_items (Disc placing sectors mirrored) = Says (said.Disc placing sectors mirrored) ∷ []
 block_items (Pair placing program) = Says (said.Pair placing) ∷ map Program (program ++ point ∷ [])
 block_items (Terminal name target requests) =
     Says (said.Terminal name target) ∷ map (λ words. Says (said.Send words)) requests

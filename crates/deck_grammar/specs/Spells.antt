@@ -1,7 +1,7 @@
 -- The deck that a text of the grammar spells. Names are declared once and may be used before their line. The numbers
 -- that limit a deck are those of `IsWithinDeckLimits`.
-use Rattle.std.specs.Prelude.{◌≡◌, ◌≢◌, ◌≤◌, ℕ, ℤ, List, [], ◌∷◌, length, map, position, Option, Some, option_map}
-use Rattle.std.specs.Prelude.{IsSome}
+use Rattle.std.specs.Prelude.{◌≡◌, ◌≢◌, ◌≤◌, ℕ, ℤ, Bool, false, if◌then◌else◌, List, [], ◌∷◌, length, map, position}
+use Rattle.std.specs.Prelude.{slice_get, Option, Some, None, option_and_then, option_map, IsSome}
 use Rattle.std.specs.List.{All, AllZip}
 use Rattle.std.specs.Str.{bytes_eq}
 use Rattle.gd_words.specs.Members.{IsAmong}
@@ -25,6 +25,7 @@ use Rattle.deck_lines.specs.declared.saying.Placing.{Placing}
 use Rattle.deck_reader.specs.Limits.{IsWithinDeckLimits}
 use Rattle.deck_reader.specs.declared.deck.Deck.{Deck}
 use Rattle.deck_grammar.specs.Grammar.{AreItems, Block, Disc, Pair, Terminal, deck_items, point, text_of}
+use Rattle.schedule.specs.declared.event.DriveChange.TheVariants.{Copy}
 
 -- where a process, or a terminal, of this name stands, counted from 0
 abbrev pub process_at : Site → List ℕ → Option ℕ
@@ -60,8 +61,8 @@ pub record IsTerminalOf (site : Site) (name target : List ℕ) (requests : List 
 -- blocks declare these processes and these terminals, in their order
 abbrev pub Declare : Site → List Block → List ProcessSpec → List TerminalSpec → Type 0
 Declare site [] [] [] = Unit {0}
-Declare site (Disc placing sectors ∷ blocks) (process ∷ processes) terminals =
-    (process ≡ placed placing (kind.Disc sectors)) × Declare site blocks processes terminals
+Declare site (Disc placing sectors mirrored ∷ blocks) (process ∷ processes) terminals =
+    (process ≡ placed placing (kind.Disc sectors mirrored)) × Declare site blocks processes terminals
 Declare site (Pair placing lines ∷ blocks) (process ∷ processes) terminals =
     IsPairOf site placing lines process × Declare site blocks processes terminals
 Declare site (Terminal name target requests ∷ blocks) processes (terminal ∷ terminals) =
@@ -70,7 +71,7 @@ Declare site _ _ _ = ⊥
 
 -- what a block declares has this name
 abbrev pub name_in : Block → List ℕ
-name_in (Disc placing sectors) = placing.name
+name_in (Disc placing sectors mirrored) = placing.name
 name_in (Pair placing lines) = placing.name
 name_in (Terminal name target requests) = name
 
@@ -78,6 +79,20 @@ name_in (Terminal name target requests) = name
 abbrev pub AreDistinct : List (List ℕ) → Type 0
 AreDistinct [] = Unit {0}
 AreDistinct (name ∷ names) = (IsAmong name names → ⊥) × AreDistinct names
+
+-- whether this is a mirrored disc, if it is there
+abbrev pub is_mirror : Kind → Bool
+is_mirror (kind.Disc sectors mirrored) = mirrored
+is_mirror (kind.Pair program) = false
+
+abbrev pub is_mirror_there : Option ProcessSpec → Bool
+is_mirror_there None = false
+is_mirror_there (Some process) = is_mirror process.what
+
+-- the place of the mirrored disc of this name
+abbrev pub mirror_at : Site → List ℕ → Option ℕ
+mirror_at site name = option_and_then
+    (λ place. if is_mirror_there (slice_get site.processes place) then Some place else None) (process_at site name)
 
 -- what an event line asks for, where what it names is there
 abbrev pub line_of : Site → EventSaying → Option Line
@@ -90,6 +105,12 @@ line_of site (asked.Lose packet) = Some (line.One (event.Lose packet.y packet.k)
 line_of site (asked.Repeat packet) = Some (line.One (event.Repeat packet.y packet.k))
 line_of site (asked.Tick node) = Some (line.One (event.Tick node))
 line_of site (asked.Fail processor) = Some (line.One (event.Fail processor))
+line_of site (asked.Drive name drive change) = option_map
+    (λ place. line.One (event.Drive (record { process = place; drive = drive; change = change })))
+    (mirror_at site name)
+line_of site (asked.CopyTimes name drive times) = option_map
+    (λ place. line.Many (event.Drive (record { process = place; drive = drive; change = Copy })) times)
+    (mirror_at site name)
 line_of site (asked.Drain rounds) = Some (line.Drain rounds)
 line_of site (asked.Mix start rounds) = Some (line.Mix start rounds)
 line_of site (asked.Mute processor rounds) = Some (line.Mute processor rounds)

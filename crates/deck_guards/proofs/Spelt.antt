@@ -1,6 +1,6 @@
 -- Bytes that spell no deck, and bytes that spell one.
-use Rattle.std.proofs.Common.{◌≡◌, ℕ, ◌≤◌, Bool, true, List, [], ◌∷◌, length, nat_le, Some, is_some, refl, sym, ap, ◌∙◌}
-use Rattle.std.proofs.Common.{true≢false, arith, leb-true, ⊎_elim, codes, pos, negsuc, inl, inr}
+use Rattle.std.proofs.Common.{◌≡◌, ℕ, ◌≤◌, Bool, true, false, List, [], ◌∷◌, length, nat_le, Some, is_some, refl, sym, ap}
+use Rattle.std.proofs.Common.{◌∙◌, true≢false, arith, leb-true, ⊎_elim, codes, pos, negsuc, inl, inr}
 use Rattle.std.specs.List.{All, AllZip}
 use Rattle.std.proofs.lemmas.List.Elements.{All-cons, All-nil}
 use Rattle.schedule.specs.declared.event.Event.TheVariants as event
@@ -34,6 +34,17 @@ none_spelt bytes amiss deck spells =
     let decks = taken bytes deck spells in
     true≢false (sym (amiss deck.site.processes)
     ∙ ap (λ (one : Told). is_amiss one deck.site.processes) decks.outlined.1 ∙ ap is_some decks.outlined.2.named)
+
+-- the same, whether a process is read or none
+pub none_spelt_by : (bytes : List ℕ) → is_amiss (outline_of (lines_of bytes)) [] ≡ true
+    → ((process : ProcessSpec) (processes : List ProcessSpec)
+    → is_amiss (outline_of (lines_of bytes)) (process ∷ processes) ≡ true)
+    → (deck : Deck) → Spells bytes deck → ⊥
+none_spelt_by bytes none some = none_spelt bytes by
+  where
+    by : (processes : List ProcessSpec) → is_amiss (outline_of (lines_of bytes)) processes ≡ true
+    by [] = none
+    by (process ∷ processes) = some process processes
 
 pub bare_within : (processors : ℕ) (lines : List Line) → 2 ≤ processors → processors ≤ 16
     → All (IsLineOf processors 0 0) lines → singles_of lines ≤ 1000000 → rounds_of lines ≤ 100000
@@ -115,7 +126,7 @@ pub asking_spelt : LinesSpell asking_lines asking
 asking_spelt = record {
   short = leb-true _ _ refl;
   blocks = Terminal (codes "$T") (codes "$D") ((pos 5 ∷ negsuc 6 ∷ []) ∷ [] ∷ [])
-      ∷ Disc (record { name = codes "$D"; primary = 1; backup = 0 }) 64 ∷ [];
+      ∷ Disc (record { name = codes "$D"; primary = 1; backup = 0 }) 64 false ∷ [];
   events = asked.RunTimes (codes "$D") 3 ∷ asked.Enter (codes "$T") ∷ asked.Lose (record { y = true; k = 7 })
       ∷ asked.Tick 16 ∷ [];
   text =

@@ -1,5 +1,8 @@
 -- What the grammar of decks spells of some lines, and decks that the guards name.
-use Rattle.std.specs.Prelude.{ℕ, ◌+◌, zero, suc, pos, negsuc, true, List, [], ◌∷◌, ◌++◌, codes}
+use Rattle.std.specs.Prelude.{ℕ, ◌+◌, zero, suc, pos, negsuc, true, false, List, [], ◌∷◌, ◌++◌, codes}
+use Rattle.schedule.specs.declared.event.DriveChange.{DriveChange}
+use Rattle.schedule.specs.declared.event.DriveChange.TheVariants.{Break, Copy, Revive}
+use Rattle.schedule.specs.declared.event.Event.{Event}
 use Rattle.schedule.specs.declared.event.Event.TheVariants as event
 use Rattle.schedule.specs.declared.line.Line.{Line}
 use Rattle.schedule.specs.declared.line.Line.TheVariants as line
@@ -29,6 +32,36 @@ with_blocks blocks = codes "processors 3" ∷ blocks ++ codes "schedule" ∷ cod
 abbrev pub with_events : List (List ℕ) → List (List ℕ)
 with_events events = codes "processors 3" ∷ codes "schedule" ∷ events ++ codes "END" ∷ []
 
+-- event lines of a disc, and of a mirrored one
+abbrev pub with_a_disc : List (List ℕ) → List (List ℕ)
+with_a_disc events =
+    codes "processors 3" ∷ codes "disc $D 0 1 8" ∷ codes "schedule" ∷ events ++ codes "END" ∷ []
+
+abbrev pub with_a_mirror : List (List ℕ) → List (List ℕ)
+with_a_mirror events =
+    codes "processors 3" ∷ codes "mirror $M 0 1 8" ∷ codes "schedule" ∷ events ++ codes "END" ∷ []
+
+-- a drive that breaks, and is revived and filled
+abbrev pub mirror_lines : List (List ℕ)
+mirror_lines = with_a_mirror (codes "break $M 1" ∷ codes "revive $m 1" ∷ codes "copy $M 1" ∷ codes "copy $M 1 7" ∷ [])
+
+abbrev pub second_drive : DriveChange → Event
+second_drive change = event.Drive (record { process = 0; drive = 1; change = change })
+
+abbrev pub mirrored_disc : ProcessSpec
+mirrored_disc = record { name = codes "$M"; primary = 0; backup = 1; what = kind.Disc 8 true }
+
+abbrev pub drive_lines : List Line
+drive_lines =
+    line.One (second_drive Break) ∷ line.One (second_drive Revive) ∷ line.One (second_drive Copy)
+    ∷ line.Many (second_drive Copy) 7 ∷ []
+
+abbrev pub mirrored : Deck
+mirrored = record {
+  site = record { processors = 3; processes = mirrored_disc ∷ []; terminals = [] };
+  lines = drive_lines;
+}
+
 -- a disc under a name of one letter, and so many of them
 abbrev pub disc_line : ℕ → List ℕ
 disc_line number = codes "disc $" ++ (65 + number) ∷ codes " 0 1 8"
@@ -51,7 +84,7 @@ asking_lines =
     ∷ codes "# END" ∷ []
 
 abbrev pub asked_disc : ProcessSpec
-asked_disc = record { name = codes "$D"; primary = 1; backup = 0; what = kind.Disc 64 }
+asked_disc = record { name = codes "$D"; primary = 1; backup = 0; what = kind.Disc 64 false }
 
 abbrev pub asking_terminal : TerminalSpec
 asking_terminal = record { name = codes "$T"; target = 0; requests = (pos 5 ∷ negsuc 6 ∷ []) ∷ [] ∷ [] }

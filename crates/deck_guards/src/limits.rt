@@ -1,8 +1,8 @@
 ghost use Rattle.std.specs.Prelude.{[], ◌∷◌, codes};
 ghost use Rattle.schedule.specs.declared.event.Event.TheVariants as event;
 ghost use Rattle.schedule.specs.declared.line.Line.TheVariants as line;
-ghost use Rattle.deck_guards.specs.Texts.{LinesSpell, SpellNone, bare, disc_lines, terminal_lines, with_blocks};
-ghost use Rattle.deck_guards.specs.Texts.{with_events};
+ghost use Rattle.deck_guards.specs.Texts.{LinesSpell, SpellNone, bare, disc_lines, mirror_lines, mirrored};
+ghost use Rattle.deck_guards.specs.Texts.{terminal_lines, with_a_mirror, with_blocks, with_events};
 
 /// There are 2 to 16 processors.
 pub fn processors_are_two_to_sixteen()
@@ -18,6 +18,24 @@ pub fn a_disc_keeps_its_limits()
     ensures backup { SpellNone (with_blocks (codes "disc $D 0 3 8" ∷ [])) }
     ensures none { SpellNone (with_blocks (codes "disc $D 0 1 0" ∷ [])) }
     ensures more { SpellNone (with_blocks (codes "disc $D 0 1 65" ∷ [])) }
+{}
+
+/// A mirrored disc has the limits of a disc.
+pub fn a_mirror_keeps_the_limits_of_a_disc()
+    ensures same { SpellNone (with_blocks (codes "mirror $M 1 1 8" ∷ [])) }
+    ensures backup { SpellNone (with_blocks (codes "mirror $M 0 3 8" ∷ [])) }
+    ensures none { SpellNone (with_blocks (codes "mirror $M 0 1 0" ∷ [])) }
+    ensures more { SpellNone (with_blocks (codes "mirror $M 0 1 65" ∷ [])) }
+    ensures twice { SpellNone (with_blocks (codes "disc $M 0 1 8" ∷ codes "mirror $M 0 1 8" ∷ [])) }
+{}
+
+/// An event of a drive is of the drive 0 or 1, and sectors are copied once or more often.
+pub fn a_mirror_has_two_drives()
+    ensures both { LinesSpell mirror_lines mirrored }
+    ensures third { SpellNone (with_a_mirror (codes "break $M 2" ∷ [])) }
+    ensures never { SpellNone (with_a_mirror (codes "copy $M 0 0" ∷ [])) }
+    ensures no_drive { SpellNone (with_a_mirror (codes "revive $M" ∷ [])) }
+    ensures broken_often { SpellNone (with_a_mirror (codes "break $M 0 1" ∷ [])) }
 {}
 
 /// There are at most 16 processes and 16 terminals, and a request has at most 16 words.

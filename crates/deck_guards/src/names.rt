@@ -1,5 +1,5 @@
 ghost use Rattle.std.specs.Prelude.{[], ◌∷◌, codes};
-ghost use Rattle.deck_guards.specs.Texts.{SpellNone, with_blocks, with_events};
+ghost use Rattle.deck_guards.specs.Texts.{SpellNone, with_a_disc, with_blocks, with_events};
 
 /// No name is declared twice, as a process or as a terminal, in either case.
 pub fn a_name_is_declared_once()
@@ -16,4 +16,13 @@ pub fn what_is_named_is_there()
     ensures run { SpellNone (with_events (codes "run $D" ∷ [])) }
     ensures run_often { SpellNone (with_events (codes "run $D 2" ∷ [])) }
     ensures enter { SpellNone (with_events (codes "enter $T" ∷ [])) }
+    ensures drive { SpellNone (with_events (codes "break $M 0" ∷ [])) }
+{}
+
+/// Drives are those of a mirrored disc, and no other disc has them.
+pub fn drives_are_of_a_mirror()
+    ensures breaks { SpellNone (with_a_disc (codes "break $D 0" ∷ [])) }
+    ensures revives { SpellNone (with_a_disc (codes "revive $D 0" ∷ [])) }
+    ensures copies { SpellNone (with_a_disc (codes "copy $D 0" ∷ [])) }
+    ensures copies_often { SpellNone (with_a_disc (codes "copy $D 0 2" ∷ [])) }
 {}

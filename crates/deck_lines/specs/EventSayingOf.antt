@@ -1,8 +1,10 @@
 -- What an event line of a deck says, after its first word. The forms of these lines are our own.
-use Rattle.std.specs.Prelude.{ℕ, Bool, true, false, List, [], ◌∷◌, codes, Option, Some, None, option_map}
+use Rattle.std.specs.Prelude.{ℕ, nat_lt, Bool, true, false, List, [], ◌∷◌, codes, Option, Some, None, option_map}
 use Rattle.std.specs.Prelude.{option_and_then, if◌then◌else◌}
 use Rattle.std.specs.Str.{bytes_eq}
 use Rattle.gd_words.specs.Spelling.{name_of}
+use Rattle.schedule.specs.declared.event.DriveChange.{DriveChange}
+use Rattle.schedule.specs.declared.event.DriveChange.TheVariants.{Break, Revive, Copy}
 use Rattle.deck_lines.specs.Lines.{is_blank, one_word, two_words, three_words}
 use Rattle.deck_lines.specs.Numbers.{written_number}
 use Rattle.deck_lines.specs.declared.event_saying.EventKeyword.{EventKeyword}
@@ -54,6 +56,37 @@ tick_said parts = option_and_then (λ word. option_map said.Tick (written_number
 abbrev pub fail_said : List (List ℕ) → Option EventSaying
 fail_said parts = option_and_then (λ word. option_map said.Fail (written_number word)) (one_word parts)
 
+-- a drive is 0 or 1
+abbrev pub drive_of : List ℕ → Option ℕ
+drive_of word = option_and_then (λ drive. if nat_lt drive 2 then Some drive else None) (written_number word)
+
+-- `break NAME D`, `revive NAME D` and `copy NAME D`
+abbrev pub drive_named : DriveChange → List (List ℕ) → Option EventSaying
+drive_named change parts = option_and_then (λ words.
+    option_and_then (λ name. option_map (λ drive. said.Drive name drive change) (drive_of words.1))
+    (name_of words.0)) (two_words parts)
+
+-- `copy NAME D TIMES`
+abbrev pub copies_said : List (List ℕ) → Option EventSaying
+copies_said parts =
+    option_and_then (λ words. option_and_then
+    (λ name. option_and_then (λ drive. option_map (λ times. said.CopyTimes name drive times)
+    (written_number words.2)) (drive_of words.1)) (name_of words.0))
+    (three_words parts)
+
+abbrev pub or_copies : List (List ℕ) → Option EventSaying → Option EventSaying
+or_copies parts None = copies_said parts
+or_copies parts (Some saying) = Some saying
+
+-- `copy NAME D` and `copy NAME D TIMES`
+abbrev pub copy_said : List (List ℕ) → Option EventSaying
+copy_said parts = or_copies parts (drive_named Copy parts)
+
+abbrev pub drive_said : List (List ℕ) → DriveChange → Option EventSaying
+drive_said parts Break = drive_named Break parts
+drive_said parts Revive = drive_named Revive parts
+drive_said parts Copy = copy_said parts
+
 -- `drain R`
 abbrev pub drain_said : List (List ℕ) → Option EventSaying
 drain_said parts = option_and_then (λ word. option_map said.Drain (written_number word)) (one_word parts)
@@ -94,6 +127,7 @@ event_said parts key.Lose = lose_said parts
 event_said parts key.Repeat = repeat_said parts
 event_said parts key.Tick = tick_said parts
 event_said parts key.Fail = fail_said parts
+event_said parts (key.Drive change) = drive_said parts change
 event_said parts key.Drain = drain_said parts
 event_said parts key.Mix = mix_said parts
 event_said parts key.Mute = mute_said parts

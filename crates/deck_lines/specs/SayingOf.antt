@@ -1,9 +1,10 @@
 -- What a line of a deck outside a program says.
-use Rattle.std.specs.Prelude.{ℕ, Bool, false, ◌==◌, nat_le, List, [], ◌∷◌, length, codes, Option, Some, None}
+use Rattle.std.specs.Prelude.{ℕ, Bool, true, false, ◌==◌, nat_le, List, [], ◌∷◌, length, codes, Option, Some, None}
 use Rattle.std.specs.Prelude.{option_map, option_and_then, is_some, if◌then◌else◌, ℤ}
 use Rattle.std.specs.List.{list_all}
 use Rattle.std.specs.Str.{bytes_eq}
 use Rattle.gd_words.specs.Spelling.{name_of}
+use Rattle.schedule.specs.declared.event.DriveChange.TheVariants.{Break, Revive, Copy}
 use Rattle.deck_lines.specs.Lines.{words_of, is_blank, is_printable, one_word, two_words, three_words, four_words}
 use Rattle.deck_lines.specs.Numbers.{written_number, word_of}
 use Rattle.deck_lines.specs.EventSayingOf.{event_said}
@@ -25,6 +26,9 @@ event_keyword_of word =
     else if bytes_eq word (codes "repeat") then Some event.Repeat
     else if bytes_eq word (codes "tick") then Some event.Tick
     else if bytes_eq word (codes "fail") then Some event.Fail
+    else if bytes_eq word (codes "break") then Some (event.Drive Break)
+    else if bytes_eq word (codes "revive") then Some (event.Drive Revive)
+    else if bytes_eq word (codes "copy") then Some (event.Drive Copy)
     else if bytes_eq word (codes "drain") then Some event.Drain
     else if bytes_eq word (codes "mix") then Some event.Mix
     else if bytes_eq word (codes "mute") then Some event.Mute
@@ -35,7 +39,8 @@ event_keyword_of word =
 abbrev pub keyword_of : List ℕ → Option Keyword
 keyword_of word =
     if bytes_eq word (codes "processors") then Some key.Processors
-    else if bytes_eq word (codes "disc") then Some key.Disc
+    else if bytes_eq word (codes "disc") then Some (key.Disc false)
+    else if bytes_eq word (codes "mirror") then Some (key.Disc true)
     else if bytes_eq word (codes "pair") then Some key.Pair
     else if bytes_eq word (codes "terminal") then Some key.Terminal
     else if bytes_eq word (codes "send") then Some key.Send
@@ -55,11 +60,11 @@ placing_of name primary backup = placed (name_of name) (written_number primary) 
     placed (Some name) (Some primary) (Some backup) = Some (record { name = name; primary = primary; backup = backup })
     placed _ _ _ = None
 
--- `disc NAME P B SECTORS`
-abbrev pub disc_said : List (List ℕ) → Option Saying
-disc_said parts =
+-- `disc NAME P B SECTORS` and `mirror NAME P B SECTORS`
+abbrev pub disc_said : Bool → List (List ℕ) → Option Saying
+disc_said mirrored parts =
     option_and_then (λ words. option_and_then
-    (λ placing. option_map (λ sectors. said.Disc placing sectors) (written_number words.3))
+    (λ placing. option_map (λ sectors. said.Disc placing sectors mirrored) (written_number words.3))
     (placing_of words.0 words.1 words.2)) (four_words parts)
 
 -- `pair NAME P B`
@@ -112,7 +117,7 @@ end_said parts = if is_blank parts then Some said.End else None
 -- the parts of a line by its first word
 abbrev pub parts_say : List (List ℕ) → Keyword → Option Saying
 parts_say parts key.Processors = processors_said parts
-parts_say parts key.Disc = disc_said parts
+parts_say parts (key.Disc mirrored) = disc_said mirrored parts
 parts_say parts key.Pair = pair_said parts
 parts_say parts key.Terminal = terminal_said parts
 parts_say parts key.Send = send_said parts

@@ -2,11 +2,13 @@ ghost use Rattle.std.specs.Prelude.{◌≡◌};
 ghost use Rattle.deck_lines.specs.Lines.{words_of};
 ghost use Rattle.deck_lines.specs.EventSayingOf.{is_y_of, packet_of, is_writes_of, rounds_with, run_of, run_said};
 ghost use Rattle.deck_lines.specs.EventSayingOf.{enter_said, deliver_said, lose_said, repeat_said, tick_said};
+ghost use Rattle.deck_lines.specs.EventSayingOf.{copies_said, copy_said, drive_named, drive_of, drive_said};
 ghost use Rattle.deck_lines.specs.EventSayingOf.{fail_said, drain_said, mix_said, mute_said, until_said, event_said};
 
 use crate::lines::{is_blank, next_word, one_word, three_words, two_words};
 use crate::numbers::written_number;
 use gd_words::Name;
+use schedule::DriveChange;
 
 /// The word with which an event line begins.
 #[derive(Clone, Copy, PartialEq, Eq)]
@@ -18,6 +20,7 @@ pub enum EventKeyword {
     Repeat,
     Tick,
     Fail,
+    Drive(DriveChange),
     Drain,
     Mix,
     Mute,
@@ -50,6 +53,18 @@ pub enum EventSaying {
     Tick(u32),
     /// The stop of a processor.
     Fail(u32),
+    /// A change of a drive, 0 or 1, of a mirrored disc.
+    Drive {
+        name: Name,
+        drive: u8,
+        change: DriveChange,
+    },
+    /// So many sectors that are copied on a drive, 0 or 1, of a mirrored disc.
+    CopyTimes {
+        name: Name,
+        drive: u8,
+        times: u32,
+    },
     Drain(u32),
     Mix {
         start: u32,
@@ -78,6 +93,7 @@ pub fn event_said(key: EventKeyword, parts: &[u8]) -> Option<EventSaying>
         EventKeyword::Repeat => repeat(parts),
         EventKeyword::Tick => tick(parts),
         EventKeyword::Fail => fail(parts),
+        EventKeyword::Drive(change) => drive(change, parts),
         EventKeyword::Drain => drain(parts),
         EventKeyword::Mix => mix(parts),
         EventKeyword::Mute => mute(parts),
@@ -170,6 +186,56 @@ fn fail(parts: &[u8]) -> Option<EventSaying>
     let word = one_word(parts)?;
     let processor = written_number(word)?;
     Some(EventSaying::Fail(processor))
+}
+
+fn drive(change: DriveChange, parts: &[u8]) -> Option<EventSaying>
+    ensures { result ≡ drive_said (words_of parts.now) change }
+{
+    match change {
+        DriveChange::Break | DriveChange::Revive => drive_named(change, parts),
+        DriveChange::Copy => copy(parts),
+    }
+}
+
+/// One sector that is copied, or so many.
+fn copy(parts: &[u8]) -> Option<EventSaying>
+    ensures { result ≡ copy_said (words_of parts.now) }
+{
+    match drive_named(DriveChange::Copy, parts) {
+        None => copies(parts),
+        Some(saying) => Some(saying),
+    }
+}
+
+/// The number of a drive; none where the word is another number, or none.
+fn drive_of(word: &[u8]) -> Option<u8>
+    ensures { result ≡ drive_of word.now }
+{
+    let drive = written_number(word)?;
+    if drive < 2 { Some(drive as u8) } else { None }
+}
+
+fn drive_named(change: DriveChange, parts: &[u8]) -> Option<EventSaying>
+    ensures { result ≡ drive_named change (words_of parts.now) }
+{
+    let (name, drive) = two_words(parts)?;
+    let name = Name::read(name)?;
+    let drive = drive_of(drive)?;
+    Some(EventSaying::Drive {
+        name,
+        drive,
+        change,
+    })
+}
+
+fn copies(parts: &[u8]) -> Option<EventSaying>
+    ensures { result ≡ copies_said (words_of parts.now) }
+{
+    let (name, drive, times) = three_words(parts)?;
+    let name = Name::read(name)?;
+    let drive = drive_of(drive)?;
+    let times = written_number(times)?;
+    Some(EventSaying::CopyTimes { name, drive, times })
 }
 
 fn drain(parts: &[u8]) -> Option<EventSaying>

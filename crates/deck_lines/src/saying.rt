@@ -11,12 +11,14 @@ use crate::lines::{
 };
 use crate::numbers::{word_of, written_number};
 use gd_words::{Name, Words};
+use schedule::DriveChange;
 
 /// The word with which a line begins.
 #[derive(Clone, Copy, PartialEq, Eq)]
 pub enum Keyword {
     Processors,
-    Disc,
+    /// A disc, which may be mirrored.
+    Disc(bool),
     Pair,
     Terminal,
     Send,
@@ -41,10 +43,17 @@ pub enum Saying {
     /// An empty line or a remark.
     Nothing,
     Processors(u32),
-    /// A disc with so many sectors.
-    Disc(Placing, u32),
+    /// A disc with so many sectors, which may be mirrored.
+    Disc {
+        placing: Placing,
+        sectors: u32,
+        mirrored: bool,
+    },
     Pair(Placing),
-    Terminal { name: Name, target: Name },
+    Terminal {
+        name: Name,
+        target: Name,
+    },
     /// One request of the terminal before.
     Send(Words),
     /// A request of more than 16 words.
@@ -85,7 +94,7 @@ fn said_by(line: &[u8]) -> Option<Saying>
     }
     match keyword_of(word)? {
         Keyword::Processors => processors(parts),
-        Keyword::Disc => disc(parts),
+        Keyword::Disc(mirrored) => disc(mirrored, parts),
         Keyword::Pair => pair(parts),
         Keyword::Terminal => terminal(parts),
         Keyword::Send => send(parts),
@@ -111,7 +120,9 @@ fn keyword_of(word: &[u8]) -> Option<Keyword>
     if word == b"processors".as_slice() {
         Some(Keyword::Processors)
     } else if word == b"disc".as_slice() {
-        Some(Keyword::Disc)
+        Some(Keyword::Disc(false))
+    } else if word == b"mirror".as_slice() {
+        Some(Keyword::Disc(true))
     } else if word == b"pair".as_slice() {
         Some(Keyword::Pair)
     } else if word == b"terminal".as_slice() {
@@ -145,6 +156,12 @@ fn event_keyword_of(word: &[u8]) -> Option<EventKeyword>
         Some(EventKeyword::Tick)
     } else if word == b"fail".as_slice() {
         Some(EventKeyword::Fail)
+    } else if word == b"break".as_slice() {
+        Some(EventKeyword::Drive(DriveChange::Break))
+    } else if word == b"revive".as_slice() {
+        Some(EventKeyword::Drive(DriveChange::Revive))
+    } else if word == b"copy".as_slice() {
+        Some(EventKeyword::Drive(DriveChange::Copy))
     } else if word == b"drain".as_slice() {
         Some(EventKeyword::Drain)
     } else if word == b"mix".as_slice() {
@@ -179,13 +196,17 @@ fn placing_of(name: &[u8], primary: &[u8], backup: &[u8]) -> Option<Placing>
     })
 }
 
-fn disc(parts: &[u8]) -> Option<Saying>
-    ensures { result ≡ disc_said (words_of parts.now) }
+fn disc(mirrored: bool, parts: &[u8]) -> Option<Saying>
+    ensures { result ≡ disc_said mirrored (words_of parts.now) }
 {
     let (name, primary, backup, sectors) = four_words(parts)?;
     let placing = placing_of(name, primary, backup)?;
     let sectors = written_number(sectors)?;
-    Some(Saying::Disc(placing, sectors))
+    Some(Saying::Disc {
+        placing,
+        sectors,
+        mirrored,
+    })
 }
 
 fn pair(parts: &[u8]) -> Option<Saying>

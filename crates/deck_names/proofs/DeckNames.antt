@@ -194,7 +194,7 @@ record AreVariables (what : Kind) : Type 0 where
 
 variables-of : (bytes : List ℕ) (deck : Deck) (number : ℕ) (spec : ProcessSpec) → Decks bytes deck
     → slice_get deck.site.processes number ≡ Some spec → (what : Kind) → spec.what ≡ what → AreVariables what
-variables-of bytes deck number spec decks there (kind.Disc sectors) is = record {
+variables-of bytes deck number spec decks there (kind.Disc sectors mirrored) is = record {
   own = λ one other a b same. absurd (omega (arith, a));
   whole = λ file a. absurd (omega (arith, a));
 }

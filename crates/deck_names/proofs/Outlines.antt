@@ -83,7 +83,7 @@ names-more {T} entries one are none spelled = (
 
 -- what a line says
 abbrev SayingNames : Saying → Type 0
-SayingNames (said.Disc placing sectors) = is_name placing.name ≡ true
+SayingNames (said.Disc placing sectors mirrored) = is_name placing.name ≡ true
 SayingNames (said.Pair placing) = is_name placing.name ≡ true
 SayingNames (said.Terminal name target) = is_name name ≡ true
 SayingNames _ = Unit {0}
@@ -149,8 +149,9 @@ terminal-names parts (Some words) e = by (name_of words.0) (name_of words.1) ref
 parts-names : (parts : List (List ℕ)) (word : Keyword) → SaidNames (parts_say parts word)
 parts-names parts key.Processors =
     names-then _ (λ word. names-map said.Processors (λ count. tt) (written_number word)) (one_word parts)
-parts-names parts key.Disc =
-    names-then _ (λ words. with-placing said.Disc (λ placing sectors is. is) (written_number words.3)
+parts-names parts (key.Disc mirrored) =
+    names-then _ (λ words. with-placing (λ placing sectors. said.Disc placing sectors mirrored)
+    (λ placing sectors is. is) (written_number words.3)
     (placing_of words.0 words.1 words.2) (placing-names words.0 words.1 words.2))
     (four_words parts)
 parts-names parts key.Pair =
@@ -233,16 +234,18 @@ heading-names outline placing spelled =
     by false false false false true p = tt
     by false false false false false p = ((new_names outline placing.name p).0, spelled)
 
-disc-names : (outline : Outline) (number sectors : ℕ) (o : Result Heading LineFault) → HaveNames outline
-    → HeadingNew outline o → StepNames (disc_told outline number (with_sectors sectors o))
-disc-names outline number sectors (Err why) have new = tt
-disc-names outline number sectors (Ok heading) have new = by (nat_lt sectors 1) (nat_lt 64 sectors)
+disc-names : (outline : Outline) (number sectors : ℕ) (mirrored : Bool) (o : Result Heading LineFault)
+    → HaveNames outline → HeadingNew outline o
+    → StepNames (disc_told outline number (with_sectors sectors mirrored o))
+disc-names outline number sectors mirrored (Err why) have new = tt
+disc-names outline number sectors mirrored (Ok heading) have new = by (nat_lt sectors 1) (nat_lt 64 sectors)
   where
     by : (a b : Bool) → StepNames (disc_told outline number
-        (cond a (Err (fault.Limit 5)) (cond b (Err (fault.Limit 5)) (Ok (process_with heading (body.Disc sectors))))))
+        (cond a (Err (fault.Limit 5)) (cond b (Err (fault.Limit 5))
+        (Ok (process_with heading (body.Disc sectors mirrored))))))
     by true b = tt
     by false true = tt
-    by false false = process-more outline heading (body.Disc sectors) have new
+    by false false = process-more outline heading (body.Disc sectors mirrored) have new
 
 terminal-begins : (outline : Outline) (number : ℕ) (name target : List ℕ) → is_name name ≡ true → HaveNames outline
     → StepNames (terminal_told outline number name (terminal_of outline number name target))
@@ -260,8 +263,9 @@ terminal-begins outline number name target spelled have =
 blocks-names : (outline : Outline) (number : ℕ) (saying : Saying) → SayingNames saying → HaveNames outline
     → StepNames (in_blocks outline number saying)
 blocks-names outline number said.Nothing spelled have = have
-blocks-names outline number (said.Disc placing sectors) spelled have =
-    disc-names outline number sectors (heading_of outline placing) have (heading-names outline placing spelled)
+blocks-names outline number (said.Disc placing sectors mirrored) spelled have =
+    disc-names outline number sectors mirrored (heading_of outline placing) have
+    (heading-names outline placing spelled)
 blocks-names outline number (said.Pair placing) spelled have = (have, heading-names outline placing spelled)
 blocks-names outline number (said.Terminal name target) spelled have =
     terminal-begins outline number name target spelled have
@@ -287,8 +291,8 @@ requests-names outline name terminal number said.LongSend spelled have new =
         (step.Broken (broken outline number (fault.Limit 4))))
     by true = tt
     by false = tt
-requests-names outline name terminal number (said.Disc placing sectors) spelled have new =
-    blocks-names (with_terminal outline name terminal) number (said.Disc placing sectors) spelled
+requests-names outline name terminal number (said.Disc placing sectors mirrored) spelled have new =
+    blocks-names (with_terminal outline name terminal) number (said.Disc placing sectors mirrored) spelled
     (terminal-more outline name terminal have new)
 requests-names outline name terminal number (said.Pair placing) spelled have new =
     blocks-names (with_terminal outline name terminal) number (said.Pair placing) spelled

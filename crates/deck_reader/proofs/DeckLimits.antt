@@ -37,10 +37,11 @@ all_with R P Q gives [] (y ∷ ys) all each = absurd each
 all_with R P Q gives (x ∷ xs) [] all each = absurd each
 
 kind_within : (lines : Body) (what : Kind) → BodyKeeps lines → IsKindOf lines what → IsKindWithinLimits what
-kind_within (body.Disc told) (kind.Disc sectors) keeps is = (omega (arith, keeps.0, is), omega (arith, keeps.1, is))
+kind_within (body.Disc told both) (kind.Disc sectors mirrored) keeps is =
+    (omega (arith, keeps.0, is.0), omega (arith, keeps.1, is.0))
 kind_within (body.Pair lines) (kind.Pair program) keeps reads = read_is_within lines.text program reads
-kind_within (body.Disc told) (kind.Pair program) keeps is = absurd is
-kind_within (body.Pair lines) (kind.Disc sectors) keeps is = absurd is
+kind_within (body.Disc told both) (kind.Pair program) keeps is = absurd is
+kind_within (body.Pair lines) (kind.Disc sectors mirrored) keeps is = absurd is
 
 deck_of_within : (outline : Outline) (deck : Deck) → BlocksKeep outline → EventsFit outline → IsDeckOf outline deck
     → IsWithinDeckLimits deck

@@ -14,9 +14,9 @@ use Rattle.deck_reader.specs.declared.outline.ProcessLines.{ProcessLines}
 
 program_read : (lines : Body) (what : Kind) (program : Program) → IsKindOf lines what → what ≡ kind.Pair program
     → (text : List ℕ) × Reads text program
-program_read (body.Disc told) (kind.Disc sectors) program is same = absurd (cc)
-program_read (body.Disc told) (kind.Pair one) program is same = absurd is
-program_read (body.Pair lines) (kind.Disc sectors) program is same = absurd is
+program_read (body.Disc told both) (kind.Disc sectors mirrored) program is same = absurd (cc)
+program_read (body.Disc told both) (kind.Pair one) program is same = absurd is
+program_read (body.Pair lines) (kind.Disc sectors mirrored) program is same = absurd is
 program_read (body.Pair lines) (kind.Pair one) program reads same =
     let equal : one ≡ program = cc in (lines.text, subst (Reads lines.text) equal reads)
 

@@ -46,19 +46,21 @@ abbrev IsNewProcess : Outline → Result (Named ProcessLines) LineFault → Type
 IsNewProcess outline (Err why) = Unit {0}
 IsNewProcess outline (Ok process) = has_name outline.processes process.0 ≡ false
 
-sectors_new : (outline : Outline) (sectors : ℕ) (heading : Result Heading LineFault) → IsNewHeading outline heading
-    → IsNewProcess outline (with_sectors sectors heading)
-sectors_new outline sectors (Err why) new = tt
-sectors_new outline sectors (Ok heading) new = by (nat_lt sectors 1) (nat_lt 64 sectors)
+sectors_new : (outline : Outline) (sectors : ℕ) (mirrored : Bool) (heading : Result Heading LineFault)
+    → IsNewHeading outline heading
+    → IsNewProcess outline (with_sectors sectors mirrored heading)
+sectors_new outline sectors mirrored (Err why) new = tt
+sectors_new outline sectors mirrored (Ok heading) new = by (nat_lt sectors 1) (nat_lt 64 sectors)
   where
     by : (a b : Bool) → IsNewProcess outline
-        (cond a (Err (fault.Limit 5)) (cond b (Err (fault.Limit 5)) (Ok (process_with heading (body.Disc sectors)))))
+        (cond a (Err (fault.Limit 5)) (cond b (Err (fault.Limit 5))
+        (Ok (process_with heading (body.Disc sectors mirrored)))))
     by true b = tt
     by false true = tt
     by false false = new
 
-pub disc_new : (outline : Outline) (placing : Placing) (sectors : ℕ) (process : Named ProcessLines)
-    → disc_of outline placing sectors ≡ Ok process → has_name outline.processes process.0 ≡ false
-disc_new outline placing sectors process e =
-    subst (IsNewProcess outline) e (sectors_new outline sectors (heading_of outline placing)
+pub disc_new : (outline : Outline) (placing : Placing) (sectors : ℕ) (mirrored : Bool) (process : Named ProcessLines)
+    → disc_of outline placing sectors mirrored ≡ Ok process → has_name outline.processes process.0 ≡ false
+disc_new outline placing sectors mirrored process e =
+    subst (IsNewProcess outline) e (sectors_new outline sectors mirrored (heading_of outline placing)
     (heading_new outline placing))

@@ -74,7 +74,7 @@ one_deck bytes a b h k =
     k.outlined.2)
 
 one_program_fault : (lines : Body) (f g : DeckFault) → IsRefusedAs lines f → IsRefusedAs lines g → f ≡ g
-one_program_fault (body.Disc sectors) f g h k = absurd h
+one_program_fault (body.Disc sectors mirrored) f g h k = absurd h
 one_program_fault (body.Pair lines) (fault.Program n a) (fault.Program m b) h k =
     ap₂ fault.Program (h.0 ∙ sym k.0) (one-fault lines.text a b h.1 k.1)
 one_program_fault (body.Pair lines) (fault.Program n a) _ h k = absurd k

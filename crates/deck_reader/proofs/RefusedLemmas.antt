@@ -35,17 +35,18 @@ use Rattle.deck_reader.proofs.EachLemmas.{IsDoneTo}
 -- a program that was read has few procedures
 pub few_procedures : (lines : Body) (program : Program) → IsKindOf lines (kind.Pair program)
     → length program.procedures ≤ 64
-few_procedures (body.Disc sectors) program h = absurd h
+few_procedures (body.Disc sectors mirrored) program h = absurd h
 few_procedures (body.Pair lines) program h = (read_is_within lines.text program h).procedures.1
 
 -- what lines say of a process is one thing
 one_kind : (lines : Body) (a b : Kind) → IsKindOf lines a → IsKindOf lines b → a ≡ b
-one_kind (body.Disc told) (kind.Disc x) (kind.Disc y) h k = ap kind.Disc (h ∙ sym k)
+one_kind (body.Disc told both) (kind.Disc x one) (kind.Disc y other) h k =
+    ap₂ kind.Disc (h.0 ∙ sym k.0) (h.1 ∙ sym k.1)
 one_kind (body.Pair lines) (kind.Pair p) (kind.Pair q) h k = ap kind.Pair (one-program lines.text p q h k)
-one_kind (body.Disc told) (kind.Pair p) b h k = absurd h
-one_kind (body.Disc told) (kind.Disc x) (kind.Pair q) h k = absurd k
-one_kind (body.Pair lines) (kind.Disc x) b h k = absurd h
-one_kind (body.Pair lines) (kind.Pair p) (kind.Disc y) h k = absurd k
+one_kind (body.Disc told both) (kind.Pair p) b h k = absurd h
+one_kind (body.Disc told both) (kind.Disc x one) (kind.Pair q) h k = absurd k
+one_kind (body.Pair lines) (kind.Disc x one) b h k = absurd h
+one_kind (body.Pair lines) (kind.Pair p) (kind.Disc y other) h k = absurd k
 
 abbrev process_with : List ℕ → ℕ → ℕ → Kind → ProcessSpec
 process_with name primary backup what = record { name = name; primary = primary; backup = backup; what = what }
@@ -69,8 +70,8 @@ same_processes (one ∷ rest) (x ∷ xs) [] h k = absurd k
 
 -- a program that reads isn't refused
 pub not_both : (lines : Body) (what : Kind) (f : DeckFault) → IsKindOf lines what → IsRefusedAs lines f → ⊥
-not_both (body.Disc told) what f h refused = refused
-not_both (body.Pair lines) (kind.Disc x) f h refused = h
+not_both (body.Disc told both) what f h refused = refused
+not_both (body.Pair lines) (kind.Disc x one) f h refused = h
 not_both (body.Pair lines) (kind.Pair p) (fault.Program number why) h refused =
     refused-as-none lines.text why p refused.1 h
 not_both (body.Pair lines) (kind.Pair p) _ h refused = absurd refused
@@ -125,7 +126,7 @@ no_memory_told P f number h same = cc
 
 -- what lines say is no fault of length
 body_is_short : (lines : Body) → IsRefusedAs lines fault.TooLong → ⊥
-body_is_short (body.Disc sectors) h = h
+body_is_short (body.Disc sectors mirrored) h = h
 body_is_short (body.Pair program) h = h
 
 first_is_short : (lines : List (Named ProcessLines)) → IsFirstProgramFault lines fault.TooLong → ⊥

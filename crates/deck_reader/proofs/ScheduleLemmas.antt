@@ -1,14 +1,15 @@
 -- What the event lines of a deck ask for together, with one more.
 use Rattle.std.proofs.Common.{◌≡◌, ℕ, ◌+◌, ◌<◌, ◌≤◌, Bool, true, false, cond, nat_eq, nat_lt, ◌||◌, inl, inr, List, []}
 use Rattle.std.proofs.Common.{◌∷◌, ◌++◌, length, Option, Some, None, option_map, Result, Ok, Err, refl, subst, arith}
-use Rattle.std.specs.Prelude.{position}
+use Rattle.std.specs.Prelude.{option_and_then, position}
 use Rattle.std.proofs.lemmas.Bool.{ltb-true}
 use Rattle.std.proofs.lemmas.Bool.Decides.{nat_tests}
-use Rattle.name_table.specs.Entries.{place_of}
+use Rattle.name_table.specs.Entries.{Named, place_of}
+use Rattle.schedule.specs.declared.event.DriveChange.TheVariants.{Copy}
 use Rattle.schedule.specs.declared.event.Event.TheVariants as event
 use Rattle.schedule.specs.declared.line.Line.{Line}
 use Rattle.schedule.specs.declared.line.Line.TheVariants as told
-use Rattle.deck_reader.specs.EventLineOf.{event_line}
+use Rattle.deck_reader.specs.EventLineOf.{event_line, is_mirror_there, lines_at, mirror_of}
 use Rattle.deck_reader.specs.LineFaults.{asks, more_singles, more_rounds}
 use Rattle.deck_reader.specs.Schedules.{IsLineOf, IsNodeOf, singles_in, rounds_in, singles_of, rounds_of}
 use Rattle.deck_lines.specs.declared.event_saying.EventSaying.{EventSaying}
@@ -16,6 +17,7 @@ use Rattle.deck_lines.specs.declared.event_saying.EventSaying.TheVariants as ask
 use Rattle.deck_reader.specs.declared.line_fault.LineFault.{LineFault}
 use Rattle.deck_reader.specs.declared.line_fault.LineFault.TheVariants as fault
 use Rattle.deck_reader.specs.declared.outline.Outline.{Outline}
+use Rattle.deck_reader.specs.declared.outline.ProcessLines.{ProcessLines}
 use Rattle.deck_reader.specs.declared.outline.Sums.{Sums}
 
 pub singles_with : (lines : List Line) (more : Line)
@@ -37,6 +39,8 @@ singles_asked (asked.Lose place) = 1
 singles_asked (asked.Repeat place) = 1
 singles_asked (asked.Tick node) = 1
 singles_asked (asked.Fail processor) = 1
+singles_asked (asked.Drive name drive change) = 1
+singles_asked (asked.CopyTimes name drive times) = times
 singles_asked _ = 0
 
 abbrev pub rounds_asked : EventSaying → ℕ
@@ -111,6 +115,9 @@ asks_more processors sums (asked.Tick node) few =
     (singles_more sums 1 few)
 asks_more processors sums (asked.Fail processor) few =
     where_true sums 1 0 fault.NoProcessor (nat_lt processor processors) (more_singles sums 1) (singles_more sums 1 few)
+asks_more processors sums (asked.Drive name drive change) few = singles_more sums 1 few
+asks_more processors sums (asked.CopyTimes name drive times) few =
+    where_false sums times 0 fault.Form (nat_lt times 1) (more_singles sums times) (singles_more sums times few)
 asks_more processors sums (asked.Drain rounds) few = rounds_more sums rounds few
 asks_more processors sums (asked.Mix start rounds) few = rounds_more sums rounds few
 asks_more processors sums (asked.Mute processor rounds) few =
@@ -159,6 +166,22 @@ pub record IsLineAsked (outline : Outline) (m n : ℕ) (line : Line) : Type 0 wh
   pub singles : singles_in line ≡ m
   pub rounds : rounds_in line ≡ n
 
+-- a mirrored disc that is found is a process that is there
+of_mirror : (P : Line → Type 0) (f : ℕ → Line) (processes : List (Named ProcessLines)) (name : List ℕ) (line : Line)
+    → ((k : ℕ) → k < length processes → P (f k)) → option_map f (mirror_of processes name) ≡ Some line → P line
+of_mirror P f processes name line h e = by (place_of processes name) refl e
+  where
+    test : (k : ℕ) → k < length processes → (b : Bool) → option_map f (cond b (Some k) None) ≡ Some line → P line
+    test k there true e = same_line P (f k) line (h k there) e
+    test k there false e = absurd (cc)
+
+    by : (o : Option ℕ) → place_of processes name ≡ o
+        → option_map f (option_and_then (λ place. cond (is_mirror_there (lines_at processes place)) (Some place)
+        None) o)
+        ≡ Some line → P line
+    by None is e = absurd (cc)
+    by (Some k) is e = test k (place_there _ processes k is) (is_mirror_there (lines_at processes k)) e
+
 -- a line that is said is one of the site, and asks for what is said
 pub line_asked : (outline : Outline) (saying : EventSaying) (line : Line) → event_line outline saying ≡ Some line
     → IsLineAsked outline (singles_asked saying) (rounds_asked saying) line
@@ -174,6 +197,17 @@ line_asked outline saying line e = by saying e
     times n name false few same =
         of_place (P n 0) (λ place. told.Many (event.Run place) n) _ outline.processes line
         (λ k there. record { of_site = (there, grind (arith, nat_tests)); singles = refl; rounds = refl }) same
+
+    copies : (n : ℕ) (name : List ℕ) (drive : ℕ) (b : Bool) → nat_lt n 1 ≡ b
+        → cond b None (option_map (λ place. told.Many
+        (event.Drive (record { process = place; drive = drive; change = Copy })) n) (mirror_of outline.processes name))
+        ≡ Some line → P n 0 line
+    copies n name drive true few same = absurd (cc)
+    copies n name drive false few same =
+        of_mirror (P n 0)
+        (λ place. told.Many (event.Drive (record { process = place; drive = drive; change = Copy })) n)
+        outline.processes name line
+        (λ k there. record { of_site = ((there, refl), grind (arith, nat_tests)); singles = refl; rounds = refl }) same
 
     by : (saying : EventSaying) → event_line outline saying ≡ Some line
         → P (singles_asked saying) (rounds_asked saying) line
@@ -191,6 +225,11 @@ line_asked outline saying line e = by saying e
         (λ e. record { of_site = tick_of outline.processors node e; singles = refl; rounds = refl }) same
     by (asked.Fail processor) same = of_test (P 1 0) _ (told.One (event.Fail processor)) line
         (λ e. record { of_site = ltb-true _ _ e; singles = refl; rounds = refl }) same
+    by (asked.Drive name drive change) same =
+        of_mirror (P 1 0)
+        (λ place. told.One (event.Drive (record { process = place; drive = drive; change = change })))
+        outline.processes name line (λ k there. record { of_site = there; singles = refl; rounds = refl }) same
+    by (asked.CopyTimes name drive n) same = copies n name drive (nat_lt n 1) refl same
     by (asked.Drain rounds) same =
         same_line (P 0 rounds) _ line (record { of_site = tt; singles = refl; rounds = refl }) same
     by (asked.Mix start rounds) same =

@@ -109,9 +109,9 @@ terminal_short parts (Some words) e = by (name_of words.0) (name_of words.1) ref
 parts_short : (parts : List (List ℕ)) (word : Keyword) → SaidShort (parts_say parts word)
 parts_short parts key.Processors =
     short_then _ (λ word. short_map said.Processors (λ count. tt) (written_number word)) (one_word parts)
-parts_short parts key.Disc =
+parts_short parts (key.Disc mirrored) =
     short_then _ (λ words. short_then _ (λ placing.
-    short_map (λ sectors. said.Disc placing sectors) (λ sectors. tt) (written_number words.3))
+    short_map (λ sectors. said.Disc placing sectors mirrored) (λ sectors. tt) (written_number words.3))
     (placing_of words.0 words.1 words.2))
     (four_words parts)
 parts_short parts key.Pair =
@@ -177,8 +177,8 @@ terminal_begins outline number name target short = by (not (is_new outline name)
 blocks_short : (outline : Outline) (number : ℕ) (saying : Saying) → HaveShort outline
     → StepShort (in_blocks outline number saying)
 blocks_short outline number said.Nothing short = short
-blocks_short outline number (said.Disc placing sectors) short =
-    disc_short outline number (disc_of outline placing sectors) short
+blocks_short outline number (said.Disc placing sectors mirrored) short =
+    disc_short outline number (disc_of outline placing sectors mirrored) short
 blocks_short outline number (said.Pair placing) short = short
 blocks_short outline number (said.Terminal name target) short = terminal_begins outline number name target short
 blocks_short outline number said.Schedule short = short
@@ -202,8 +202,8 @@ requests_short outline name terminal number said.LongSend one short own = by (na
         (step.Broken (broken outline number (fault.Limit 4))))
     by true = tt
     by false = tt
-requests_short outline name terminal number (said.Disc placing sectors) one short own =
-    blocks_short (with_terminal outline name terminal) number (said.Disc placing sectors)
+requests_short outline name terminal number (said.Disc placing sectors mirrored) one short own =
+    blocks_short (with_terminal outline name terminal) number (said.Disc placing sectors mirrored)
     (all_more HasShort outline.terminals (name, terminal) short own)
 requests_short outline name terminal number (said.Pair placing) one short own =
     blocks_short (with_terminal outline name terminal) number (said.Pair placing)

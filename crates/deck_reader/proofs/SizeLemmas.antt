@@ -54,20 +54,21 @@ size-more : (processes : List (Named ProcessLines)) (one : Named ProcessLines)
 size-more [] one = omega arith
 size-more (lines ∷ rest) one = omega (arith, size-more rest one)
 
-disc_within : (outline : Outline) (number : ℕ) (placing : Placing) (sectors : ℕ)
-    → IsWithin (text_size outline.processes) (disc_told outline number (disc_of outline placing sectors))
-disc_within outline number placing sectors = by (heading_of outline placing)
+disc_within : (outline : Outline) (number : ℕ) (placing : Placing) (sectors : ℕ) (mirrored : Bool)
+    → IsWithin (text_size outline.processes) (disc_told outline number (disc_of outline placing sectors mirrored))
+disc_within outline number placing sectors mirrored = by (heading_of outline placing)
   where
     sized : (heading : Heading) (a b : Bool)
         → IsWithin (text_size outline.processes)
         (disc_told outline number (cond a (Err (fault.Limit 5))
-        (cond b (Err (fault.Limit 5)) (Ok (process_with heading (body.Disc sectors))))))
+        (cond b (Err (fault.Limit 5)) (Ok (process_with heading (body.Disc sectors mirrored))))))
     sized heading true b = omega arith
     sized heading false true = omega arith
-    sized heading false false = omega (arith, size-more outline.processes (process_with heading (body.Disc sectors)))
+    sized heading false false =
+        omega (arith, size-more outline.processes (process_with heading (body.Disc sectors mirrored)))
 
     by : (o : Result Heading LineFault) → IsWithin (text_size outline.processes)
-        (disc_told outline number (with_sectors sectors o))
+        (disc_told outline number (with_sectors sectors mirrored o))
     by (Err why) = omega arith
     by (Ok heading) = sized heading (nat_lt sectors 1) (nat_lt 64 sectors)
 
@@ -79,7 +80,7 @@ terminal_within outline number name (Ok terminal) = omega arith
 blocks_within : (outline : Outline) (number : ℕ) (saying : Saying)
     → IsWithin (text_size outline.processes) (in_blocks outline number saying)
 blocks_within outline number said.Nothing = omega arith
-blocks_within outline number (said.Disc placing sectors) = disc_within outline number placing sectors
+blocks_within outline number (said.Disc placing sectors mirrored) = disc_within outline number placing sectors mirrored
 blocks_within outline number (said.Pair placing) = omega arith
 blocks_within outline number (said.Terminal name target) =
     terminal_within outline number name (terminal_of outline number name target)
@@ -120,8 +121,8 @@ requests_within outline name terminal number said.LongSend = by (nat_le 1000 (le
         })))
     by true = omega arith
     by false = omega arith
-requests_within outline name terminal number (said.Disc placing sectors) =
-    blocks_within (with_terminal outline name terminal) number (said.Disc placing sectors)
+requests_within outline name terminal number (said.Disc placing sectors mirrored) =
+    blocks_within (with_terminal outline name terminal) number (said.Disc placing sectors mirrored)
 requests_within outline name terminal number (said.Pair placing) =
     blocks_within (with_terminal outline name terminal) number (said.Pair placing)
 requests_within outline name terminal number (said.Terminal other target) =

@@ -51,7 +51,7 @@ pub record HeadingKeeps (processors : ℕ) (heading : Heading) : Type 0 where
   pub apart : heading.primary ≢ heading.backup
 
 abbrev pub BodyKeeps : Body → Type 0
-BodyKeeps (body.Disc sectors) = (1 ≤ sectors) × (sectors ≤ 64)
+BodyKeeps (body.Disc sectors mirrored) = (1 ≤ sectors) × (sectors ≤ 64)
 BodyKeeps (body.Pair lines) = Unit {0}
 
 pub record LinesKeep (processors : ℕ) (lines : Named ProcessLines) : Type 0 where
@@ -182,25 +182,26 @@ heading_kept outline placing =
       },
     )
 
-disc_kept : (outline : Outline) (number : ℕ) (placing : Placing) (sectors : ℕ) → BlocksKeep outline
-    → outline.events ≡ no_events → Keeps (disc_told outline number (disc_of outline placing sectors))
-disc_kept outline number placing sectors keeps none = by (heading_of outline placing) (heading_kept outline placing)
+disc_kept : (outline : Outline) (number : ℕ) (placing : Placing) (sectors : ℕ) (mirrored : Bool) → BlocksKeep outline
+    → outline.events ≡ no_events → Keeps (disc_told outline number (disc_of outline placing sectors mirrored))
+disc_kept outline number placing sectors mirrored keeps none =
+    by (heading_of outline placing) (heading_kept outline placing)
   where
     sized : (heading : Heading) → PairKeeps outline (Ok heading) → (a b : Bool) → nat_lt sectors 1 ≡ a
         → nat_lt 64 sectors ≡ b
         → Keeps (disc_told outline number (cond a (Err (fault.Limit 5))
-        (cond b (Err (fault.Limit 5)) (Ok (process_with heading (body.Disc sectors))))))
+        (cond b (Err (fault.Limit 5)) (Ok (process_with heading (body.Disc sectors mirrored))))))
     sized heading pair true b p q = tt
     sized heading pair false true p q = tt
     sized heading pair false false p q = (
-      process_kept outline (process_with heading (body.Disc sectors)) keeps pair.0
-          (process_keeps outline.processors heading (body.Disc sectors) pair.1
+      process_kept outline (process_with heading (body.Disc sectors mirrored)) keeps pair.0
+          (process_keeps outline.processors heading (body.Disc sectors mirrored) pair.1
           (grind (arith, nat_tests), grind (arith, nat_tests))),
       none,
     )
 
     by : (o : Result Heading LineFault) → PairKeeps outline o
-        → Keeps (disc_told outline number (with_sectors sectors o))
+        → Keeps (disc_told outline number (with_sectors sectors mirrored o))
     by (Err why) pair = tt
     by (Ok heading) pair = sized heading pair (nat_lt sectors 1) (nat_lt 64 sectors) refl refl
 
@@ -225,7 +226,8 @@ terminal_begun outline number name target keeps none =
 blocks_kept : (outline : Outline) (number : ℕ) (saying : Saying) → BlocksKeep outline → outline.events ≡ no_events
     → Keeps (in_blocks outline number saying)
 blocks_kept outline number said.Nothing keeps none = (keeps, none)
-blocks_kept outline number (said.Disc placing sectors) keeps none = disc_kept outline number placing sectors keeps none
+blocks_kept outline number (said.Disc placing sectors mirrored) keeps none =
+    disc_kept outline number placing sectors mirrored keeps none
 blocks_kept outline number (said.Pair placing) keeps none =
     (keeps, none, heading_kept outline placing, heading_new outline placing)
 blocks_kept outline number (said.Terminal name target) keeps none = terminal_begun outline number name target keeps none
@@ -274,8 +276,8 @@ request_kept outline name terminal number said.LongSend keeps = by (nat_le 1000 
         (step.Broken (record { processes = outline.processes; own = None; line = number; why = fault.Limit 4 })))
     by true = tt
     by false = tt
-request_kept outline name terminal number (said.Disc placing sectors) keeps =
-    blocks_kept (with_terminal outline name terminal) number (said.Disc placing sectors)
+request_kept outline name terminal number (said.Disc placing sectors mirrored) keeps =
+    blocks_kept (with_terminal outline name terminal) number (said.Disc placing sectors mirrored)
     (terminal_kept outline name terminal keeps.0 keeps.2) keeps.1
 request_kept outline name terminal number (said.Pair placing) keeps =
     blocks_kept (with_terminal outline name terminal) number (said.Pair placing)

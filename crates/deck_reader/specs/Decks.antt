@@ -26,7 +26,7 @@ EachWith R (x ∷ xs) [] = ⊥
 
 -- what a process is: a disc with its sectors, or a pair that runs the program that its text reads as
 abbrev pub IsKindOf : Body → Kind → Type 0
-IsKindOf (body.Disc told) (kind.Disc sectors) = sectors ≡ told
+IsKindOf (body.Disc told both) (kind.Disc sectors mirrored) = (sectors ≡ told) × (mirrored ≡ both)
 IsKindOf (body.Pair lines) (kind.Pair program) = Reads lines.text program
 IsKindOf _ _ = ⊥
 

@@ -12,7 +12,7 @@ use Rattle.deck_reader.specs.declared.deck.Deck.{Deck}
 
 -- a disc has 1 to 64 sectors, and the program of a pair keeps its limits
 abbrev pub IsKindWithinLimits : Kind → Type 0
-IsKindWithinLimits (kind.Disc sectors) = (1 ≤ sectors) × (sectors ≤ 64)
+IsKindWithinLimits (kind.Disc sectors mirrored) = (1 ≤ sectors) × (sectors ≤ 64)
 IsKindWithinLimits (kind.Pair program) = IsWithinLimits program
 
 -- a process has its copies in two of so many processors

@@ -52,16 +52,16 @@ abbrev pub process_with : Heading → Body → Named ProcessLines
 process_with heading body = (heading.name, record { primary = heading.primary; backup = heading.backup; body = body })
 
 -- 1 to 64 sectors
-abbrev pub with_sectors : ℕ → Result Heading LineFault → Result (Named ProcessLines) LineFault
-with_sectors sectors (Err why) = Err why
-with_sectors sectors (Ok heading) =
+abbrev pub with_sectors : ℕ → Bool → Result Heading LineFault → Result (Named ProcessLines) LineFault
+with_sectors sectors mirrored (Err why) = Err why
+with_sectors sectors mirrored (Ok heading) =
     if nat_lt sectors 1 then Err (fault.Limit 5)
     else if nat_lt 64 sectors then Err (fault.Limit 5)
-    else Ok (process_with heading (body.Disc sectors))
+    else Ok (process_with heading (body.Disc sectors mirrored))
 
--- `disc NAME P B SECTORS`
-abbrev pub disc_of : Outline → Placing → ℕ → Result (Named ProcessLines) LineFault
-disc_of outline placing sectors = with_sectors sectors (heading_of outline placing)
+-- `disc NAME P B SECTORS` and `mirror NAME P B SECTORS`
+abbrev pub disc_of : Outline → Placing → ℕ → Bool → Result (Named ProcessLines) LineFault
+disc_of outline placing sectors mirrored = with_sectors sectors mirrored (heading_of outline placing)
 
 -- `terminal NAME TARGET` on the line of this number: a new name; there are at most 16 terminals
 abbrev pub terminal_of : Outline → ℕ → List ℕ → List ℕ → Result TerminalLines LineFault
@@ -81,9 +81,9 @@ more_rounds sums more =
     if nat_lt 100000 (sums.rounds + more) then Err (fault.Limit 7) else Ok
     (record { singles = sums.singles; rounds = sums.rounds + more })
 
--- `run NAME TIMES`: at least once
-abbrev pub run_times_asks : Sums → ℕ → Result Sums LineFault
-run_times_asks sums times = if nat_lt times 1 then Err fault.Form else more_singles sums times
+-- `run NAME TIMES` and `copy NAME D TIMES`: at least once
+abbrev pub times_asks : Sums → ℕ → Result Sums LineFault
+times_asks sums times = if nat_lt times 1 then Err fault.Form else more_singles sums times
 
 -- `tick N`: a processor of the site, or node 16, which is that of the terminals
 abbrev pub tick_asks : ℕ → Sums → ℕ → Result Sums LineFault
@@ -102,13 +102,15 @@ mute_asks processors sums processor rounds =
 -- what event lines ask for together with one more, on a site with so many processors
 abbrev pub asks : ℕ → Sums → EventSaying → Result Sums LineFault
 asks processors sums (said.Run name) = more_singles sums 1
-asks processors sums (said.RunTimes name times) = run_times_asks sums times
+asks processors sums (said.RunTimes name times) = times_asks sums times
 asks processors sums (said.Enter name) = more_singles sums 1
 asks processors sums (said.Deliver place) = more_singles sums 1
 asks processors sums (said.Lose place) = more_singles sums 1
 asks processors sums (said.Repeat place) = more_singles sums 1
 asks processors sums (said.Tick node) = tick_asks processors sums node
 asks processors sums (said.Fail processor) = fail_asks processors sums processor
+asks processors sums (said.Drive name drive change) = more_singles sums 1
+asks processors sums (said.CopyTimes name drive times) = times_asks sums times
 asks processors sums (said.Drain rounds) = more_rounds sums rounds
 asks processors sums (said.Mix start rounds) = more_rounds sums rounds
 asks processors sums (said.Mute processor rounds) = mute_asks processors sums processor rounds

@@ -43,11 +43,11 @@ files_misnamed processes line own files =
 
 -- a pair with its program; a disc names nothing
 abbrev pub kind_misnamed : List (Named ProcessLines) → List ℕ → ℕ → Kind → Option NameFault
-kind_misnamed processes own line (kind.Disc sectors) = None
+kind_misnamed processes own line (kind.Disc sectors mirrored) = None
 kind_misnamed processes own line (kind.Pair program) = files_misnamed processes line own program.files
 
 abbrev pub process_misnamed : List (Named ProcessLines) → List ℕ → Body → Kind → Option NameFault
-process_misnamed processes own (body.Disc sectors) what = None
+process_misnamed processes own (body.Disc sectors mirrored) what = None
 process_misnamed processes own (body.Pair lines) what = kind_misnamed processes own lines.line what
 
 -- the first of two, where it is there

@@ -63,7 +63,8 @@ terminal_told outline number name (Ok terminal) = step.Next (at.Requests outline
 -- since a fault of the program goes before it
 abbrev pub in_blocks : Outline → ℕ → Saying → LineOutcome
 in_blocks outline number said.Nothing = step.Next (at.Blocks outline)
-in_blocks outline number (said.Disc placing sectors) = disc_told outline number (disc_of outline placing sectors)
+in_blocks outline number (said.Disc placing sectors mirrored) =
+    disc_told outline number (disc_of outline placing sectors mirrored)
 in_blocks outline number (said.Pair placing) =
     step.Next (at.Program outline (heading_of outline placing) (record { line = number; text = [] }))
 in_blocks outline number (said.Terminal name target) =

@@ -9,7 +9,7 @@ use Rattle.deck_reader.specs.declared.step.Breach.{Breach}
 
 -- how long the text of a pair's program is
 abbrev pub body_size : Body → ℕ
-body_size (body.Disc sectors) = 0
+body_size (body.Disc sectors mirrored) = 0
 body_size (body.Pair lines) = length lines.text
 
 -- how long the texts of all programs are

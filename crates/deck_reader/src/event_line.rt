@@ -2,19 +2,19 @@ ghost use Rattle.std.specs.Prelude.{◌≡◌, ◌≤◌, length, Some};
 ghost use Rattle.schedule.specs.declared.event.Event.TheVariants as event;
 ghost use Rattle.schedule.specs.declared.line.Line.TheVariants as line;
 ghost use Rattle.deck_reader.specs.EventLineOf.{run_line, run_times_line, enter_line, tick_line, fail_line, mute_line};
-ghost use Rattle.deck_reader.specs.EventLineOf.{event_line};
+ghost use Rattle.deck_reader.specs.EventLineOf.{copy_times_line, drive_line, event_line};
 ghost use Rattle.deck_reader.specs.Few.{AreFew};
 
-use crate::outline::{Outline, place_of};
+use crate::outline::{Outline, mirror_of, place_of};
 use deck_lines::{EventSaying, PacketPlace};
 use gd_words::Name;
-use schedule::{Event, Line};
+use schedule::{DriveChange, DriveEvent, Event, Line};
 
 /// The number of the terminals' node.
 const TERMINAL_NODE: u32 = 16;
 
-/// The event line that is said; none where it names no process to run or no terminal to enter at, a processor or node
-/// that isn't there, or no steps.
+/// The event line that is said; none where it names no process to run, no terminal to enter at or no mirrored disc, a
+/// processor or node that isn't there, or no steps.
 pub fn event_line(outline: &Outline, saying: EventSaying) -> Option<Line>
     requires few { AreFew outline.now }
     ensures { result ≡ event_line outline.now saying }
@@ -28,6 +28,14 @@ pub fn event_line(outline: &Outline, saying: EventSaying) -> Option<Line>
         EventSaying::Repeat(place) => repeat_line(place),
         EventSaying::Tick(node) => tick_line(outline.processors, node),
         EventSaying::Fail(processor) => fail_line(outline.processors, processor),
+        EventSaying::Drive {
+            name,
+            drive,
+            change,
+        } => drive_line(outline, &name, drive, change),
+        EventSaying::CopyTimes { name, drive, times } => {
+            copy_times_line(outline, &name, drive, times)
+        }
         EventSaying::Drain(rounds) => Some(Line::Drain(rounds)),
         EventSaying::Mix { start, rounds } => Some(Line::Mix {
             start: u64::from(start),
@@ -63,6 +71,34 @@ fn run_times_line(outline: &Outline, name: &Name, times: u32) -> Option<Line>
     }
     let place = place_of(&outline.processes, name)?;
     let event = Event::Run(place);
+    Some(Line::Many { event, times })
+}
+
+fn drive_line(outline: &Outline, name: &Name, drive: u8, change: DriveChange) -> Option<Line>
+    requires few { AreFew outline.now }
+    ensures { result ≡ drive_line outline.now name.now drive change }
+{
+    let process = mirror_of(&outline.processes, name)?;
+    Some(Line::One(Event::Drive(DriveEvent {
+        process,
+        drive,
+        change,
+    })))
+}
+
+fn copy_times_line(outline: &Outline, name: &Name, drive: u8, times: u32) -> Option<Line>
+    requires few { AreFew outline.now }
+    ensures { result ≡ copy_times_line outline.now name.now drive times }
+{
+    if times < 1 {
+        return None;
+    }
+    let process = mirror_of(&outline.processes, name)?;
+    let event = Event::Drive(DriveEvent {
+        process,
+        drive,
+        change: DriveChange::Copy,
+    });
     Some(Line::Many { event, times })
 }
 

@@ -1,6 +1,6 @@
 ghost use Rattle.std.specs.Prelude.{◌≡◌};
 ghost use Rattle.deck_reader.specs.LineFaults.{heading_of, disc_of, terminal_of, more_singles, more_rounds, tick_asks};
-ghost use Rattle.deck_reader.specs.LineFaults.{fail_asks, mute_asks, run_times_asks, asks};
+ghost use Rattle.deck_reader.specs.LineFaults.{fail_asks, mute_asks, times_asks, asks};
 
 use crate::outline::{
     Body, Heading, Outline, ProcessLines, Sums, TerminalLines, is_new, process_with,
@@ -69,8 +69,9 @@ pub fn disc_of(
     outline: &Outline,
     placing: Placing,
     sectors: u32,
+    mirrored: bool,
 ) -> Result<(Name, ProcessLines), LineFault>
-    ensures { result ≡ disc_of outline.now placing sectors }
+    ensures { result ≡ disc_of outline.now placing sectors mirrored }
 {
     let heading = heading_of(outline, placing)?;
     if sectors < 1 {
@@ -81,6 +82,7 @@ pub fn disc_of(
     }
     let body = Body::Disc {
         sectors: sectors as u8,
+        mirrored,
     };
     Ok(process_with(heading, body))
 }
@@ -140,13 +142,15 @@ pub fn asks(processors: u8, sums: Sums, saying: &EventSaying) -> Result<Sums, Li
 {
     match saying {
         EventSaying::Run(_) => more_singles(sums, 1),
-        EventSaying::RunTimes { name: _, times } => run_times_asks(sums, *times),
+        EventSaying::RunTimes { name: _, times } => times_asks(sums, *times),
         EventSaying::Enter(_) => more_singles(sums, 1),
         EventSaying::Deliver(_) => more_singles(sums, 1),
         EventSaying::Lose(_) => more_singles(sums, 1),
         EventSaying::Repeat(_) => more_singles(sums, 1),
         EventSaying::Tick(node) => tick_asks(processors, sums, *node),
         EventSaying::Fail(processor) => fail_asks(processors, sums, *processor),
+        EventSaying::Drive { .. } => more_singles(sums, 1),
+        EventSaying::CopyTimes { times, .. } => times_asks(sums, *times),
         EventSaying::Drain(rounds) => more_rounds(sums, *rounds),
         EventSaying::Mix { start: _, rounds } => more_rounds(sums, *rounds),
         EventSaying::Mute { processor, rounds } => mute_asks(processors, sums, *processor, *rounds),
@@ -158,8 +162,8 @@ pub fn asks(processors: u8, sums: Sums, saying: &EventSaying) -> Result<Sums, Li
     }
 }
 
-fn run_times_asks(sums: Sums, times: u32) -> Result<Sums, LineFault>
-    ensures { result ≡ run_times_asks sums times }
+fn times_asks(sums: Sums, times: u32) -> Result<Sums, LineFault>
+    ensures { result ≡ times_asks sums times }
 {
     if times < 1 {
         return Err(LineFault::Form);

@@ -26,7 +26,7 @@ pub fn process_misnamed(
     ensures { result ≡ process_misnamed processes.now own.now body.now what.now }
 {
     match body {
-        Body::Disc { sectors: _ } => None,
+        Body::Disc { .. } => None,
         Body::Pair(lines) => pair_misnamed(processes, own, lines.line, what),
     }
 }
@@ -40,7 +40,7 @@ fn pair_misnamed(
     ensures { result ≡ kind_misnamed processes.now own.now line what.now }
 {
     match what {
-        Kind::Disc { sectors: _ } => None,
+        Kind::Disc { .. } => None,
         Kind::Pair(program) => files_misnamed(processes, line, own, program.files.as_slice()),
     }
 }

@@ -1,6 +1,7 @@
 ghost use Rattle.std.specs.Prelude.{◌≡◌, ◌≤◌, length};
 ghost use Rattle.name_table.specs.Entries.{place_of};
 ghost use Rattle.deck_reader.specs.LineFaults.{is_new, outline_with, process_with};
+ghost use Rattle.deck_reader.specs.EventLineOf.{is_mirror, mirror_of};
 ghost use Rattle.deck_reader.specs.Names.{is_process};
 
 use gd_words::{List, Name, Words};
@@ -26,7 +27,7 @@ pub struct ProgramLines {
 /// What follows the heading of a process.
 #[derive(Drop)]
 pub enum Body {
-    Disc { sectors: u8 },
+    Disc { sectors: u8, mirrored: bool },
     Pair(ProgramLines),
 }
 
@@ -124,6 +125,33 @@ pub fn place_of<T>(table: &NameTable<T>, name: &Name) -> Option<u8>
 {
     let place = table.place_of(name)?;
     Some(place as u8)
+}
+
+/// Where the mirrored disc of this name stands among at most 16.
+pub fn mirror_of(processes: &NameTable<ProcessLines>, name: &Name) -> Option<u8>
+    requires few { length processes.now ≤ 16 }
+    ensures { result ≡ mirror_of processes.now name.now }
+{
+    let place = place_of(processes, name)?;
+    let lines = processes.at(usize::from(place))?;
+    if is_mirror(&lines.body) {
+        Some(place)
+    } else {
+        None
+    }
+}
+
+/// Whether this follows the heading of a mirrored disc.
+fn is_mirror(body: &Body) -> bool
+    ensures { result ≡ is_mirror body.now }
+{
+    match body {
+        Body::Disc {
+            sectors: _,
+            mirrored,
+        } => *mirrored,
+        Body::Pair(_) => false,
+    }
 }
 
 /// Whether a process has the name.

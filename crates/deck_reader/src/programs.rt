@@ -69,7 +69,10 @@ fn kind_of(alloc: Global, body: &Body) -> Result<Kind, DeckFault>
     ensures err { IfErr result (λ fault. Tells (IsRefusedAs body.now) fault) }
 {
     match body {
-        Body::Disc { sectors } => Ok(Kind::Disc { sectors: *sectors }),
+        Body::Disc { sectors, mirrored } => Ok(Kind::Disc {
+            sectors: *sectors,
+            mirrored: *mirrored,
+        }),
         Body::Pair(lines) => match read_program(alloc, lines.text.as_slice()) {
             Ok(program) => Ok(Kind::Pair(program)),
             Err(TalFault::NoMemory(memory)) => Err(DeckFault::NoMemory(memory)),

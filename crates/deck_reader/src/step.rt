@@ -145,7 +145,11 @@ fn in_blocks(
 {
     match saying {
         Saying::Nothing => Ok(LineOutcome::Next(Stage::Blocks(outline))),
-        Saying::Disc(placing, sectors) => disc_told(outline, number, placing, sectors),
+        Saying::Disc {
+            placing,
+            sectors,
+            mirrored,
+        } => disc_told(outline, number, placing, sectors, mirrored),
         Saying::Pair(placing) => Ok(pair_told(alloc, outline, number, placing)),
         Saying::Terminal { name, target } => {
             Ok(terminal_told(alloc, outline, number, name, target))
@@ -160,10 +164,11 @@ fn disc_told(
     number: u32,
     placing: Placing,
     sectors: u32,
+    mirrored: bool,
 ) -> Result<LineOutcome, NoMemory>
-    ensures { IfOk result (λ next. next ≡ disc_told outline number (disc_of outline placing sectors)) }
+    ensures { IfOk result (λ next. next ≡ disc_told outline number (disc_of outline placing sectors mirrored)) }
 {
-    match disc_of(&outline, placing, sectors) {
+    match disc_of(&outline, placing, sectors, mirrored) {
         Err(why) => Ok(LineOutcome::Broken(broken(outline, number, why))),
         Ok(process) => {
             let outline = with_process(outline, process)?;

@@ -1,99 +1,158 @@
-ghost use Rattle.std.specs.Prelude.{◌≡◌, ◌≤◌, ◌<◌, length, not, replicate, slice_get, Some, IfOk};
+ghost use Rattle.std.specs.Prelude.{◌≡◌, ◌≤◌, ◌<◌, ◌↔◌, length, not, slice_get, None, Some, IfOk, IsTrue};
 ghost use Rattle.std.specs.Option.{option_map};
-ghost use Rattle.disc_device.specs.Sectors.{blank, is_written, stored_after};
+ghost use Rattle.mirror.specs.Mirror.{all_working, content, copied, failed, failing, is_failed, is_reviving};
+ghost use Rattle.mirror.specs.Mirror.{revived, state_of, written};
+ghost use Rattle.mirror.specs.Sectors.{blanks, is_written, stored_after};
+ghost use Rattle.mirror.specs.States.{failing_of, standing, states_copied, states_failed, states_of, states_revived};
 
-use crate::stored::Stored;
-use gd_words::{List, NoMemory, Sector};
+use gd_words::{NoMemory, Sector};
+use mirror::{DriveState, Drives, Failing, MemoryDrive, Stored};
 use std::alloc::Global;
 use std::marker::Model;
 
-/// The sectors of a disc, 1 to 64.
+/// The sectors of a disc, 1 to 64, on the one drive or the two that it has.
 #[derive(Drop)]
 pub struct Disc {
-    sectors: List<Stored>,
+    drives: Drives<MemoryDrive>,
 }
 
 impl Model for Disc {
-    ghost use Rattle.std.specs.Prelude.{◌≤◌, length, List as Items};
-    ghost use Rattle.disc_device.specs.declared.stored.Stored.{Stored};
+    ghost use Rattle.std.specs.Prelude.{List};
+    ghost use Rattle.mirror.specs.Mirror.{DriveHeld};
 
-    ghost Value = { Items Stored };
+    ghost Value = { List DriveHeld };
 
-    ghost view = { λ disc. disc.sectors };
-
-    ghost invariant = { λ disc. (1 ≤ length disc.sectors) × (length disc.sectors ≤ 64) };
+    ghost view = { λ disc. disc.drives };
 }
 
 impl Disc {
-    /// A disc of so many sectors on which nothing was written.
+    /// A disc of so many sectors on which nothing was written, with one drive.
     pub fn new(alloc: Global, sectors: u8) -> Result<Disc, NoMemory>
         requires some { 1 ≤ sectors }
         requires few { sectors ≤ 64 }
-        ensures { IfOk result (λ disc. disc ≡ replicate sectors blank) }
+        ensures { IfOk result (λ disc. disc ≡ all_working (blanks sectors) None) }
     {
-        let sectors = blanks(alloc, usize::from(sectors))?;
-        Ok(Disc { sectors })
+        let first = MemoryDrive::new(alloc, sectors)?;
+        Ok(Disc {
+            drives: Drives::new(first, None),
+        })
+    }
+
+    /// A disc of so many sectors on which nothing was written, with two drives.
+    pub fn mirrored(alloc: Global, sectors: u8) -> Result<Disc, NoMemory>
+        requires some { 1 ≤ sectors }
+        requires few { sectors ≤ 64 }
+        ensures { IfOk result (λ disc. disc ≡ all_working (blanks sectors) (Some (blanks sectors))) }
+    {
+        let first = MemoryDrive::new(alloc, sectors)?;
+        let second = MemoryDrive::new(alloc, sectors)?;
+        Ok(Disc {
+            drives: Drives::new(first, Some(second)),
+        })
     }
 
     /// How many sectors there are.
     pub fn count(&self) -> u8
-        ensures value { result ≡ length self.now }
+        ensures value { result ≡ length (content self.now) }
         ensures some { 1 ≤ result }
         ensures few { result ≤ 64 }
     {
-        self.sectors.len() as u8
+        self.drives.count()
     }
 
     /// All sectors, in order.
     pub fn sectors(&self) -> &[Stored]
+        ensures { result.now ≡ content self.now }
+    {
+        self.drives.working().sectors()
+    }
+
+    /// Its drives.
+    pub fn drives(&self) -> &Drives<MemoryDrive>
         ensures { result.now ≡ self.now }
     {
-        self.sectors.as_slice()
+        &self.drives
+    }
+
+    /// How the drive at a place stands; one that isn't there has failed.
+    pub fn standing(&self, drive: u8) -> DriveState
+        ensures { result ≡ standing (states_of self.now) drive }
+    {
+        self.drives.standing(drive)
     }
 
     /// The words on a sector.
     pub fn read(&self, sector: u8) -> Sector
-        requires { sector < length self.now }
-        ensures { option_map (λ stored. stored.words) (slice_get self.now sector) ≡ Some result }
+        requires { sector < length (content self.now) }
+        ensures { option_map (λ stored. stored.words) (slice_get (content self.now) sector) ≡ Some result }
     {
-        self.sectors.as_slice()[usize::from(sector)].words
+        self.drives.read(sector)
     }
 
     /// The number of the write that put the words on a sector.
     pub fn number(&self, sector: u8) -> u32
-        requires { sector < length self.now }
-        ensures { option_map (λ stored. stored.number) (slice_get self.now sector) ≡ Some result }
+        requires { sector < length (content self.now) }
+        ensures { option_map (λ stored. stored.number) (slice_get (content self.now) sector) ≡ Some result }
     {
-        self.sectors.as_slice()[usize::from(sector)].number
+        self.drives.number(sector)
     }
 
     /// Writes a sector under a number, and tells whether this is a new write: one whose number stands there was done
     /// already.
     pub fn write(&mut self, sector: u8, words: &Sector, number: u32) -> bool
-        requires { sector < length self.old }
-        ensures sectors { self.new ≡ stored_after self.old sector words.now number }
-        ensures new { result ≡ not (is_written self.old sector number) }
+        requires { sector < length (content self.old) }
+        ensures drives { self.new ≡ written self.old sector words.now number }
+        ensures states { states_of self.new ≡ states_of self.old }
+        ensures sectors { content self.new ≡ stored_after (content self.old) sector words.now number }
+        ensures new { result ≡ not (is_written (content self.old) sector number) }
     {
-        if self.number(sector) == number {
-            return false;
-        }
-        let words = *words;
-        self.sectors
-            .set(usize::from(sector), Stored { words, number });
-        true
+        self.drives.write(sector, words, number)
     }
-}
 
-/// So many sectors on which nothing was written.
-fn blanks(alloc: Global, count: usize) -> Result<List<Stored>, NoMemory>
-    ensures { IfOk result (λ sectors. sectors ≡ replicate count blank) }
-{
-    let mut sectors = List::new(alloc);
-    for _ in 0..count {
-        sectors.push(Stored {
-            words: [0; 8],
-            number: 0,
-        })?;
+    /// A drive fails and is wiped, unless it had failed before or no other one works.
+    pub fn fail(&mut self, drive: u8) -> Failing
+        requires two { length self.old ≡ 2 }
+        requires there { drive < 2 }
+        ensures told { result ≡ failing self.old drive }
+        ensures told_by { result ≡ failing_of (states_of self.old) drive }
+        ensures drives { self.new ≡ failed result drive self.old }
+        ensures states { states_of self.new ≡ states_failed result drive (states_of self.old) }
+        ensures sectors { content self.new ≡ content self.old }
+    {
+        self.drives.fail(drive)
     }
-    Ok(sectors)
+
+    /// A new drive is put in the place of one that failed, and tells whether it had. It is filled by `copy`.
+    pub fn revive(&mut self, drive: u8) -> bool
+        requires two { length self.old ≡ 2 }
+        requires there { drive < 2 }
+        ensures told { result ≡ is_failed (state_of self.old drive) }
+        ensures told_by { result ≡ is_failed (standing (states_of self.old) drive) }
+        ensures drives { self.new ≡ revived drive self.old }
+        ensures states { states_of self.new ≡ states_revived drive (states_of self.old) }
+        ensures sectors { content self.new ≡ content self.old }
+    {
+        self.drives.revive(drive)
+    }
+
+    /// The next sector is copied on a drive that is revived, and tells whether it is; after the last one it works.
+    pub fn copy(&mut self, drive: u8) -> bool
+        requires two { length self.old ≡ 2 }
+        requires there { drive < 2 }
+        ensures told { result ≡ is_reviving (state_of self.old drive) }
+        ensures told_by { result ≡ is_reviving (standing (states_of self.old) drive) }
+        ensures drives { self.new ≡ copied drive self.old }
+        ensures states { states_of self.new
+            ≡ states_copied (length (content self.old)) drive (states_of self.old) }
+        ensures sectors { content self.new ≡ content self.old }
+    {
+        self.drives.copy(drive)
+    }
+
+    /// Whether it has two drives.
+    pub fn is_mirrored(&self) -> bool
+        ensures { IsTrue result ↔ (length self.now ≡ 2) }
+    {
+        self.drives.is_mirrored()
+    }
 }

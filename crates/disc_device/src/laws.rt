@@ -1,7 +1,7 @@
 //! Laws of writing on the sectors of a disc.
 ghost use Rattle.std.specs.Prelude.{◌≡◌, ◌≢◌, ◌<◌, ℕ, ℤ, List, length, slice_get, Some, true, false};
-ghost use Rattle.disc_device.specs.Sectors.{is_written, stored_after};
-ghost use Rattle.disc_device.specs.declared.stored.Stored.{Stored};
+ghost use Rattle.mirror.specs.Sectors.{is_written, stored_after};
+ghost use Rattle.mirror.specs.declared.stored.Stored.{Stored};
 
 /// A write is done once: after it its words and its number stand on its sector, and the same number writes nothing more
 /// there.

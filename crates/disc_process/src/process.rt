@@ -1,4 +1,4 @@
-ghost use Rattle.std.specs.Prelude.{◌≡◌};
+ghost use Rattle.std.specs.Prelude.{◌≡◌, false};
 ghost use Rattle.tal_tree.specs.declared.site.Kind.TheVariants.{Disc};
 ghost use Rattle.process_semantics.specs.Process.{start_of};
 ghost use Rattle.checkpoint_image.specs.Behaving.{last_write_of};
@@ -33,7 +33,7 @@ impl Model for DiscProcess {
 impl DiscProcess {
     /// A disc at its beginning.
     pub fn new(alloc: Global, sectors: u8) -> DiscProcess
-        ensures { ⟦<DiscProcess as Behaviour>⟧.state result ≡ start_of (Disc sectors) }
+        ensures { ⟦<DiscProcess as Behaviour>⟧.state result ≡ start_of (Disc sectors false) }
     {
         DiscProcess {
             sectors,

@@ -1,5 +1,6 @@
 -- Discs keep the discipline.
-use Rattle.std.proofs.Common.{◌≡◌, ◌≢◌, ℕ, ℤ, List, [], ◌∷◌, ◌++◌, length, Some, refl, ap, sym, subst, ◌∙◌, arith}
+use Rattle.std.proofs.Common.{◌≡◌, ◌≢◌, ℕ, ℤ, Bool, false, List, [], ◌∷◌, ◌++◌, length, Some, refl, ap, sym, subst}
+use Rattle.std.proofs.Common.{◌∙◌, arith}
 use Rattle.tal_tree.specs.declared.site.Kind.TheVariants as kind
 use Rattle.tal_tree.specs.declared.site.ProcessSpec.{ProcessSpec}
 use Rattle.tal_tree.specs.declared.site.Site.{Site}
@@ -15,7 +16,7 @@ use Rattle.whole_states.specs.Processes.{IsRegularKind}
 use Rattle.world_semantics.specs.Core.{Core, Deed, Went, Checkpointed, Took, Asked, Got, Answered, Acted, Advances}
 use Rattle.world_semantics.specs.Core.{goes, marks, takes, asks, gets, answers, acts, after_passing, carried, put_in}
 use Rattle.process_histories.specs.Bounds.{AreBounded}
-use Rattle.process_histories.specs.Histories.{HasDone, one_more, kind_of}
+use Rattle.process_histories.specs.Histories.{HasDone, one_more, kind_of, unmirrored}
 use Rattle.process_histories.specs.Words.{requests_on}
 use Rattle.process_histories.proofs.Deeds.{point_of, stands-there}
 use Rattle.process_histories.proofs.OneKind.{done-kind}
@@ -32,15 +33,17 @@ mark-only (Got file words) e = absurd (cc)
 mark-only (Answered place words) e = absurd (cc)
 mark-only (Acted call found) e = absurd (cc)
 
-module _ (site : Site) (number sectors : ℕ) (spec : ProcessSpec) (is : spec.what ≡ kind.Disc sectors) where
+module _ (site : Site) (number sectors : ℕ) (mirrored : Bool) (spec : ProcessSpec)
+    (is : spec.what ≡ kind.Disc sectors mirrored) where
   regular : IsRegularKind spec.what
   regular = rw is tt
 
   serves : {deeds : List Deed} {core : Core} → HasDone site number spec deeds core
       → (s : DiscState) × (core.state ≡ Serves sectors s)
-  serves {core = core} done = by core.state (done-kind done ∙ is)
+  serves {core = core} done = by core.state (done-kind done ∙ ap unmirrored is)
     where
-      by : (state : ProcessState) → kind_of state ≡ kind.Disc sectors → (s : DiscState) × (state ≡ Serves sectors s)
+      by : (state : ProcessState) → kind_of state ≡ kind.Disc sectors false
+          → (s : DiscState) × (state ≡ Serves sectors s)
       by (Runs program s) same = absurd (cc)
       by (Serves n s) same = let e : n ≡ sectors = cc in (s, rw e refl)
 

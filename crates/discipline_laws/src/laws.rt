@@ -1,4 +1,4 @@
-ghost use Rattle.std.specs.Prelude.{◌≡◌, ℕ, false, List};
+ghost use Rattle.std.specs.Prelude.{◌≡◌, ℕ, Bool, false, List};
 ghost use Rattle.tal_tree.specs.Regular.{IsRegular};
 ghost use Rattle.tal_tree.specs.declared.program.Program.{Program};
 ghost use Rattle.tal_tree.specs.declared.site.Kind.TheVariants.{Disc, Pair};
@@ -29,6 +29,6 @@ pub fn accepted_programs_are_disciplined()
 
 /// A disc keeps the checkpoint discipline.
 pub fn discs_are_disciplined()
-    ensures { (site : Site) (number sectors : ℕ) (spec : ProcessSpec) → spec.what ≡ Disc sectors
-        → IsDisciplined site number spec }
+    ensures { (site : Site) (number sectors : ℕ) (mirrored : Bool) (spec : ProcessSpec)
+        → spec.what ≡ Disc sectors mirrored → IsDisciplined site number spec }
 {}

@@ -25,7 +25,7 @@ accepted_judgement program (Some cause) judged none = absurd (cc)
 
 accepted_kind : (what : Kind) (finding : Finding) (program : Program) → IsFindingOf what finding
     → is_refused finding ≡ false → program_of what ≡ Some program → IsAccepted program
-accepted_kind (kind.Disc sectors) finding program is none there = absurd (cc)
+accepted_kind (kind.Disc sectors mirrored) finding program is none there = absurd (cc)
 accepted_kind (kind.Pair own) found.Disc program is none there = absurd is
 accepted_kind (kind.Pair own) (found.Pair one) program is none there =
     subst IsAccepted (cc) (accepted_judgement own one.refusal is.judged none)

@@ -18,7 +18,7 @@ Read program = (text : List ℕ) × Reads text program
 
 judgeable-kind : (what : Kind) → ((program : Program) → what ≡ kind.Pair program → Read program)
     → IsJudgeableKind what
-judgeable-kind (kind.Disc sectors) read = tt
+judgeable-kind (kind.Disc sectors mirrored) read = tt
 judgeable-kind (kind.Pair program) read =
     let found = read program refl in
     record {

@@ -61,7 +61,7 @@ program_text bytes name program found =
     judged_text bytes (pair_line bytes name) name program found found.refusal
 
 abbrev pub pair_text : List ℕ → List ℕ → Kind → Finding → List ℕ
-pair_text bytes name (kind.Disc sectors) finding = []
+pair_text bytes name (kind.Disc sectors mirrored) finding = []
 pair_text bytes name (kind.Pair program) found.Disc = []
 pair_text bytes name (kind.Pair program) (found.Pair one) = program_text bytes name program one
 

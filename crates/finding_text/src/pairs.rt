@@ -50,7 +50,7 @@ fn put_pair(
     ensures { OnOk result (text.new ≡ text.old ++ pair_text bytes.now spec.now.name spec.now.what finding.now) }
 {
     match &spec.what {
-        Kind::Disc { sectors: _ } => Ok(()),
+        Kind::Disc { .. } => Ok(()),
         Kind::Pair(program) => match finding {
             Finding::Disc => Ok(()),
             Finding::Pair(found) => put_program(alloc, text, bytes, &spec.name, program, found),

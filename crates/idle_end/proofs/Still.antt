@@ -17,7 +17,7 @@ use Rattle.plain_semantics.specs.Openers.{openers_of, opener_of}
 use Rattle.plain_semantics.specs.Machine.{PlainProcess, Made, made, made_all, plain_start, slot_of, step_made}
 use Rattle.plain_semantics.specs.Machine.{take_slot, take_at, take_made, enter_request, enter_made, print_made}
 use Rattle.plain_semantics.specs.Machine.{next_request, entered_at, IsStill, IsNoneLeft, shown_by}
-use Rattle.disc_device.specs.declared.stored.Stored.{Stored}
+use Rattle.disc_device.specs.Sectors.{Stored}
 use Rattle.world_semantics.specs.declared.role.Role.TheVariants.{Acting}
 use Rattle.world_semantics.specs.declared.which.Which.{Which}
 use Rattle.world_semantics.specs.Core.{Core, Deed, Took, Advances, goes, marks, takes, asks, gets, answers, acts}

@@ -21,5 +21,5 @@ line_at_point program point.Device words = line_of_program program words
 
 -- a disc has no text
 abbrev pub line_of_copy : Kind → CopyView → Option ℕ
-line_of_copy (kind.Disc sectors) copy = None
+line_of_copy (kind.Disc sectors mirrored) copy = None
 line_of_copy (kind.Pair program) copy = line_at_point program copy.point copy.state

@@ -17,7 +17,7 @@ pub(crate) fn line_of_copy(
     ensures { IfOk result (λ line. line ≡ line_of_copy what.now copy.now) }
 {
     match what {
-        Kind::Disc { sectors: _ } => Ok(None),
+        Kind::Disc { .. } => Ok(None),
         Kind::Pair(program) => line_at_point(alloc, program, copy.point, copy.state.as_slice()),
     }
 }

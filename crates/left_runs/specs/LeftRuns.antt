@@ -1,5 +1,6 @@
 -- What is told once a deck was run.
-use Rattle.std.specs.Prelude.{◌≡◌, ℕ, List, [], ◌∷◌, ◌++◌, codes, Option}
+use Rattle.std.specs.Prelude.{◌≡◌, ℕ, List, [], ◌∷◌, ◌++◌, codes, slice_get, Option}
+use Rattle.std.specs.Option.{option_map, unwrap_or}
 use Rattle.std.specs.Fmt.{decimal}
 use Rattle.deck_reader.specs.declared.deck.Deck.{Deck}
 use Rattle.left_text.specs.left_findings.specs.Left.{left_of}
@@ -16,15 +17,25 @@ use Rattle.tal_tree.specs.declared.site.Site.{Site}
 abbrev pub second_text : ℕ → List ℕ
 second_text processor = codes "the run ended before a second stop, of processor " ++ decimal processor ++ 10 ∷ []
 
-abbrev pub ending_text : Ending → List ℕ
-ending_text ending.Idle = codes "the run ended idle" ++ 10 ∷ []
-ending_text ending.Cut = codes "the run was cut" ++ 10 ∷ []
-ending_text (ending.Second processor) = second_text processor
+-- the name of a process; nothing where it isn't there
+abbrev pub name_of : Site → ℕ → List ℕ
+name_of site process = unwrap_or (option_map (λ spec. spec.name) (slice_get site.processes process)) []
+
+-- the disc that would have been lost
+abbrev pub lost_text : Site → ℕ → List ℕ
+lost_text site process = codes "the run ended before the last drive of " ++ name_of site process
+    ++ (codes " would have failed" ++ 10 ∷ [])
+
+abbrev pub ending_text : Site → Ending → List ℕ
+ending_text site ending.Idle = codes "the run ended idle" ++ 10 ∷ []
+ending_text site ending.Cut = codes "the run was cut" ++ 10 ∷ []
+ending_text site (ending.Second processor) = second_text processor
+ending_text site (ending.Lost process) = lost_text site process
 
 -- how it ended, and what is left in the world in which it ended, of a deck of these bytes
 abbrev pub run_text : List ℕ → Site → NotedRan → List ℕ
 run_text bytes site noted =
-    ending_text noted.ran.ending
+    ending_text site noted.ran.ending
     ++ left_text bytes site (left_of site (view_of noted.ran.machine.state.world)) noted.steps
 
 -- the text is told of a run of the schedule of a deck of these bytes, with this stop

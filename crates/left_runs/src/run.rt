@@ -49,7 +49,7 @@ fn text_of_run(
     let view = view(alloc, &noted.ran.machine)?;
     let left = left_of(alloc, site, &view)?;
     let mut text = List::new(alloc);
-    put_ending(&mut text, noted.ran.ending)?;
+    put_ending(&mut text, site, noted.ran.ending)?;
     put_left(&mut text, bytes, site, &left, noted.steps.as_slice())?;
     Ok(text)
 }

@@ -56,7 +56,7 @@ abbrev pub asker : List ℕ → Program
 asker server = asker_keeping server 1
 
 abbrev pub disc : ProcessSpec
-disc = record { name = codes "$DATA"; primary = 2; backup = 3; what = kind.Disc 4 }
+disc = record { name = codes "$DATA"; primary = 2; backup = 3; what = kind.Disc 4 false }
 
 abbrev pub bank : ProcessSpec
 bank = record { name = codes "$BANK"; primary = 0; backup = 1; what = kind.Pair (asker (codes "$DATA")) }

@@ -12,7 +12,7 @@ use Rattle.plain_semantics.specs.Machine.{next_request}
 use Rattle.plain_semantics.specs.declared.slot.Opener.{Opener}
 use Rattle.plain_semantics.specs.Openers.{openers_of, opener_of}
 use Rattle.checkpoint_image.specs.Receive.{repeated, all_repeated}
-use Rattle.disc_device.specs.declared.stored.Stored.{Stored}
+use Rattle.disc_device.specs.Sectors.{Stored}
 use Rattle.world_semantics.specs.declared.role.Role.TheVariants.{Acting}
 use Rattle.world_semantics.specs.declared.which.Which.{Which}
 use Rattle.world_semantics.specs.declared.which.Which.TheVariants.{First, Second}

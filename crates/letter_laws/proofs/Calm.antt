@@ -43,7 +43,7 @@ free-rests program s free at =
     let waits = awaits-at (stands-at program s point.Await (λ same. cc) (λ same. cc) at).call in cc
 
 pub start-rests : (what : Kind) → Rests (process.start_of what)
-start-rests (kind.Disc sectors) = λ same. cc
+start-rests (kind.Disc sectors mirrored) = λ same. cc
 start-rests (kind.Pair program) = free-rests program (start program) refl
 
 items-free : (program : Program) (s t : ProgramState) (hand : Bool) (frames : List Frame) (words : List ℤ)

@@ -11,7 +11,7 @@ use Rattle.plain_semantics.specs.Openers.{files_of}
 use Rattle.whole_states.proofs.Named.{frames-listed, file-there}
 use Rattle.checkpoint_image.specs.declared.message.FileNumber.{FileNumber}
 use Rattle.checkpoint_image.specs.declared.message.ImageMessage.{ImageMessage}
-use Rattle.disc_device.specs.declared.stored.Stored.{Stored}
+use Rattle.disc_device.specs.Sectors.{Stored}
 use Rattle.world_semantics.specs.declared.role.Role.TheVariants.{Acting}
 use Rattle.world_semantics.specs.declared.which.Which.{Which}
 use Rattle.world_semantics.specs.declared.which.Which.TheVariants.{First, Second}
@@ -25,8 +25,8 @@ use Rattle.world_semantics.specs.World.{Copy, Pair, Down, World, boot, copy_of, 
 use Rattle.world_semantics.proofs.Beginning.{all-begin}
 use Rattle.world_semantics.proofs.Lists.{some-same, set-all, map-all}
 use Rattle.world_semantics.proofs.Members.{among-map}
-use Rattle.process_histories.specs.Histories.{kind_of}
-use Rattle.process_histories.proofs.OneKind.{done-kind}
+use Rattle.process_histories.specs.Histories.{kind_of, unmirrored}
+use Rattle.process_histories.proofs.OneKind.{done-kind, same-files}
 use Rattle.process_histories.proofs.Steady.{IsSteady, done-steady}
 use Rattle.awaited_requests.specs.plain_histories.specs.Agreeing.{AreRegular}
 use Rattle.awaited_requests.specs.takeover_laws.proofs.Kept.{IsGood}
@@ -60,9 +60,9 @@ module _ (site : Site) (regular : AreRegular site) where
       named among in
       let within =
       listed-within core.state (done-steady (regular number is.spec is.there) is.done) from.item from.among in
-      let same : kind_of core.state ≡ spec.what =
-      done-kind is.done ∙ ap (λ (s : ProcessSpec). s.what) (some-same (sym is.there ∙ there)) in
-      rw (ap (λ (f : FileNumber). f.file) from.same, ← same) within
+      let same : kind_of core.state ≡ unmirrored spec.what =
+      done-kind is.done ∙ ap (λ (s : ProcessSpec). unmirrored s.what) (some-same (sym is.there ∙ there)) in
+      rw (ap (λ (f : FileNumber). f.file) from.same, ← same-files spec.what, ← same) within
 
   one-more : (number : ℕ) (copy : Copy) (pair : Pair) → IsDone site number copy.core → PairNames site number pair
       → PairNames site number (record pair { checkpoints = checkpoint_of number copy ∷ pair.checkpoints })

@@ -24,6 +24,7 @@ use Rattle.letters.specs.Posts.{Post, post_at_boot, with_letters, after_change, 
 use Rattle.letters.specs.Posts.{NotesLetters, no_mark, one_mark, PlaysEvent, plays_run, plays_no_run, plays_enter}
 use Rattle.letters.specs.Posts.{plays_no_enter, plays_nothing, plays_hand, plays_drop, plays_again, plays_mark}
 use Rattle.letters.specs.Posts.{plays_loss, plays_repeat, plays_no_tick, plays_tick, plays_tick_stop, plays_fail}
+use Rattle.letters.specs.Posts.{plays_drive}
 use Rattle.letters.specs.Posts.{plays_no_fail, HasPlayed, played_none, played_more}
 use Rattle.letters.specs.Routes.{Letter, letters_of}
 use Rattle.letter_laws.specs.Known.{IsHonest, AwaitedWereSent}
@@ -259,6 +260,7 @@ module _ (site : Site) (fit : IsFit site) where
       sound-more most (most + 1) _ (omega arith) (mark-sound most post w node processor sendings low sound change)
   plays-sound most post next low sound plays_loss = sound-more most (most + 1) post (omega arith) sound
   plays-sound most post next low sound plays_repeat = sound-more most (most + 1) post (omega arith) sound
+  plays-sound most post next low sound plays_drive = sound-more most (most + 1) post (omega arith) sound
   plays-sound most post next low sound plays_no_tick = sound-more most (most + 1) post (omega arith) sound
   plays-sound most post next low sound (plays_tick running marks) =
       sound-more most (most + 1) next (omega arith) (marks-sound most low sound marks)

@@ -29,6 +29,7 @@ use Rattle.letters.specs.Posts.{Post, post_at_boot, with_letters, after_change, 
 use Rattle.letters.specs.Posts.{NotesLetters, no_mark, one_mark, PlaysEvent, plays_run, plays_no_run, plays_enter}
 use Rattle.letters.specs.Posts.{plays_no_enter, plays_nothing, plays_hand, plays_drop, plays_again, plays_mark}
 use Rattle.letters.specs.Posts.{plays_loss, plays_repeat, plays_no_tick, plays_tick, plays_tick_stop, plays_fail}
+use Rattle.letters.specs.Posts.{plays_drive}
 use Rattle.letters.specs.Posts.{plays_no_fail}
 use Rattle.letters.specs.Routes.{Letter, route_of, receiver_of, letters_of}
 use Rattle.letter_laws.specs.Known.{HasAsker, IsEarly, AreEarly, IsKnown}
@@ -341,6 +342,7 @@ module _ (site : Site) (fit : IsFit site) where
       one known change
   known-plays events post next event low good seated one known plays_loss = known
   known-plays events post next event low good seated one known plays_repeat = known
+  known-plays events post next event low good seated one known plays_drive = known
   known-plays events post next event low good seated one known plays_no_tick = known
   known-plays events post next event low good seated one known (plays_tick running marks) =
       marks-known events low good (seated-apart post.world seated) one known marks

@@ -9,6 +9,7 @@ use Rattle.letters.specs.Posts.{Post, with_letters, without_those_between, IsTak
 use Rattle.letters.specs.Posts.{NotesLetters, no_mark, one_mark, PlaysEvent, plays_run, plays_no_run, plays_enter}
 use Rattle.letters.specs.Posts.{plays_no_enter, plays_nothing, plays_hand, plays_drop, plays_again, plays_mark}
 use Rattle.letters.specs.Posts.{plays_loss, plays_repeat, plays_no_tick, plays_tick, plays_tick_stop, plays_fail}
+use Rattle.letters.specs.Posts.{plays_drive}
 use Rattle.letters.specs.Posts.{plays_no_fail, HasPlayed, played_none, played_more}
 use Rattle.letters.specs.Routes.{Letter}
 
@@ -57,6 +58,7 @@ plays-sent {post = post} all (plays_mark {next = next} node processor change) =
     (λ letter among. all letter (among-filter letter _ post.owed among).0)
 plays-sent all plays_loss = all
 plays-sent all plays_repeat = all
+plays-sent all plays_drive = all
 plays-sent all plays_no_tick = all
 plays-sent all (plays_tick running marks) = marks-sent all marks
 plays-sent all (plays_tick_stop processor running other change marks) =

@@ -9,6 +9,7 @@ use Rattle.world_semantics.specs.World.{World}
 use Rattle.letters.specs.Posts.{Post, NotesLetters, no_mark, one_mark, PlaysEvent, plays_run, plays_no_run, plays_enter}
 use Rattle.letters.specs.Posts.{plays_no_enter, plays_nothing, plays_hand, plays_drop, plays_again, plays_mark}
 use Rattle.letters.specs.Posts.{plays_loss, plays_repeat, plays_no_tick, plays_tick, plays_tick_stop, plays_fail}
+use Rattle.letters.specs.Posts.{plays_drive}
 use Rattle.letters.specs.Posts.{plays_no_fail, HasPlayed, played_none, played_more}
 
 -- what an event permits in a world leads to another one
@@ -34,6 +35,7 @@ plays-permits (plays_again letter among change) = (_, follows.delivers letter.re
 plays-permits (plays_mark node processor change) = (_, follows.delivers_mark node processor change)
 plays-permits plays_loss = ([], follows.loses)
 plays-permits plays_repeat = ([], follows.doubles)
+plays-permits plays_drive = ([], follows.turns_drive)
 plays-permits plays_no_tick = ([], follows.ticks_none)
 plays-permits (plays_tick running marks) = let made = marks-made marks in (made.0, follows.ticks running made.1)
 plays-permits (plays_tick_stop processor running other change marks) =

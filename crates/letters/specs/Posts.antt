@@ -4,8 +4,9 @@ use Rattle.std.specs.Prelude.{◌≡◌, ◌≢◌, ℕ, Bool, true, not, List, 
 use Rattle.std.specs.List.{filter}
 use Rattle.gd_words.specs.Members.{IsAmong}
 use Rattle.tal_tree.specs.declared.site.Site.{Site}
+use Rattle.schedule.specs.declared.event.DriveEvent.{DriveEvent}
 use Rattle.schedule.specs.declared.event.Event.{Event}
-use Rattle.schedule.specs.declared.event.Event.TheVariants.{Run, Enter, Deliver, Lose, Repeat, Tick, Fail}
+use Rattle.schedule.specs.declared.event.Event.TheVariants.{Run, Enter, Deliver, Lose, Repeat, Tick, Fail, Drive}
 use Rattle.world_semantics.specs.World.{World, boot, is_running}
 use Rattle.world_semantics.specs.Messages.{Sending, Running, Entering, Handing, Stopping, NotingDown}
 use Rattle.world_semantics.specs.Rules.{Change}
@@ -99,6 +100,7 @@ pub data PlaysEvent (site : Site) (post : Post) : Event → Post → Type 0 wher
       → PlaysEvent site post (Fail processor) (record post { world = next })
   plays_no_fail : {processor : ℕ} → IsIdleFor site post.world (Stopping processor)
       → PlaysEvent site post (Fail processor) post
+  plays_drive : {event : DriveEvent} → PlaysEvent site post (Drive event) post
 
 -- events, one after the other, lead from the beginning to a post
 pub data HasPlayed (site : Site) : List Event → Post → Type 0 where

@@ -30,10 +30,10 @@ use Rattle.world_semantics.specs.Core.{Core, Deed, next_on, carried}
 use Rattle.world_semantics.specs.Follows.{IsRun}
 use Rattle.world_semantics.specs.Messages.{Checkpointing, Taking}
 use Rattle.world_semantics.specs.World.{Pair, World}
-use Rattle.process_histories.specs.Histories.{HasDone, kind_of}
+use Rattle.process_histories.specs.Histories.{HasDone, kind_of, unmirrored}
 use Rattle.process_histories.specs.Words.{answered_to, take_from, ask_on}
 use Rattle.process_histories.proofs.Counts.{taken-number, next-number}
-use Rattle.process_histories.proofs.OneKind.{done-kind, openers-same}
+use Rattle.process_histories.proofs.OneKind.{done-kind, openers-same, same-pair}
 use Rattle.process_histories.proofs.Kept.{kept-last}
 use Rattle.process_histories.proofs.Whole.{done-whole}
 use Rattle.world_semantics.specs.Core.{goes, marks, takes, asks, gets, answers, acts}
@@ -99,8 +99,9 @@ module _ (site : Site) (fit : IsFit site) (small : IsSmall site) (n before numbe
   within : IsWithinProcess core.state
   within = by core.state (done-kind made.done)
     where
-      by : (s : ProcessState) → kind_of s ≡ made.spec.what → IsWithinProcess s
-      by (Runs program s) same = small.programs number made.spec program made.there (sym same)
+      by : (s : ProcessState) → kind_of s ≡ unmirrored made.spec.what → IsWithinProcess s
+      by (Runs program s) same =
+          small.programs number made.spec program made.there (same-pair made.spec.what program same)
       by (Serves sectors s) same = tt
 
   body : length (image_of (listed_items core.state) core.state) ≤ 32767

@@ -8,7 +8,7 @@ use Rattle.tal_tree.specs.declared.act.Act.{Act}
 use Rattle.tal_tree.specs.declared.site.ProcessSpec.{ProcessSpec}
 use Rattle.tal_tree.specs.declared.site.Site.{Site}
 use Rattle.schedule.specs.declared.event.Event.{Event}
-use Rattle.disc_device.specs.declared.stored.Stored.{Stored}
+use Rattle.disc_device.specs.Sectors.{Stored}
 use Rattle.checkpoint_image.specs.declared.message.ImageMessage.{ImageMessage}
 use Rattle.checkpoint_image.specs.declared.message.TakenMessage.{TakenMessage}
 use Rattle.process_semantics.specs.declared.point.Point.TheVariants as point
@@ -28,6 +28,7 @@ use Rattle.world_semantics.specs.Rules.{by_stop, by_mark, stopped_pair, stopped_
 use Rattle.world_semantics.specs.Rules.{pair_at_down}
 use Rattle.world_semantics.specs.Follows.{Follows, runs, cannot_run, enters, cannot_enter, delivers_none, delivers}
 use Rattle.world_semantics.specs.Follows.{delivers_mark, loses, doubles, ticks_none, ticks, ticks_stop, fails}
+use Rattle.world_semantics.specs.Follows.{turns_drive}
 use Rattle.world_semantics.specs.Follows.{cannot_fail, NotesDowns, marks_none, marks_one, Leads, stays, goes_on, IsRun}
 use Rattle.world_semantics.proofs.Beginning.{all-begin}
 use Rattle.world_semantics.proofs.Lists.{set-all, map-all}
@@ -501,6 +502,7 @@ module _ (site : Site) (fit : IsFit site) where
       more-fine (n + 1) (omega arith) (change-fine n w next _ _ few is change)
   follows-fine n w next sendings few is loses = more-fine (n + 1) (omega arith) is
   follows-fine n w next sendings few is doubles = more-fine (n + 1) (omega arith) is
+  follows-fine n w next sendings few is turns_drive = more-fine (n + 1) (omega arith) is
   follows-fine n w next sendings few is ticks_none = more-fine (n + 1) (omega arith) is
   follows-fine n w next sendings few is (ticks running marked) =
       more-fine (n + 1) (omega arith) (marks-fine n few is marked)

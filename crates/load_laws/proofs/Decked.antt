@@ -12,7 +12,7 @@ use Rattle.load_laws.proofs.Readings.{IsRead, each-read}
 use Rattle.load_laws.proofs.Sizes.{load-short}
 
 disc-told : (number : ℕ) → IsProcessOf (disc_lines number) (disc number)
-disc-told number = record { name = refl; primary = refl; backup = refl; what = refl }
+disc-told number = record { name = refl; primary = refl; backup = refl; what = (refl, refl) }
 
 abbrev IsBankOf : ℕ → Type 0
 IsBankOf number = IsProcessOf (bank_lines number) (bank number)

@@ -1,5 +1,5 @@
 -- What the lines of the load deck say.
-use Rattle.std.proofs.Common.{◌≡◌, ◌≤◌, ◌∙◌, ℕ, zero, suc, ◌+◌, ◌*◌, ◌%◌, List, [], ◌++◌, None, refl, ap, codes}
+use Rattle.std.proofs.Common.{◌≡◌, ◌≤◌, ◌∙◌, ℕ, zero, suc, ◌+◌, ◌*◌, ◌%◌, List, [], ◌++◌, None, false, refl, ap, codes}
 use Rattle.std.specs.Fmt.{digits}
 use Rattle.load_deck.specs.LoadText.{heading, bank_text, banks, requests, terminal_text, terminals, schedule, load_text}
 use Rattle.std.proofs.lemmas.List.{append_assoc}
@@ -21,7 +21,7 @@ use Rattle.load_laws.proofs.Sends.{asked_so_far, sent}
 -- the lines of a disc, and of a bank
 abbrev pub disc_lines : ℕ → Named ProcessLines
 disc_lines number =
-    (name_with (codes "D") number, record { primary = 2 * number; backup = 2 * number + 1; body = body.Disc 64 })
+    (name_with (codes "D") number, record { primary = 2 * number; backup = 2 * number + 1; body = body.Disc 64 false })
 
 abbrev pub bank_lines : ℕ → Named ProcessLines
 bank_lines number = (

@@ -89,7 +89,12 @@ bank_program disc sector = record {
 -- the disc of a number and of 64 sectors
 abbrev pub disc : ℕ → ProcessSpec
 disc number =
-    record { name = name_with (codes "D") number; primary = 2 * number; backup = 2 * number + 1; what = kind.Disc 64 }
+    record {
+      name = name_with (codes "D") number;
+      primary = 2 * number;
+      backup = 2 * number + 1;
+      what = kind.Disc 64 false;
+    }
 
 -- the bank of a number
 abbrev pub bank : ℕ → ProcessSpec

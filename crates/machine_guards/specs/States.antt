@@ -1,5 +1,6 @@
 -- States that the guards name.
-use Rattle.std.specs.Prelude.{ℕ, pos, Bool, true, List, [], ◌∷◌, map, codes}
+use Rattle.std.specs.Prelude.{ℕ, pos, Bool, true, false, List, [], ◌∷◌, map, codes}
+use Rattle.machine_states.specs.disc_device.specs.mirror.specs.declared.state.DriveState.{DriveState}
 use Rattle.tal_tree.specs.declared.site.Kind.TheVariants as kind
 use Rattle.tal_tree.specs.declared.site.Site.{Site}
 use Rattle.world_semantics.specs.declared.role.Role.{Role}
@@ -25,8 +26,8 @@ abbrev pub discs : Site
 discs = record {
   processors = 3;
   processes =
-      record { name = codes "$A"; primary = 0; backup = 1; what = kind.Disc 4 }
-      ∷ record { name = codes "$B"; primary = 2; backup = 1; what = kind.Disc 4 } ∷ [];
+      record { name = codes "$A"; primary = 0; backup = 1; what = kind.Disc 4 false }
+      ∷ record { name = codes "$B"; primary = 2; backup = 1; what = kind.Disc 4 false } ∷ [];
   terminals =
       record { name = codes "$T0"; target = 0; requests = (pos 1 ∷ pos 0 ∷ []) ∷ [] }
       ∷ record { name = codes "$T1"; target = 1; requests = (pos 1 ∷ pos 0 ∷ []) ∷ [] }
@@ -35,6 +36,23 @@ discs = record {
 
 abbrev pub discs_at_boot : MachineState
 discs_at_boot = machine_at_boot discs
+
+-- a disc without a mirror in the processors 0 and 1, and one with a mirror in 2 and 1
+abbrev pub mirrors : Site
+mirrors = record {
+  processors = 3;
+  processes =
+      record { name = codes "$A"; primary = 0; backup = 1; what = kind.Disc 4 false }
+      ∷ record { name = codes "$M"; primary = 2; backup = 1; what = kind.Disc 4 true } ∷ [];
+  terminals = [];
+}
+
+abbrev pub mirrors_at_boot : MachineState
+mirrors_at_boot = machine_at_boot mirrors
+
+-- a state in which the drives of each process stand so
+abbrev pub having_drives : List (List DriveState) → MachineState → MachineState
+having_drives drives s = record s { drives = drives }
 
 -- a letter that is owed by a node to a node
 abbrev pub between : ℕ → ℕ → Message → Sent

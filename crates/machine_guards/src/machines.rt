@@ -1,7 +1,8 @@
 ghost use Rattle.std.specs.Prelude.{◌≡◌, ◌≢◌, ◌+◌, ◌++◌, ◌∷◌, [], ℕ, Bool, true, false, Some, None, slice_get};
 ghost use Rattle.machine_states.specs.declared.effect.Effect.{Effect};
-ghost use Rattle.machine_states.specs.declared.effect.Effect.TheVariants.{Done, Skipped, WouldStopSecond};
-ghost use Rattle.machine_states.specs.States.{Makes, Settles, Skips, WouldStop};
+ghost use Rattle.machine_states.specs.declared.effect.Effect.TheVariants.{Done, Skipped};
+ghost use Rattle.machine_states.specs.declared.effect.Effect.TheVariants.{WouldLoseDisc, WouldStopSecond};
+ghost use Rattle.machine_states.specs.States.{DiscLoss, Makes, SecondStop, Settles, Skips, Would};
 ghost use Rattle.schedule.specs.declared.event.Event.TheVariants.{Fail, Lose};
 ghost use Rattle.computed_changes.specs.Stopped.{down_done, stopped_world};
 ghost use Rattle.message_wires.specs.Play.{MachineState, has_stopped, play};
@@ -19,8 +20,11 @@ pub fn an_answer_is_that_of_what_is_played()
     ensures skipped { (before after : MachineState) (answer : Effect)
         → Settles {Wires = Wires} Skips before answer after → (answer ≡ Skipped) × (after ≡ before) }
     ensures second { (processor : ℕ) (before after : MachineState) (answer : Effect)
-        → Settles {Wires = Wires} (WouldStop processor) before answer after
+        → Settles {Wires = Wires} (Would (SecondStop processor)) before answer after
         → (answer ≡ WouldStopSecond processor) × (after ≡ before) }
+    ensures lost { (process : ℕ) (before after : MachineState) (answer : Effect)
+        → Settles {Wires = Wires} (Would (DiscLoss process)) before answer after
+        → (answer ≡ WouldLoseDisc process) × (after ≡ before) }
 {}
 
 /// The first stop is done, each process of the site is told of it, and the copies in that processor are gone, and no
@@ -45,7 +49,7 @@ pub fn nothing_is_marked_before_it_stops()
 /// Where none has stopped no second processor would.
 pub fn a_second_stop_needs_a_first()
     ensures { (s : MachineState) (processor other : ℕ) → has_stopped s.world.stopped ≡ false
-        → play s (Fail processor) ≢ WouldStop other }
+        → play s (Fail processor) ≢ Would (SecondStop other) }
 {}
 
 /// What is sent is owed and goes to the end of the bus, and what is lost is taken off the bus and stays owed.

@@ -1,1 +1,3 @@
+pub mod Drives
 pub mod States
+pub use Rattle.disc_device

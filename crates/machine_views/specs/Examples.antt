@@ -3,8 +3,7 @@
 use Rattle.std.specs.Prelude.{ℕ, ℤ, pos, List, [], ◌∷◌, codes, replicate, Option, None}
 use Rattle.tal_tree.specs.declared.site.Kind.TheVariants as kind
 use Rattle.tal_tree.specs.declared.site.ProcessSpec.{ProcessSpec}
-use Rattle.disc_device.specs.declared.stored.Stored.{Stored}
-use Rattle.disc_device.specs.Sectors.{blank}
+use Rattle.disc_device.specs.Sectors.{Stored, blank}
 use Rattle.process_semantics.specs.Disc.{disc_start}
 use Rattle.process_semantics.specs.Process.{Serves}
 use Rattle.world_semantics.specs.Core.{Core}

@@ -4,7 +4,7 @@ use Rattle.schedule.specs.declared.event.Event.{Event}
 use Rattle.schedule.specs.declared.event.Event.TheVariants as event
 use Rattle.computed_changes.specs.world_semantics.specs.Examples.{adder_for, delivery, run}
 use Rattle.computed_changes.specs.world_semantics.specs.Messages.{Message, Asking, Replying, Checkpointing, Taking}
-use Rattle.machine_states.specs.States.{Played, Makes, Skips, WouldStop}
+use Rattle.machine_states.specs.States.{Played, Makes, Skips, Would}
 use Rattle.message_wires.specs.Wires.{Sent, Wires}
 use Rattle.message_wires.specs.Play.{MachineState, machine_at_boot, play}
 
@@ -33,7 +33,7 @@ sight one = record { sender = one.letter.sender; receiver = one.letter.receiver;
 abbrev pub state_after : Played Wires → MachineState → MachineState
 state_after (Makes next) s = next
 state_after Skips s = s
-state_after (WouldStop processor) s = s
+state_after (Would harm) s = s
 
 abbrev pub end_of : MachineState → List Event → MachineState
 end_of s [] = s

@@ -4,7 +4,7 @@ use Rattle.std.specs.Prelude.{slice_get, Option, Some, None}
 use Rattle.std.specs.List.{list_any}
 use Rattle.tal_tree.specs.declared.site.Site.{Site}
 use Rattle.schedule.specs.declared.event.Event.{Event}
-use Rattle.schedule.specs.declared.event.Event.TheVariants.{Run, Enter, Deliver, Lose, Repeat, Tick, Fail}
+use Rattle.schedule.specs.declared.event.Event.TheVariants.{Run, Enter, Deliver, Lose, Repeat, Tick, Fail, Drive}
 use Rattle.computed_changes.specs.world_semantics.specs.World.{boot, is_running, has_noted}
 use Rattle.computed_changes.specs.world_semantics.specs.Running.{Done, run_done}
 use Rattle.computed_changes.specs.Entered.{enter_done}
@@ -12,7 +12,8 @@ use Rattle.computed_changes.specs.Handed.{handed_done}
 use Rattle.computed_changes.specs.Stopped.{stop_done, down_done}
 use Rattle.letters.specs.Routes.{Letter, letters_of}
 use Rattle.letters.specs.Again.{sent_again}
-use Rattle.machine_states.specs.States.{State, Played, Makes, Skips, WouldStop}
+use Rattle.machine_states.specs.Drives.{drives_at_boot}
+use Rattle.machine_states.specs.States.{State, Played, Makes, Skips, Would, SecondStop, drive_played}
 use Rattle.message_wires.specs.Wires.{Sent, Wires, wires_at_boot, wires_after_posts, paid, paid_between, without_packet}
 use Rattle.message_wires.specs.Wires.{repeated_packet, wires_again}
 
@@ -21,7 +22,8 @@ abbrev pub MachineState : Type 0
 MachineState = State Wires
 
 abbrev pub machine_at_boot : Site → MachineState
-machine_at_boot site = record { site = site; world = boot site; wires = wires_at_boot }
+machine_at_boot site =
+    record { site = site; world = boot site; wires = wires_at_boot; drives = drives_at_boot site }
 
 -- Changes of the world
 
@@ -77,7 +79,7 @@ has_stopped stopped = list_any (λ one. one) stopped
 abbrev pub fail_played : ℕ → MachineState → Option Done → Played Wires
 fail_played processor s None = Skips
 fail_played processor s (Some done) =
-    if has_stopped s.world.stopped then WouldStop processor else Makes (after_done s done)
+    if has_stopped s.world.stopped then Would (SecondStop processor) else Makes (after_done s done)
 
 -- the state after a node marked a processor: what was owed between both is so no more, and what the mark sends and
 -- sends again is posted
@@ -125,3 +127,4 @@ play s (Lose y k) = lose_played k s (packet_at s y k)
 play s (Repeat y k) = repeat_played s (packet_at s y k)
 play s (Tick node) = tick_played node s
 play s (Fail processor) = fail_played processor s (stop_done processor s.world)
+play s (Drive event) = drive_played event s

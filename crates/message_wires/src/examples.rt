@@ -4,7 +4,7 @@ ghost use Rattle.schedule.specs.declared.event.Event.TheVariants as event;
 ghost use Rattle.tal_tree.specs.declared.act.Act.TheVariants as act;
 ghost use Rattle.tal_tree.specs.declared.act.Shown.TheVariants.{Reply};
 ghost use Rattle.computed_changes.specs.world_semantics.specs.Examples.{delivery, reply, run};
-ghost use Rattle.machine_states.specs.States.{Skips, WouldStop};
+ghost use Rattle.machine_states.specs.States.{Skips, Would, SecondStop};
 ghost use Rattle.message_wires.specs.Idle.{is_idle};
 ghost use Rattle.message_wires.specs.Play.{play};
 ghost use Rattle.message_wires.specs.Tiers.{after_rounds, before_stop, in_hand, stopped_after};
@@ -75,5 +75,5 @@ pub fn a_stopped_processor_does_nothing()
         (event.Enter 0 ∷ event.Fail 0 ∷ delivery ∷ event.Tick 0 ∷ event.Tick 16 ∷ [])
         ≡ (asks 0 ∷ []) ∷ (asks 0 ∷ []) ∷ [] ∷ [] ∷ (asks 1 ∷ []) ∷ [] }
     ensures ticks { play (end_of adder_at_boot (event.Fail 0 ∷ [])) (event.Tick 0) ≡ Skips }
-    ensures stops { play (end_of adder_at_boot (event.Fail 0 ∷ [])) (event.Fail 1) ≡ WouldStop 1 }
+    ensures stops { play (end_of adder_at_boot (event.Fail 0 ∷ [])) (event.Fail 1) ≡ Would (SecondStop 1) }
 {}

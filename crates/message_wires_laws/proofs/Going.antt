@@ -3,25 +3,26 @@ use Rattle.std.proofs.Common.{◌≡◌, ℕ, zero, suc, ◌+◌, Bool, true, fa
 use Rattle.std.proofs.Common.{replicate, Option, Some, None, slice_get, slice_set, refl, sym, subst, ◌∙◌}
 use Rattle.tal_tree.specs.declared.site.Site.{Site}
 use Rattle.schedule.specs.declared.event.Event.{Event}
-use Rattle.schedule.specs.declared.event.Event.TheVariants.{Run, Enter, Deliver, Lose, Repeat, Tick, Fail}
+use Rattle.schedule.specs.declared.event.Event.TheVariants.{Run, Enter, Deliver, Lose, Repeat, Tick, Fail, Drive}
 use Rattle.world_semantics.specs.Running.{Done, run_done}
 use Rattle.world_semantics.specs.World.{boot, is_running}
 use Rattle.world_semantics.proofs.Lists.{Changed, is_new, is_same, changed}
 use Rattle.computed_changes.specs.Entered.{enter_done}
 use Rattle.computed_changes.specs.Stopped.{down_done, stopped_world, stop_where, stop_done}
 use Rattle.letters.specs.Idle.{OneStops}
-use Rattle.machine_states.specs.States.{Played, Makes, Skips, WouldStop}
+use Rattle.machine_states.specs.States.{Played, Makes, Skips, Would, SecondStop, DiscLoss, Harm}
 use Rattle.message_wires.specs.Wires.{Sent, Wires, paid, without_packet}
 use Rattle.message_wires.specs.Play.{MachineState, after_done, made_by, after_any, state_after_handing, comes_in}
 use Rattle.message_wires.specs.Play.{deliver_played, lose_played, repeat_played, has_stopped, fail_played, noted_by}
 use Rattle.message_wires.specs.Play.{notes_from, state_after_tick, tick_played, packet_at, play}
 use Rattle.message_wires.specs.Runs.{IsPlayed, played_none, played_more, skipped}
 use Rattle.message_wires_laws.proofs.Stopping.{StopsNone, run-none, enter-none, handed-none, mark-none}
+use Rattle.machine_states.proofs.Turning.{drive-cases}
 
 -- what an event makes of a state: no processor stops; or the first one that stops does
 pub data Goes (s : MachineState) : Played Wires → Type 0 where
   skips : Goes s Skips
-  would_stop : (processor : ℕ) → Goes s (WouldStop processor)
+  would_harm : (harm : Harm) → Goes s (Would harm)
   stops_none : {next : MachineState} → next.site ≡ s.site → next.world.stopped ≡ s.world.stopped → Goes s (Makes next)
   stops_one : {next : MachineState} (processor : ℕ) → next.site ≡ s.site → has_stopped s.world.stopped ≡ false
       → next.world.stopped ≡ slice_set s.world.stopped processor true
@@ -50,9 +51,9 @@ fail-goes : (processor : ℕ) (s : MachineState) → Goes s (fail_played process
 fail-goes processor s = by (slice_get s.world.stopped processor)
   where
     first : (test : Bool) → has_stopped s.world.stopped ≡ test
-        → Goes s (if test then WouldStop processor else Makes
+        → Goes s (if test then Would (SecondStop processor) else Makes
         (after_done s (record { world = stopped_world processor s.world; sendings = [] })))
-    first true e = would_stop processor
+    first true e = would_harm (SecondStop processor)
     first false e = stops_one processor refl e refl
 
     by : (stopped : Option Bool) → Goes s (fail_played processor s (stop_where processor s.world stopped))
@@ -100,6 +101,8 @@ play-goes s (Repeat y k) = by (packet_at s y k)
     by (Some packet) = stops_none refl refl
 play-goes s (Tick node) = tick-goes node s
 play-goes s (Fail processor) = fail-goes processor s
+play-goes s (Drive event) =
+    drive-cases event s (Goes s) (λ drives. stops_none refl refl) skips (λ process. would_harm (DiscLoss process))
 
 -- Runs
 
@@ -111,11 +114,11 @@ played-site {site = site} (played_more {s = s} {next = next} event before e) =
     OfSite : Played Wires → Type 0
     OfSite (Makes next) = next.site ≡ site
     OfSite Skips = Unit {0}
-    OfSite (WouldStop processor) = Unit {0}
+    OfSite (Would harm) = Unit {0}
 
     by : (played : Played Wires) → Goes s played → s.site ≡ site → OfSite played
     by Skips skips was = tt
-    by (WouldStop _) (would_stop processor) was = tt
+    by (Would _) (would_harm harm) was = tt
     by (Makes made) (stops_none same none) was = same ∙ was
     by (Makes made) (stops_one processor same first one) was = same ∙ was
 played-site (skipped event before e) = played-site before
@@ -147,11 +150,11 @@ played-one (played_more {s = s} {next = next} event before e) =
     IsOne : Played Wires → Type 0
     IsOne (Makes next) = OneStops next.world
     IsOne Skips = Unit {0}
-    IsOne (WouldStop processor) = Unit {0}
+    IsOne (Would harm) = Unit {0}
 
     by : (played : Played Wires) → Goes s played → OneStops s.world → IsOne played
     by Skips skips was = tt
-    by (WouldStop _) (would_stop processor) was = tt
+    by (Would _) (would_harm harm) was = tt
     by (Makes made) (stops_none same none) was = rw none was
     by (Makes made) (stops_one processor same first one) was =
         rw one (λ a b at there. sym (first-stopped s.world.stopped processor a first at)

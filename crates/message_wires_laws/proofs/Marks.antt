@@ -6,7 +6,7 @@ use Rattle.std.proofs.lemmas.Option.{slice_get_within}
 use Rattle.schedule.specs.declared.event.Event.TheVariants.{Tick}
 use Rattle.world_semantics.specs.World.{is_running, has_noted}
 use Rattle.computed_changes.specs.Stopped.{may_note, world_at_down, marked_where, mark_where, down_done}
-use Rattle.machine_states.specs.States.{Played, Makes, Skips, WouldStop}
+use Rattle.machine_states.specs.States.{Played, Makes, Skips, Would}
 use Rattle.message_wires.specs.Wires.{Wires}
 use Rattle.message_wires.specs.Play.{MachineState, noted_by, notes_from, state_after_tick, play}
 use Rattle.message_wires_laws.proofs.Going.{marks-none}
@@ -86,7 +86,7 @@ tick-marks s next node processor e = subst Marks e (by (is_running s.world.stopp
     Marks (Makes next) =
         slice_get next.world.stopped processor ≡ Some true → has_noted next.world.marks node processor ≡ true
     Marks Skips = Unit {0}
-    Marks (WouldStop other) = Unit {0}
+    Marks (Would harm) = Unit {0}
 
     by : (test : Bool) → is_running s.world.stopped node ≡ test
         → Marks (if test then Makes (state_after_tick node (notes_from node 0 (length s.world.stopped) s)) else Skips)

@@ -4,7 +4,7 @@ use Rattle.std.proofs.Common.{length, Option, Some, None, slice_get, refl, sym, 
 use Rattle.gd_words.specs.Members.{IsAmong}
 use Rattle.gd_words.proofs.Among.{among-at}
 use Rattle.schedule.specs.declared.event.Event.{Event}
-use Rattle.schedule.specs.declared.event.Event.TheVariants.{Run, Enter, Deliver, Lose, Repeat, Tick, Fail}
+use Rattle.schedule.specs.declared.event.Event.TheVariants.{Run, Enter, Deliver, Lose, Repeat, Tick, Fail, Drive}
 use Rattle.world_semantics.specs.World.{is_running}
 use Rattle.world_semantics.specs.Messages.{Entering, Handing, Stopping}
 use Rattle.world_semantics.specs.Rules.{Change}
@@ -25,8 +25,9 @@ use Rattle.letters.specs.Again.{sent_again}
 use Rattle.letters.specs.Posts.{HasPlayed, after_change, played_more, PlaysEvent, plays_run, plays_no_run, plays_enter}
 use Rattle.letters.specs.Posts.{plays_no_enter, plays_nothing, plays_hand, plays_drop, plays_again, plays_loss}
 use Rattle.letters.specs.Posts.{plays_repeat, plays_no_tick, plays_tick, plays_fail, plays_no_fail, NotesLetters}
+use Rattle.letters.specs.Posts.{plays_drive}
 use Rattle.letters.specs.Posts.{no_mark, one_mark, IsTaken}
-use Rattle.machine_states.specs.States.{Played, Makes, Skips, WouldStop}
+use Rattle.machine_states.specs.States.{Played, Makes, Skips, Would, SecondStop}
 use Rattle.message_wires.specs.Wires.{Sent, Wires, without_number, paid, without_packet, repeated_packet}
 use Rattle.message_wires.specs.Play.{MachineState, after_done, made_by, after_any, state_after_handing, comes_in}
 use Rattle.message_wires.specs.Play.{deliver_played, lose_played, repeat_played, has_stopped, fail_played, after_noted}
@@ -36,12 +37,14 @@ use Rattle.message_wires_laws.specs.Carried.{AreTidy, IsCarried}
 use Rattle.message_wires_laws.proofs.Tidy.{without-tidy, repeated-tidy, again-tidy, paid-tidy, Pays, was_owed, was_paid}
 use Rattle.message_wires_laws.proofs.Tidy.{pays}
 use Rattle.message_wires_laws.proofs.Posting.{Carries, posted-on, posted-between}
+use Rattle.machine_states.proofs.Turning.{drive-cases}
+use Rattle.schedule.specs.declared.event.DriveEvent.{DriveEvent}
 
 -- what an event makes of a state is carried as well
 abbrev pub GoesOn : List Event → MachineState → List Letter → Played Wires → Type 0
 GoesOn events s sent (Makes next) = Carries events next
 GoesOn events s sent Skips = IsCarried events s sent
-GoesOn events s sent (WouldStop processor) = Unit {0}
+GoesOn events s sent (Would harm) = Unit {0}
 
 -- a state that is carried after these events: each letter that was sent carries a message that was, and where one that
 -- comes changes nothing no change is possible
@@ -128,7 +131,7 @@ module _ (events : List Event) (s : MachineState) (sent : List Letter) (carried 
 
       stops : (done : Done) → Change s.site s.world (Stopping processor) [] done.world → (test : Bool)
           → GoesOn (events ++ Fail processor ∷ []) s sent
-          (if test then WouldStop processor else Makes (record s { world = done.world }))
+          (if test then Would (SecondStop processor) else Makes (record s { world = done.world }))
       stops done change true = tt
       stops done change false =
           (sent, record { played = played_more carried.played (plays_fail change); tidy = carried.tidy })
@@ -142,6 +145,12 @@ module _ (events : List Event) (s : MachineState) (sent : List Letter) (carried 
           (rw e refl)) (has_stopped s.world.stopped)
       by (Some true) e = skips (Fail processor) (plays_no_fail (idle (rw e refl)))
       by None e = skips (Fail processor) (plays_no_fail (idle (rw e refl)))
+
+  drive-on : (event : DriveEvent) → GoesOn (events ++ Drive event ∷ []) s sent (play s (Drive event))
+  drive-on event =
+      drive-cases event s (GoesOn (events ++ Drive event ∷ []) s sent)
+      (λ drives. (sent, record { played = played_more carried.played plays_drive; tidy = carried.tidy }))
+      (skips (Drive event) plays_drive) (λ process. tt)
 
   -- Deliveries
 
@@ -273,3 +282,4 @@ plays-on events s sent carried honest only (Lose y k) = lose-on events s sent ca
 plays-on events s sent carried honest only (Repeat y k) = repeat-on events s sent carried honest only y k
 plays-on events s sent carried honest only (Tick node) = tick-on events s sent carried node
 plays-on events s sent carried honest only (Fail processor) = fail-on events s sent carried honest only processor
+plays-on events s sent carried honest only (Drive event) = drive-on events s sent carried honest only event

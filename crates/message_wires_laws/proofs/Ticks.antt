@@ -6,7 +6,7 @@ use Rattle.std.proofs.lemmas.List.Folds.{list_any-append}
 use Rattle.gd_words.specs.Members.{IsAmong}
 use Rattle.schedule.specs.declared.event.Event.TheVariants.{Tick}
 use Rattle.world_semantics.specs.World.{is_running}
-use Rattle.machine_states.specs.States.{Played, Makes, Skips, WouldStop}
+use Rattle.machine_states.specs.States.{Played, Makes, Skips, Would}
 use Rattle.message_wires.specs.Wires.{Sent, Wires, has_room, put_on, is_of, is_on, is_due, put_again}
 use Rattle.message_wires.specs.Play.{MachineState, notes_from, state_after_tick, play}
 
@@ -82,7 +82,7 @@ tick-again s next node one e = subst Again e (by (is_running s.world.stopped nod
         IsAmong one next.wires.owed → one.letter.sender ≡ node
         → is_running next.world.stopped one.letter.receiver ≡ true → IsOnUnlessFull next.wires.bus one.number
     Again Skips = Unit {0}
-    Again (WouldStop processor) = Unit {0}
+    Again (Would harm) = Unit {0}
 
     by : (test : Bool) → Again (if test then Makes
         (state_after_tick node (notes_from node 0 (length s.world.stopped) s)) else Skips)

@@ -51,7 +51,8 @@ part-written all sectors (Reviving mark) sector stored there same has = by (nat_
     }
 
 -- a write leaves the state of a drive
-state-written : (sector : ℕ) (stored : Stored) (held : DriveHeld) → (after_write sector stored held).state ≡ held.state
+pub state-written : (sector : ℕ) (stored : Stored) (held : DriveHeld)
+    → (after_write sector stored held).state ≡ held.state
 state-written sector stored held = by (takes_write sector held.state)
   where
     by : (b : Bool) → (if b then record held { sectors = slice_set held.sectors sector stored } else held).state
@@ -211,7 +212,7 @@ part-copied all sectors mark same has =
         let apart : mark + 1 ≡ length sectors → ⊥ = eqb-false (mark + 1) (length sectors) is in
         (omega (arith, apart, same, has.0), more)
 
-part-at : (all : List Stored) (drives : List DriveHeld) (drive : ℕ) (held : DriveHeld)
+pub part-at : (all : List Stored) (drives : List DriveHeld) (drive : ℕ) (held : DriveHeld)
     → slice_get drives drive ≡ Some held → All (Mirrors all) drives → Mirrors all held
 part-at all drives drive held at parts =
     subst (Mirrors all) (get_or_from_slice_get drives drive held held at)

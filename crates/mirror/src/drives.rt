@@ -100,6 +100,20 @@ impl<D: Drive> Drives<D> {
         self.half(drive).state()
     }
 
+    /// How the drive at a place stands; one that isn't there has failed.
+    pub fn standing(&self, drive: u8) -> DriveState
+        ensures { result ≡ state_of self.now drive }
+    {
+        match drive {
+            0 => self.first.state(),
+            1 => match &self.second {
+                None => DriveState::Failed,
+                Some(second) => second.state(),
+            },
+            _ => DriveState::Failed,
+        }
+    }
+
     /// A drive.
     pub fn drive(&self, drive: u8) -> &D
         requires { drive < length self.now }
@@ -192,6 +206,7 @@ impl<D: Drive> Drives<D> {
         ensures told { result ≡ is_reviving (state_of self.old drive) }
         ensures drives { self.new ≡ copied drive self.old }
         ensures content { content self.new ≡ content self.old }
+        ensures mirror { IsMirror self.old }
     {
         let DriveState::Reviving(mark) = self.state(drive) else {
             return false;

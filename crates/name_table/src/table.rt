@@ -1,4 +1,5 @@
-ghost use Rattle.std.specs.Prelude.{◌≡◌, ◌<◌, [], ◌∷◌, ◌++◌, false, length, IfSome, OnErr, OnOk};
+ghost use Rattle.std.specs.Prelude.{◌≡◌, ◌<◌, [], ◌∷◌, ◌++◌, false, length, slice_get, IfSome, OnErr, OnOk};
+ghost use Rattle.std.specs.Option.{option_copied, option_map};
 ghost use Rattle.name_table.specs.Entries.{has_name, place_of};
 
 use gd_words::{Name, NoMemory};
@@ -44,6 +45,14 @@ impl<T> NameTable<T> {
         ensures { result ≡ has_name self.now name.now }
     {
         self.entries.contains_key(name)
+    }
+
+    /// What stands at a place.
+    pub fn at(&self, place: usize) -> Option<&T>
+        ensures { option_copied result ≡ option_map (λ entry. entry.1) (slice_get self.now place) }
+    {
+        let (_name, value) = self.entries.get_index(place)?;
+        Some(value)
     }
 
     /// Where the name stands.

@@ -6,7 +6,7 @@ use Rattle.gd_words.specs.declared.message.Request.{Request}
 use Rattle.tal_tree.specs.declared.site.Site.{Site}
 use Rattle.process_semantics.specs.declared.point.Point.{Point}
 use Rattle.plain_semantics.specs.declared.slot.Opener.{Opener}
-use Rattle.disc_device.specs.declared.stored.Stored.{Stored}
+use Rattle.disc_device.specs.Sectors.{Stored}
 use Rattle.world_semantics.specs.Messages.{sent_at}
 use Rattle.world_semantics.specs.Own.{Around, around_with}
 use Rattle.world_semantics.specs.Running.{Own, copy_acted, own_at, records_acted}

@@ -7,7 +7,10 @@ use Rattle.tal_tree.specs.declared.site.Site.{Site}
 use Rattle.tal_tree.specs.declared.site.Who.TheVariants as who
 use Rattle.plain_semantics.specs.declared.slot.Opener.{Opener}
 use Rattle.plain_semantics.specs.Openers.{files_of, opener_of}
-use Rattle.disc_device.specs.declared.stored.Stored.{Stored}
+use Rattle.disc_device.specs.Sectors.{Stored}
+use Rattle.disc_device.specs.mirror.specs.Mirror.{DriveHeld, content}
+use Rattle.disc_device.specs.mirror.specs.States.{states_of}
+use Rattle.disc_device.specs.mirror.specs.declared.state.DriveState.{DriveState}
 use Rattle.process_control.specs.Copies.{CopyState}
 use Rattle.world_semantics.specs.Shares.{Share}
 use Rattle.world_semantics.specs.World.{Copy}
@@ -48,9 +51,14 @@ control_of one = record {
 }
 
 -- the sectors of a process's device, if it has one
-abbrev pub sectors_on : Option (List Stored) → List Stored
+abbrev pub sectors_on : Option (List DriveHeld) → List Stored
 sectors_on None = []
-sectors_on (Some sectors) = sectors
+sectors_on (Some drives) = content drives
+
+-- how the drives of a process's device stand, if it has one
+abbrev pub drives_on : Option (List DriveHeld) → List DriveState
+drives_on None = []
+drives_on (Some drives) = states_of drives
 
 -- for each file of a process, from a number on, the opener that it is
 abbrev pub file_row : Site → ℕ → ℕ → List FileUse → List (Option Opener)

@@ -1,6 +1,6 @@
 ghost use Rattle.std.specs.Prelude.{◌≡◌, List, length, IfOk, OnOk};
 ghost use Rattle.tal_tree.specs.declared.site.Site.{Site};
-ghost use Rattle.disc_device.specs.declared.stored.Stored.{Stored};
+ghost use Rattle.disc_device.specs.Sectors.{Stored};
 ghost use Rattle.process_semantics.specs.Process.{asked_file, point};
 ghost use Rattle.checkpoint_image.specs.Behaving.{last_write_of};
 ghost use Rattle.process_control.specs.computed_changes.specs.Fitting.{depths_of};
@@ -10,7 +10,7 @@ ghost use Rattle.world_semantics.specs.Core.{next_on};
 ghost use Rattle.world_semantics.specs.Passes.{after_sending, checkpoint_of};
 ghost use Rattle.world_semantics.specs.Running.{copy_passed, records_passed};
 ghost use Rattle.node_copies.specs.Acting.{HasActed, own_in};
-ghost use Rattle.node_copies.specs.Seen.{openers_on, sectors_on};
+ghost use Rattle.node_copies.specs.Seen.{drives_on, openers_on, sectors_on};
 
 use crate::address::Address;
 use crate::device::found_on;
@@ -127,6 +127,7 @@ impl NodeCopy {
             (record { one = self.old; sectors = sectors_on device.old; records = records.old })
             (record { one = self.new; sectors = sectors_on device.new; records = records.new })) }
         ensures depths { self.new.depths ≡ self.old.depths }
+        ensures drives { drives_on device.new ≡ drives_on device.old }
     {
         let call = self.control.device();
         let found = found_on(device, &call);
@@ -156,6 +157,7 @@ impl NodeCopy {
             (record { one = self.old; sectors = sectors_on device.old; records = records.old })
             (record { one = self.new; sectors = sectors_on device.new; records = records.new })) }
         ensures depths { self.new.depths ≡ self.old.depths }
+        ensures drives { drives_on device.new ≡ drives_on device.old }
     {
         match stands {
             Point::Inner => {

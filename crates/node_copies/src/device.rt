@@ -1,7 +1,9 @@
 ghost use Rattle.std.specs.Prelude.{◌≡◌, not};
 ghost use Rattle.disc_device.specs.Sectors.{is_written, stored_after};
 ghost use Rattle.world_semantics.specs.Own.{found_on};
-ghost use Rattle.node_copies.specs.Seen.{sectors_on};
+ghost use Rattle.disc_device.specs.mirror.specs.Mirror.{content};
+ghost use Rattle.disc_device.specs.mirror.specs.States.{states_of};
+ghost use Rattle.node_copies.specs.Seen.{drives_on, sectors_on};
 
 use disc_device::Disc;
 use gd_words::{DeviceCall, Sector};
@@ -26,7 +28,7 @@ fn read_on(device: &Option<Disc>, sector: u8) -> Sector
 }
 
 fn read_disc(disc: &Disc, sector: u8) -> Sector
-    ensures { result ≡ found_on disc.now (DeviceCall.Read sector) }
+    ensures { result ≡ found_on (content disc.now) (DeviceCall.Read sector) }
 {
     if disc.count() <= sector {
         return [0; 8];
@@ -39,6 +41,7 @@ fn read_disc(disc: &Disc, sector: u8) -> Sector
 pub(crate) fn write_on(device: &mut Option<Disc>, sector: u8, words: &Sector, number: u32) -> bool
     ensures sectors { sectors_on device.new ≡ stored_after (sectors_on device.old) sector words.now number }
     ensures new { result ≡ not (is_written (sectors_on device.old) sector number) }
+    ensures drives { drives_on device.new ≡ drives_on device.old }
 {
     match device {
         None => true,
@@ -47,8 +50,9 @@ pub(crate) fn write_on(device: &mut Option<Disc>, sector: u8, words: &Sector, nu
 }
 
 fn write_disc(disc: &mut Disc, sector: u8, words: &Sector, number: u32) -> bool
-    ensures sectors { disc.new ≡ stored_after disc.old sector words.now number }
-    ensures new { result ≡ not (is_written disc.old sector number) }
+    ensures sectors { content disc.new ≡ stored_after (content disc.old) sector words.now number }
+    ensures new { result ≡ not (is_written (content disc.old) sector number) }
+    ensures drives { states_of disc.new ≡ states_of disc.old }
 {
     if disc.count() <= sector {
         return true;

@@ -5,7 +5,7 @@ ghost use Rattle.world_semantics.specs.Messages.{Asking as AskingMessage, Replyi
 ghost use Rattle.world_semantics.specs.Own.{around_with, request_to};
 ghost use Rattle.world_semantics.specs.Running.{after_call};
 ghost use Rattle.node_copies.specs.Acting.{opener_among, requests_in};
-ghost use Rattle.node_copies.specs.Seen.{sectors_on, step_sendings};
+ghost use Rattle.node_copies.specs.Seen.{drives_on, sectors_on, step_sendings};
 
 use crate::address::Address;
 use crate::device::write_on;
@@ -59,6 +59,7 @@ impl Records {
             (after_call process (around_with waiting (sectors_on device.old) self.old) call.now
             ≡ around_with waiting (sectors_on device.new) self.new) }
         ensures kept { OnOk result (self.new.kept ≡ self.old.kept) }
+        ensures drives { drives_on device.new ≡ drives_on device.old }
     {
         match *call {
             DeviceCall::Write {
@@ -87,6 +88,7 @@ impl Records {
             (DeviceCall.Write sector words number)
             ≡ around_with waiting (sectors_on device.new) self.new) }
         ensures kept { OnOk result (self.new.kept ≡ self.old.kept) }
+        ensures drives { drives_on device.new ≡ drives_on device.old }
     {
         if write_on(device, sector, &words, number) {
             self.shown.add(Shown::Write {

@@ -1,6 +1,6 @@
 ghost use Rattle.std.specs.Prelude.{◌≡◌, ℕ, List, is_some};
 ghost use Rattle.tal_tree.specs.declared.site.Site.{Site};
-ghost use Rattle.disc_device.specs.declared.stored.Stored.{Stored};
+ghost use Rattle.disc_device.specs.Sectors.{Stored};
 ghost use Rattle.process_control.specs.computed_changes.specs.Fitting.{depths_of};
 ghost use Rattle.node_copies.specs.Acting.{own_in};
 ghost use Rattle.world_semantics.specs.Records as happened;

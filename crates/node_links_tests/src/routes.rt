@@ -11,7 +11,10 @@ fn disc(text: &[u8], primary: u8, backup: u8) -> Result<ProcessSpec, &'static st
         name: Name::read(text).ok_or("no name")?,
         primary,
         backup,
-        what: Kind::Disc { sectors: 1 },
+        what: Kind::Disc {
+            sectors: 1,
+            mirrored: false,
+        },
     })
 }
 

@@ -1,7 +1,7 @@
 -- A run with notes is a run without them.
 use Rattle.std.proofs.Common.{◌≡◌, ℕ, Bool, List, Option, inl, inr, refl, ap, sym, ◌∙◌}
 use Rattle.agendas.specs.Agendas.{Agenda}
-use Rattle.machine_states.specs.States.{Makes, Played, Skips, WouldStop}
+use Rattle.machine_states.specs.States.{Harm, Makes, Played, Skips, Would, SecondStop, DiscLoss}
 use Rattle.packet_runs.specs.Runs.{course_on, packet_rules}
 use Rattle.packet_runs.specs.site_machine.specs.Needs.{IsReady}
 use Rattle.packet_runs.specs.site_machine.specs.packet_wires.specs.Play.{Packeted, play}
@@ -10,11 +10,11 @@ use Rattle.player.specs.declared.standing.Sizes.{Sizes}
 use Rattle.player.specs.declared.stop.ProcessorStop.{ProcessorStop}
 use Rattle.schedule.specs.declared.event.Event.{Event}
 use Rattle.schedule.specs.declared.line.Line.{Line}
-use Rattle.schedule_loop.specs.Ends.{CanBePlayed, EndsBy, IsRunOn, RunsOutBy, RunsToStopBy}
+use Rattle.schedule_loop.specs.Ends.{CanBePlayed, EndsBy, IsRunOn, RunsOutBy, RunsToHarmBy}
 use Rattle.schedule_loop.specs.Plans.{seen_none, seen_on}
 use Rattle.schedule_loop.specs.Rules.{IsPlayBy, PlaysBy}
 use Rattle.schedule_loop.specs.declared.ran.Ending.{Ending}
-use Rattle.schedule_loop.specs.declared.ran.Ending.TheVariants.{Idle, Cut, Second}
+use Rattle.schedule_loop.specs.declared.ran.Ending.TheVariants.{Idle, Cut, Second, Lost}
 use Rattle.tal_tree.specs.declared.site.Site.{Site}
 use Rattle.noted_rules.specs.Noted.{IsReadyToo, Noted, NotedWires, Noting, noted_by, noted_course, noted_rules, plain}
 
@@ -24,30 +24,30 @@ module _ {Notes : Type 0} (noting : Noting Notes) where
   abbrev plain_made : Packeted → Played (NotedWires Notes) → Packeted
   plain_made other (Makes next) = plain next
   plain_made other Skips = other
-  plain_made other (WouldStop processor) = other
+  plain_made other (Would harm) = other
 
-  abbrev stop_made : ℕ → Played (NotedWires Notes) → ℕ
-  stop_made other (Makes next) = other
-  stop_made other Skips = other
-  stop_made other (WouldStop processor) = processor
+  abbrev harm_made : Harm → Played (NotedWires Notes) → Harm
+  harm_made other (Makes next) = other
+  harm_made other Skips = other
+  harm_made other (Would harm) = harm
 
   makes_plain : (s : Noted Notes) (event : Event) (made : Played Wires) (next : Noted Notes)
       → noted_by noting s event made ≡ Makes next → made ≡ Makes (plain next)
   makes_plain s event (Makes after) next is = ap Makes (ap (plain_made after) is)
   makes_plain s event Skips next is = absurd (cc)
-  makes_plain s event (WouldStop processor) next is = absurd (cc)
+  makes_plain s event (Would harm) next is = absurd (cc)
 
   skips_plain : (s : Noted Notes) (event : Event) (made : Played Wires)
       → noted_by noting s event made ≡ Skips → made ≡ Skips
   skips_plain s event (Makes after) is = absurd (cc)
   skips_plain s event Skips is = refl
-  skips_plain s event (WouldStop processor) is = absurd (cc)
+  skips_plain s event (Would harm) is = absurd (cc)
 
-  stops_plain : (s : Noted Notes) (event : Event) (made : Played Wires) (processor : ℕ)
-      → noted_by noting s event made ≡ WouldStop processor → made ≡ WouldStop processor
-  stops_plain s event (Makes after) processor is = absurd (cc)
-  stops_plain s event Skips processor is = absurd (cc)
-  stops_plain s event (WouldStop other) processor is = ap WouldStop (ap (stop_made other) is)
+  harms_plain : (s : Noted Notes) (event : Event) (made : Played Wires) (harm : Harm)
+      → noted_by noting s event made ≡ Would harm → made ≡ Would harm
+  harms_plain s event (Makes after) harm is = absurd (cc)
+  harms_plain s event Skips harm is = absurd (cc)
+  harms_plain s event (Would other) harm is = ap Would (ap (harm_made other) is)
 
   goes_plain : (s : Noted Notes) (event : Event) (next : Noted Notes) → IsPlayBy (noted_rules noting) s event next
       → IsPlayBy packet_rules (plain s) event (plain next)
@@ -79,15 +79,15 @@ module _ {Notes : Type 0} (noting : Noting Notes) where
         → RunsOutBy packet_rules (course_on site lines stop) events (plain s)
     out_plain events s out = record { agenda = out.agenda; played = plays_plain out.played; over = out.over }
 
-    stop_plain : (events : List Event) (s : Noted Notes) (processor : ℕ)
-        → RunsToStopBy (noted_rules noting) (noted_course notes site lines stop) events s processor
-        → RunsToStopBy packet_rules (course_on site lines stop) events (plain s) processor
-    stop_plain events s processor to = record {
+    harm_plain : (events : List Event) (s : Noted Notes) (harm : Harm)
+        → RunsToHarmBy (noted_rules noting) (noted_course notes site lines stop) events s harm
+        → RunsToHarmBy packet_rules (course_on site lines stop) events (plain s) harm
+    harm_plain events s harm to = record {
       agenda = to.agenda;
       plan = to.plan;
       played = plays_plain to.played;
       comes = to.comes;
-      would = stops_plain s to.plan.event (play (plain s) to.plan.event) processor to.would;
+      would = harms_plain s to.plan.event (play (plain s) to.plan.event) harm to.would;
     }
 
     ends_plain : (events : List Event) (s left : Noted Notes) (asked : ℕ) (ending : Ending)
@@ -96,7 +96,9 @@ module _ {Notes : Type 0} (noting : Noting Notes) where
     ends_plain events s left asked Idle ends = (out_plain events s ends.0, ends.1, ap plain ends.2, ends.3)
     ends_plain events s left asked Cut ends = (out_plain events s ends.0, ends.1, ap plain ends.2, ends.3)
     ends_plain events s left asked (Second processor) ends =
-        (stop_plain events s processor ends.0, ap plain ends.1, ends.2)
+        (harm_plain events s (SecondStop processor) ends.0, ap plain ends.1, ends.2)
+    ends_plain events s left asked (Lost process) ends =
+        (harm_plain events s (DiscLoss process) ends.0, ap plain ends.1, ends.2)
 
     pub run_plain : (is_broken : Bool) (left : Noted Notes) (asked : ℕ) (ending : Ending)
         → IsRunOn (noted_rules noting) (noted_course notes site lines stop) is_broken left asked ending
@@ -117,7 +119,7 @@ module _ {Notes : Type 0} (noting : Noting Notes) where
     abbrev part_made : A → Played (NotedWires Notes) → A
     part_made other (Makes next) = part next.wires.notes
     part_made other Skips = other
-    part_made other (WouldStop processor) = other
+    part_made other (Would harm) = other
 
     makes_part : (s : Noted Notes) (event : Event) (made : Played Wires) (next : Noted Notes)
         → noted_by noting s event made ≡ Makes next → part s.wires.notes ≡ part next.wires.notes
@@ -125,7 +127,7 @@ module _ {Notes : Type 0} (noting : Noting Notes) where
         sym (kept event (plain s) after s.wires.notes)
         ∙ ap (part_made (part s.wires.notes)) is
     makes_part s event Skips next is = absurd (cc)
-    makes_part s event (WouldStop processor) next is = absurd (cc)
+    makes_part s event (Would harm) next is = absurd (cc)
 
     goes_part : (s : Noted Notes) (event : Event) (next : Noted Notes)
         → IsPlayBy (noted_rules noting) s event next → part s.wires.notes ≡ part next.wires.notes
@@ -151,6 +153,9 @@ module _ {Notes : Type 0} (noting : Noting Notes) where
           plays_part ends.0.played
           ∙ ap (λ (one : Noted Notes). part one.wires.notes) (sym ends.2)
       ends_part events s left asked (Second processor) ends =
+          plays_part ends.0.played
+          ∙ ap (λ (one : Noted Notes). part one.wires.notes) (sym ends.1)
+      ends_part events s left asked (Lost process) ends =
           plays_part ends.0.played
           ∙ ap (λ (one : Noted Notes). part one.wires.notes) (sym ends.1)
 

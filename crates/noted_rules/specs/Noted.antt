@@ -1,6 +1,6 @@
 -- The machine over packets of whose events notes are taken, as a schedule is played on it. Our own form.
 use Rattle.std.specs.Prelude.{ℕ, Bool, List, Option}
-use Rattle.machine_states.specs.States.{Makes, Played, Skips, State, WouldStop}
+use Rattle.machine_states.specs.States.{Makes, Played, Skips, State, Would}
 use Rattle.packet_runs.specs.Runs.{counts_of, sizes_of}
 use Rattle.packet_runs.specs.site_machine.specs.Needs.{IsReady}
 use Rattle.packet_runs.specs.site_machine.specs.Seen.{closed_state}
@@ -29,17 +29,17 @@ Noted Notes = State (NotedWires Notes)
 
 -- a state without its notes
 abbrev pub plain : {Notes : Type 0} → Noted Notes → Packeted
-plain s = record { site = s.site; world = s.world; wires = s.wires.wires }
+plain s = record { site = s.site; world = s.world; wires = s.wires.wires; drives = s.drives }
 
 abbrev pub with_notes : {Notes : Type 0} → Notes → Packeted → Noted Notes
 with_notes notes s =
-    record { site = s.site; world = s.world; wires = record { wires = s.wires; notes = notes } }
+    record { site = s.site; world = s.world; wires = record { wires = s.wires; notes = notes }; drives = s.drives }
 
 abbrev pub noted_by : {Notes : Type 0} → Noting Notes → Noted Notes → Event → Played Wires
     → Played (NotedWires Notes)
 noted_by noting s event (Makes next) = Makes (with_notes (noting event (plain s) next s.wires.notes) next)
 noted_by noting s event Skips = Skips
-noted_by noting s event (WouldStop processor) = WouldStop processor
+noted_by noting s event (Would harm) = Would harm
 
 -- an event makes what it makes without the notes
 abbrev pub noted_play : {Notes : Type 0} → Noting Notes → Noted Notes → Event → Played (NotedWires Notes)

@@ -1,2 +1,3 @@
 mod Booted
 mod Nothing
+mod Settled

@@ -73,7 +73,7 @@ ended_at (Some s) = has_ended (point s)
 
 -- the step with which a process of a kind ended that stood so; a disc never ends
 abbrev pub end_of_kind : Kind → Stood → Option LastStep
-end_of_kind (kind.Disc sectors) stood = None
+end_of_kind (kind.Disc sectors mirrored) stood = None
 end_of_kind (kind.Pair program) stood = Some (end_of_program program stood.words stood.in_hand)
 
 abbrev pub end_of_spec : Option ProcessSpec → Option Stood → Option LastStep
@@ -113,6 +113,7 @@ stepped (event.Lose y k) = None
 stepped (event.Repeat y k) = None
 stepped (event.Tick node) = None
 stepped (event.Fail processor) = None
+stepped (event.Drive one) = None
 
 abbrev pub ends_of_step : Option ℕ → World → World → Ends → Ends
 ends_of_step None before after ends = ends

@@ -66,6 +66,7 @@ impl<'a> NotedPackets<'a> {
             }
             Effect::Skipped => Ok(Effect::Skipped),
             Effect::WouldStopSecond(processor) => Ok(Effect::WouldStopSecond(processor)),
+            Effect::WouldLoseDisc(disc) => Ok(Effect::WouldLoseDisc(disc)),
         }
     }
 
@@ -171,6 +172,7 @@ fn stepped(event: Event) -> Option<u8>
         Event::Repeat { y: _, k: _ } => None,
         Event::Tick(_) => None,
         Event::Fail(_) => None,
+        Event::Drive(_) => None,
     }
 }
 

@@ -133,7 +133,7 @@ fn end_of_kind(alloc: Global, what: &Kind, stood: &Stood) -> Result<Option<LastS
     ensures { IfOk result (λ step. step ≡ end_of_kind what.now stood.now) }
 {
     match what {
-        Kind::Disc { sectors: _ } => Ok(None),
+        Kind::Disc { .. } => Ok(None),
         Kind::Pair(program) => end_of_stood(alloc, program, stood),
     }
 }

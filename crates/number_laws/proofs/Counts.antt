@@ -9,7 +9,7 @@ use Rattle.tal_tree.specs.declared.site.ProcessSpec.{ProcessSpec}
 use Rattle.tal_tree.specs.declared.site.Site.{Site}
 use Rattle.tal_tree.specs.declared.site.TerminalSpec.{TerminalSpec}
 use Rattle.schedule.specs.declared.event.Event.{Event}
-use Rattle.schedule.specs.declared.event.Event.TheVariants.{Run, Enter, Deliver, Lose, Repeat, Tick, Fail}
+use Rattle.schedule.specs.declared.event.Event.TheVariants.{Run, Enter, Deliver, Lose, Repeat, Tick, Fail, Drive}
 use Rattle.world_semantics.specs.Rules.{pair_at_down}
 use Rattle.world_semantics.specs.Running.{Done}
 use Rattle.world_semantics.specs.World.{World, has_noted, is_running, pairs_at_boot, runs_by, terminal_node}
@@ -18,7 +18,7 @@ use Rattle.computed_changes.specs.Handed.{handed_done}
 use Rattle.computed_changes.specs.Stopped.{world_at_down, may_note, marked_where, mark_where, down_done}
 use Rattle.letters.specs.Routes.{Letter, letters_of}
 use Rattle.letters.specs.Again.{sent_again}
-use Rattle.machine_states.specs.States.{Played, Makes, Skips, WouldStop}
+use Rattle.machine_states.specs.States.{Played, Makes, Skips, Would, SecondStop}
 use Rattle.message_wires.specs.Wires.{Sent, Wires, wires_after_post, wires_after_posts, paid, paid_between}
 use Rattle.message_wires.specs.Wires.{without_packet}
 use Rattle.message_wires.specs.Play.{MachineState, machine_at_boot, after_done, made_by, after_any, state_after_handing}
@@ -31,6 +31,7 @@ use Rattle.number_laws.proofs.Unmarked.{left_marks, left-less, left-most}
 use Rattle.number_laws.proofs.Letters.{letters-few, mark-few}
 use Rattle.number_laws.proofs.Marks.{mark-within}
 use Rattle.number_laws.proofs.Played.{WholeWithin, kinds_of, later, marked-within, played-within}
+use Rattle.machine_states.proofs.Turning.{drive-cases}
 
 posted-count : (letters : List Letter) (wires : Wires)
     → (wires_after_posts letters wires).count ≡ wires.count + length letters
@@ -68,7 +69,7 @@ record Counted (n : ℕ) (s : MachineState) : Type 0 where
 abbrev CountedPlayed : ℕ → Played Wires → Type 0
 CountedPlayed n (Makes next) = Counted n next
 CountedPlayed n Skips = Unit {0}
-CountedPlayed n (WouldStop processor) = Unit {0}
+CountedPlayed n (Would harm) = Unit {0}
 
 counted-more : (n : ℕ) (s : MachineState) → Counted n s → Counted (n + 1) s
 counted-more n s is = record { small = is.small; count = let low = is.count in omega (arith, low) }
@@ -137,7 +138,8 @@ module _ (n : ℕ) where
   fail-counted processor s None is quiet = tt
   fail-counted processor s (Some done) is quiet = by (has_stopped s.world.stopped)
     where
-      by : (test : Bool) → CountedPlayed (n + 1) (if test then WouldStop processor else Makes (after_done s done))
+      by : (test : Bool) → CountedPlayed (n + 1) (if test then Would (SecondStop processor)
+          else Makes (after_done s done))
       by true = tt
       by false = done-counted s done is quiet
 
@@ -245,6 +247,10 @@ module _ (n : ℕ) (kinds : ℕ → Bool) (low : n < 4294967295) (s : MachineSta
   play-counted (Tick node) =
       tick-counted (n + 1) kinds (omega (arith, low)) node s (later n kinds low s within) (counted-more n s is)
   play-counted (Fail processor) = fail-counted n processor s _ is (stop-quiet s.site s.world processor)
+  play-counted (Drive event) =
+      let more = counted-more n s is in
+      drive-cases event s (CountedPlayed (n + 1)) (λ drives. record { small = more.small; count = more.count }) tt
+      (λ process. tt)
 
 boot-length : (site : Site) (from : ℕ) (specs : List ProcessSpec)
     → length (pairs_at_boot site from specs) ≡ length specs

@@ -10,7 +10,7 @@ use Rattle.tal_tree.specs.declared.site.Kind.{Kind}
 use Rattle.tal_tree.specs.declared.site.Kind.TheVariants as kind
 use Rattle.tal_tree.specs.declared.site.TerminalSpec.{TerminalSpec}
 use Rattle.schedule.specs.declared.event.Event.{Event}
-use Rattle.schedule.specs.declared.event.Event.TheVariants.{Run, Enter, Deliver, Lose, Repeat, Tick, Fail}
+use Rattle.schedule.specs.declared.event.Event.TheVariants.{Run, Enter, Deliver, Lose, Repeat, Tick, Fail, Drive}
 use Rattle.process_semantics.specs.Process.{start_of}
 use Rattle.plain_semantics.specs.Openers.{files_of, openers_of}
 use Rattle.checkpoint_image.specs.declared.receive.OpenerBlock.{OpenerBlock}
@@ -25,7 +25,7 @@ use Rattle.world_semantics.proofs.Beginning.{all-begin}
 use Rattle.computed_changes.specs.Stopped.{down_done}
 use Rattle.letters.specs.Routes.{Letter, receiver_of, letters_of}
 use Rattle.letters.specs.Again.{sent_again}
-use Rattle.machine_states.specs.States.{Played, Makes, Skips, WouldStop}
+use Rattle.machine_states.specs.States.{Played, Makes, Skips, Would, SecondStop}
 use Rattle.message_wires.specs.Wires.{Sent, Wires, has_room, put_on, wires_after_post, wires_after_posts, is_of}
 use Rattle.message_wires.specs.Wires.{without_number, paid, without_packet, is_due, put_again}
 use Rattle.message_wires.specs.Play.{MachineState, machine_at_boot, after_done, made_by, after_any, state_after_handing}
@@ -42,6 +42,7 @@ use Rattle.number_laws.proofs.Within.{world-more, held_in, kept_in}
 use Rattle.number_laws.proofs.Runs.{run-within}
 use Rattle.number_laws.proofs.Hands.{handed-within, enter-within}
 use Rattle.number_laws.proofs.Marks.{stop-within, mark-within, again-within}
+use Rattle.machine_states.proofs.Turning.{drive-cases}
 
 -- Wires
 
@@ -108,7 +109,7 @@ WholeWithin n kinds s = WorldWithin n kinds s.world × WiresWithin n kinds s.wir
 abbrev PlayedWithin : ℕ → (ℕ → Bool) → Played Wires → Type 0
 PlayedWithin n kinds (Makes next) = WholeWithin n kinds next
 PlayedWithin n kinds Skips = Unit {0}
-PlayedWithin n kinds (WouldStop processor) = Unit {0}
+PlayedWithin n kinds (Would harm) = Unit {0}
 
 module _ (n : ℕ) (kinds : ℕ → Bool) where
   done-within : (s : MachineState) (done : Done) → WiresWithin n kinds s.wires → DoneWithin n kinds done
@@ -171,7 +172,8 @@ module _ (n : ℕ) (kinds : ℕ → Bool) where
   fail-within processor s None wires is = tt
   fail-within processor s (Some done) wires is = by (has_stopped s.world.stopped)
     where
-      by : (test : Bool) → PlayedWithin n kinds (if test then WouldStop processor else Makes (after_done s done))
+      by : (test : Bool) → PlayedWithin n kinds (if test then Would (SecondStop processor)
+          else Makes (after_done s done))
       by true = tt
       by false = done-within s done wires is
 
@@ -227,6 +229,7 @@ module _ (n : ℕ) (kinds : ℕ → Bool) (low : n < 4294967295) (s : MachineSta
   play-within (Tick node) = tick-within (n + 1) kinds node s later
   play-within (Fail processor) =
       fail-within (n + 1) kinds processor s _ later.1 (stop-within (n + 1) kinds s.world later.0 processor)
+  play-within (Drive event) = drive-cases event s (PlayedWithin (n + 1) kinds) (λ drives. later) tt (λ process. tt)
 
 -- The beginning
 
@@ -239,7 +242,7 @@ abbrev pub kinds_of : Site → ℕ → Bool
 kinds_of site number = serves_at (slice_get (pairs_at_boot site 0 site.processes) number)
 
 first-write : (what : Kind) → last_write_of (start_of what) ≤ 0
-first-write (kind.Disc sectors) = omega arith
+first-write (kind.Disc sectors mirrored) = omega arith
 first-write (kind.Pair program) = omega arith
 
 none-kept : (openers : List OpenerSpec) → kept_in (map (λ opener. record { taken = 0; kept = [] }) openers) ≡ 0

@@ -6,7 +6,7 @@ use Rattle.gd_words.specs.Members.{IsAmong}
 use Rattle.gd_words.specs.declared.message.Request.{Request}
 use Rattle.tal_tree.specs.declared.site.Site.{Site}
 use Rattle.schedule.specs.declared.event.Event.{Event}
-use Rattle.schedule.specs.declared.event.Event.TheVariants.{Run, Enter, Deliver, Lose, Repeat, Tick, Fail}
+use Rattle.schedule.specs.declared.event.Event.TheVariants.{Run, Enter, Deliver, Lose, Repeat, Tick, Fail, Drive}
 use Rattle.plain_semantics.specs.Openers.{openers_of}
 use Rattle.world_semantics.specs.Messages.{Asking, Sending}
 use Rattle.world_semantics.specs.Running.{Done}
@@ -14,7 +14,7 @@ use Rattle.world_semantics.specs.World.{World, is_running}
 use Rattle.computed_changes.specs.Stopped.{down_done}
 use Rattle.letters.specs.Routes.{Letter, receiver_of, letters_of}
 use Rattle.letters.specs.Again.{sent_again}
-use Rattle.machine_states.specs.States.{Played, Makes, Skips, WouldStop}
+use Rattle.machine_states.specs.States.{Played, Makes, Skips, Would, SecondStop}
 use Rattle.message_wires.specs.Wires.{Sent, Wires, has_room, put_on, wires_after_post, wires_after_posts, is_of}
 use Rattle.message_wires.specs.Wires.{without_number, paid, without_packet, is_due, put_again}
 use Rattle.message_wires.specs.Play.{MachineState, after_done, made_by, after_any, state_after_handing, comes_in}
@@ -24,6 +24,7 @@ use Rattle.message_wires.specs.Runs.{IsPlayed, played_none, played_more, skipped
 use Rattle.number_laws.proofs.Each.{Each, each-get, each-append, each-filter, each-remove}
 use Rattle.number_laws.proofs.Openers.{Names, AreNaming, AnyNames, run-named, enter-named, handed-named, stop-named}
 use Rattle.number_laws.proofs.Openers.{mark-named, again-named}
+use Rattle.machine_states.proofs.Turning.{drive-cases}
 
 -- Wires
 
@@ -95,7 +96,7 @@ WholeNames s = WiresName s.site s.wires
 abbrev PlayedNames : Played Wires → Type 0
 PlayedNames (Makes next) = WholeNames next
 PlayedNames Skips = Unit {0}
-PlayedNames (WouldStop processor) = Unit {0}
+PlayedNames (Would harm) = Unit {0}
 
 done-named : (s : MachineState) (done : Done) → WholeNames s → AreNaming s.site done.sendings
     → WholeNames (after_done s done)
@@ -144,7 +145,7 @@ fail-named : (processor : ℕ) (s : MachineState) (done : Option Done) → Whole
 fail-named processor s None names are = tt
 fail-named processor s (Some done) names are = by (has_stopped s.world.stopped)
   where
-    by : (test : Bool) → PlayedNames (if test then WouldStop processor else Makes (after_done s done))
+    by : (test : Bool) → PlayedNames (if test then Would (SecondStop processor) else Makes (after_done s done))
     by true = tt
     by false = done-named s done names are
 
@@ -187,6 +188,7 @@ module _ (s : MachineState) (names : WholeNames s) where
   play-named (Repeat y k) = repeat-named y k (packet_at s y k) refl
   play-named (Tick node) = tick-named node s names
   play-named (Fail processor) = fail-named processor s _ names (stop-named s.site s.world processor)
+  play-named (Drive event) = drive-cases event s PlayedNames (λ drives. names) tt (λ process. tt)
 
 -- What is played
 

@@ -1,4 +1,5 @@
 pub mod Buses
+pub mod Drives
 pub mod Lines
 pub mod Marks
 pub mod Rooms

@@ -5,7 +5,7 @@ use denote.Hole.Carrier.{shown, out}
 use Rattle.tal_tree.specs.declared.statement.What.{out-What}
 use Rattle.tal_tree.specs.declared.statement.What.TheBlock.{shown-the_row-Statement-0}
 use Rattle.schedule.specs.declared.event.Event.TheVariants as event
-use Rattle.machine_states.specs.States.{Skips, WouldStop}
+use Rattle.machine_states.specs.States.{Skips, Would, SecondStop}
 use Rattle.packet_wires.specs.Play.{play}
 use Rattle.packet_wires.specs.Sights.{alive, end_of, last, seen}
 use Rattle.packet_wires.specs.Examples.{after_four, held}
@@ -66,7 +66,7 @@ pub all-others-are-told-terminals : told.world.marks
 unfolding out-What shown-the_row-Statement-0 shown out int_wrap
 all-others-are-told-terminals = refl
 
-pub no-second-stop-line : play second_silent (event.Tick 0) ≡ WouldStop 2
+pub no-second-stop-line : play second_silent (event.Tick 0) ≡ Would (SecondStop 2)
 unfolding out-What shown-the_row-Statement-0 shown out int_wrap
 no-second-stop-line = refl
 
@@ -74,7 +74,7 @@ pub no-second-stop-first : (end_of none_stopped (event.Tick 0 ∷ [])).world.sto
 unfolding out-What shown-the_row-Statement-0 shown out int_wrap
 no-second-stop-first = refl
 
-pub no-second-stop-fails : play one_gone (event.Fail 1) ≡ WouldStop 1
+pub no-second-stop-fails : play one_gone (event.Fail 1) ≡ Would (SecondStop 1)
 unfolding out-What shown-the_row-Statement-0 shown out int_wrap
 no-second-stop-fails = refl
 

@@ -18,6 +18,8 @@ use Rattle.packet_wires.specs.Wires.{Wires, Outgoing, nothing_sent, learns}
 use Rattle.packet_wires.specs.Play.{Packeted, Underway, marks}
 use Rattle.packet_wires.specs.Sights.{Sight, end_of, sight}
 use Rattle.packet_wires.specs.Examples.{adder_at_boot, rounds, taken_over, three_at_boot, times, up_to_checkpoint}
+use Rattle.machine_states.specs.Drives.{drives_at_boot}
+use Rattle.machine_states.specs.disc_device.specs.mirror.specs.declared.state.DriveState.TheVariants.{Failed, Working}
 
 abbrev pub packet : ℕ → ℕ → PacketKind → Packet
 packet sender receiver kind = record { sender = sender; receiver = receiver; incarnation = never_reloaded; kind = kind }
@@ -32,6 +34,13 @@ laden = record adder_at_boot {
   wires = record adder_at_boot.wires
       { x = stray 5 ∷ stray 6 ∷ stray 7 ∷ []; y = packet 1 0 kind.Alive ∷ [] };
 }
+
+-- the same where its process has two drives that work, and where the second one failed
+abbrev pub two_drives : Packeted
+two_drives = record laden { drives = (Working ∷ Working ∷ []) ∷ [] }
+
+abbrev pub one_drive_failed : Packeted
+one_drive_failed = record laden { drives = (Working ∷ Failed ∷ []) ∷ [] }
 
 abbrev pub ticks : ℕ → ℕ → List Event
 ticks node many = times many (event.Tick node ∷ [])
@@ -78,7 +87,12 @@ outgoing out = map (λ one. (one.bus, sight one.packet)) out
 
 -- the node 3, on which a disc takes over and a bank keeps a reply and awaits one, marks processor 2
 abbrev pub takeover : Underway
-takeover = marks 3 2 (record { site = site; world = taking_over; wires = nothing_sent (nodes_at_boot 4) })
+takeover = marks 3 2 (record {
+  site = site;
+  world = taking_over;
+  wires = nothing_sent (nodes_at_boot 4);
+  drives = drives_at_boot site;
+})
 
 -- what the node 3 has still to send another one, whole messages
 abbrev pub queued : ℕ → List (List ℤ)

@@ -1,11 +1,12 @@
 //! What is played, at telling points.
 ghost use Rattle.std.specs.Prelude.{◌≡◌, ◌≤◌, ◌+◌, ℕ, pos, true, false, List, [], ◌∷◌, ◌++◌, length, Some, None};
+ghost use Rattle.schedule.specs.declared.event.DriveChange.TheVariants.{Break};
 ghost use Rattle.schedule.specs.declared.event.Event.TheVariants as event;
 ghost use Rattle.packet_words.specs.declared.bus_name.BusName.{BusName};
 ghost use Rattle.packet_words.specs.declared.bus_name.BusName.TheVariants.{X, Y};
 ghost use Rattle.packet_words.specs.declared.packet.Packet.{Packet};
 ghost use Rattle.packet_words.specs.declared.packet.PacketKind.TheVariants as kind;
-ghost use Rattle.machine_states.specs.States.{Skips, WouldStop};
+ghost use Rattle.machine_states.specs.States.{Makes, Skips, Would, SecondStop};
 ghost use Rattle.message_layout.specs.Messages.{Carrying, Declaring};
 ghost use Rattle.message_layout.specs.Layout.{words_of};
 ghost use Rattle.message_layout.specs.Reading.{understood};
@@ -20,6 +21,7 @@ ghost use Rattle.packet_wires.specs.Wires.{Midst, Wires, all_put, goes_over, not
 ghost use Rattle.packet_wires.specs.Wires.{with_sent};
 ghost use Rattle.packet_wires.specs.Examples.{adder_at_boot, after_four, held, served, taken_over, up_to_checkpoint};
 ghost use Rattle.packet_guards.specs.States.{after_three, first_muted, first_piece_again, laden, none_stopped};
+ghost use Rattle.packet_guards.specs.States.{one_drive_failed, two_drives};
 ghost use Rattle.packet_guards.specs.States.{one_gone, outgoing, queued, second_silent, stray, takeover, ticks, told};
 
 /// An event names a packet by its position on its bus from 0, and takes that one alone; a repeat puts it at the end.
@@ -32,6 +34,14 @@ pub fn events_name_positions()
     ensures past { play laden (event.Deliver false 3) ≡ Skips }
     ensures past_lose { play laden (event.Lose true 1) ≡ Skips }
     ensures past_repeat { play laden (event.Repeat true 1) ≡ Skips }
+{}
+
+/// An event of a drive touches no packet and no node: how the drives stand changes, and nothing else. A program has
+/// none.
+pub fn an_event_of_a_drive_touches_no_packet()
+    ensures breaks { play two_drives (event.Drive (record { process = 0; drive = 1; change = Break }))
+        ≡ Makes one_drive_failed }
+    ensures program { play laden (event.Drive (record { process = 0; drive = 1; change = Break })) ≡ Skips }
 {}
 
 /// What stands at a position is told: its kind and its sender, and how many packets there are.
@@ -138,9 +148,9 @@ pub fn a_mark_closes_the_channel()
 
 /// A line doesn't stop a second processor, and neither does a failure.
 pub fn no_second_stop()
-    ensures line { play second_silent (event.Tick 0) ≡ WouldStop 2 }
+    ensures line { play second_silent (event.Tick 0) ≡ Would (SecondStop 2) }
     ensures first { (end_of none_stopped (event.Tick 0 ∷ [])).world.stopped ≡ false ∷ false ∷ true ∷ [] }
-    ensures fails { play one_gone (event.Fail 1) ≡ WouldStop 1 }
+    ensures fails { play one_gone (event.Fail 1) ≡ Would (SecondStop 1) }
     ensures again { play one_gone (event.Fail 0) ≡ Skips }
 {}
 

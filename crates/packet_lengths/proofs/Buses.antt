@@ -5,8 +5,8 @@ use Rattle.std.specs.List.{remove}
 use Rattle.std.proofs.lemmas.Bool.{ltb-true}
 use Rattle.tal_tree.specs.declared.site.Site.{Site}
 use Rattle.schedule.specs.declared.event.Event.{Event}
-use Rattle.schedule.specs.declared.event.Event.TheVariants.{Run, Enter, Deliver, Lose, Repeat, Tick, Fail}
-use Rattle.machine_states.specs.States.{Played, Makes, Skips, WouldStop}
+use Rattle.schedule.specs.declared.event.Event.TheVariants.{Run, Enter, Deliver, Lose, Repeat, Tick, Fail, Drive}
+use Rattle.machine_states.specs.States.{Played, Makes, Skips, Would}
 use Rattle.packet_words.specs.declared.bus_name.BusName.{BusName}
 use Rattle.packet_words.specs.declared.bus_name.BusName.TheVariants as bus
 use Rattle.packet_words.specs.declared.packet.Packet.{Packet}
@@ -52,17 +52,18 @@ off-few (Lose true k) wires few = (few.0, remove-few wires.y k few.1)
 off-few (Repeat y k) wires few = few
 off-few (Tick node) wires few = few
 off-few (Fail processor) wires few = few
+off-few (Drive event) wires few = few
 
 abbrev AreFewPlayed : Played Wires → Type 0
 AreFewPlayed (Makes next) = AreFew next.wires
 AreFewPlayed Skips = Unit {0}
-AreFewPlayed (WouldStop processor) = Unit {0}
+AreFewPlayed (Would harm) = Unit {0}
 
 ended-few : (wires : Wires) (played : Played Midst) → AreFew wires → AreFewPlayed (ended wires played)
 ended-few wires (Makes s) few =
     (all-few (packets_over bus.X s.wires.out) wires.x few.0, all-few (packets_over bus.Y s.wires.out) wires.y few.1)
 ended-few wires Skips few = tt
-ended-few wires (WouldStop processor) few = tt
+ended-few wires (Would harm) few = tt
 
 play-few : (s : Packeted) (event : Event) → AreFew s.wires → AreFewPlayed (play s event)
 play-few s event few = ended-few (taken_off event s.wires) (acted s event) (off-few event s.wires few)

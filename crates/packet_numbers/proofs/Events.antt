@@ -3,7 +3,7 @@ use Rattle.std.proofs.Common.{◌≡◌, ◌≤◌, ◌<◌, ℕ, ◌+◌, Bool,
 use Rattle.std.proofs.Common.{Option, Some, None, slice_get, sym, subst, arith, length-append, map, zero, suc}
 use Rattle.tal_tree.specs.declared.site.Site.{Site}
 use Rattle.schedule.specs.declared.event.Event.{Event}
-use Rattle.schedule.specs.declared.event.Event.TheVariants.{Run, Enter, Deliver, Lose, Repeat, Tick, Fail}
+use Rattle.schedule.specs.declared.event.Event.TheVariants.{Run, Enter, Deliver, Lose, Repeat, Tick, Fail, Drive}
 use Rattle.packet_words.specs.declared.bus_name.BusName.{BusName}
 use Rattle.packet_words.specs.declared.packet.Packet.{Packet}
 use Rattle.link_control.specs.Ends.{new_end}
@@ -16,7 +16,7 @@ use Rattle.computed_changes.specs.Handed.{handed_done}
 use Rattle.computed_changes.specs.Stopped.{stop_done, stopped_world, down_done}
 use Rattle.letters.specs.Routes.{letters_of}
 use Rattle.letters.specs.Again.{sent_again}
-use Rattle.machine_states.specs.States.{Played, Makes, Skips, WouldStop}
+use Rattle.machine_states.specs.States.{Played, Makes, Skips, Would, SecondStop}
 use Rattle.message_wires.specs.Play.{has_stopped}
 use Rattle.message_layout.specs.Messages.{NodeMessage, Carrying, Reporting, Declaring}
 use Rattle.message_layout.specs.Reading.{understood}
@@ -30,6 +30,7 @@ use Rattle.packet_wires.specs.Runs.{IsPlayed, played_none, played_more, skipped}
 use Rattle.site_machine.specs.Needs.{HaveNumbersLeft}
 use Rattle.packet_numbers.proofs.Ends.{RestsAt, OfNode, OfEnds, rest-goes, goes-rest, AllGo, learns-go}
 use Rattle.packet_numbers.proofs.Ends.{arrived-goes, all-posted-go, ticked-goes, cut-off-goes, declares-go}
+use Rattle.machine_states.proofs.Turning.{drive-cases}
 
 -- Parts of an event
 
@@ -40,7 +41,7 @@ module _ (n : ℕ) where
   abbrev AnyGoes : Played Midst → Type 0
   AnyGoes (Makes s) = Goes s
   AnyGoes Skips = Unit {0}
-  AnyGoes (WouldStop processor) = Unit {0}
+  AnyGoes (Would harm) = Unit {0}
 
   done-goes : (s : Underway) (done : Done) → Goes s → Goes (after_done s done)
   done-goes s done all =
@@ -87,7 +88,7 @@ module _ (n : ℕ) where
   pulls-go node s None all = all
   pulls-go node s (Some processor) all = by (slice_get s.world.stopped processor)
     where
-      first : (test : Bool) → AnyGoes (if test then WouldStop processor else Makes
+      first : (test : Bool) → AnyGoes (if test then Would (SecondStop processor) else Makes
           (marks_and_declares node processor (record s { world = stopped_world processor s.world })))
       first true = tt
       first false = declaring-goes node processor (record s { world = stopped_world processor s.world }) all
@@ -140,7 +141,7 @@ module _ (n : ℕ) where
     fail-goes processor None = tt
     fail-goes processor (Some done) = by (has_stopped s.world.stopped)
       where
-        by : (test : Bool) → AnyGoes (if test then WouldStop processor else Makes
+        by : (test : Bool) → AnyGoes (if test then Would (SecondStop processor) else Makes
             (record (begun s) { world = done.world }))
         by true = tt
         by false = all
@@ -153,16 +154,17 @@ module _ (n : ℕ) where
     acted-goes (Repeat y k) = repeat-goes (bus_named y) (packet_at s (bus_named y) k)
     acted-goes (Tick node) = tick-goes node
     acted-goes (Fail processor) = fail-goes processor (stop_done processor s.world)
+    acted-goes (Drive event) = drive-cases event (begun s) AnyGoes (λ drives. all) tt (λ process. tt)
 
   abbrev RestsAfter : Played Wires → Type 0
   RestsAfter (Makes next) = OfEnds (RestsAt (n + 1)) next.wires.nodes
   RestsAfter Skips = Unit {0}
-  RestsAfter (WouldStop processor) = Unit {0}
+  RestsAfter (Would harm) = Unit {0}
 
   ended-rests : (wires : Wires) (played : Played Midst) → AnyGoes played → RestsAfter (ended wires played)
   ended-rests wires (Makes next) goes = λ x node there y e is. goes-rest n e (goes x node there y e is)
   ended-rests wires Skips goes = tt
-  ended-rests wires (WouldStop processor) goes = tt
+  ended-rests wires (Would harm) goes = tt
 
   play-rests : (s : Packeted) → OfEnds (RestsAt n) s.wires.nodes → (event : Event) → RestsAfter (play s event)
   play-rests s rest event = ended-rests (taken_off event s.wires) (acted s event) (acted-goes s rest event)

@@ -25,6 +25,7 @@ use Rattle.letters.specs.Posts.{Post, HasPlayed, NotesLetters, PlaysEvent, after
 use Rattle.letters.specs.Posts.{played_none, plays_again, plays_drop, plays_enter, plays_fail, plays_hand, plays_loss}
 use Rattle.letters.specs.Posts.{plays_mark, plays_no_enter, plays_no_fail, plays_no_run, plays_no_tick, plays_nothing}
 use Rattle.letters.specs.Posts.{plays_repeat, plays_run, plays_tick, plays_tick_stop, post_after_down, post_at_boot}
+use Rattle.letters.specs.Posts.{plays_drive}
 use Rattle.letters.specs.Posts.{with_letters}
 use Rattle.letters.specs.Routes.{Letter, letters_of}
 use Rattle.letters.proofs.Owed.{taken-there}
@@ -192,6 +193,7 @@ module _ (site : Site) where
         mark-low (length events + 1) node processor post w sendings later change
     plays-low next plays_loss = later
     plays-low next plays_repeat = later
+    plays-low next plays_drive = later
     plays-low next plays_no_tick = later
     plays-low next (plays_tick running marks) = marks-low (length events + 1) later marks
     plays-low next (plays_tick_stop {between = between} processor running other change marks) =

@@ -4,7 +4,7 @@ use Rattle.std.proofs.Common.{Option, Some, None, slice_get, slice_set, refl, sy
 use Rattle.gd_words.specs.Members.{IsAmong}
 use Rattle.gd_words.proofs.Among.{among-either}
 use Rattle.tal_tree.specs.declared.site.Site.{Site}
-use Rattle.schedule.specs.declared.event.Event.TheVariants.{Run, Enter, Deliver, Lose, Repeat, Tick, Fail}
+use Rattle.schedule.specs.declared.event.Event.TheVariants.{Run, Enter, Deliver, Lose, Repeat, Tick, Fail, Drive}
 use Rattle.packet_words.specs.declared.bus_name.BusName.{BusName}
 use Rattle.packet_words.specs.declared.packet.Packet.{Packet}
 use Rattle.alive_regroup.specs.Watching as watching
@@ -26,7 +26,7 @@ use Rattle.computed_changes.specs.Stopped.{world_at_down}
 use Rattle.letters.specs.Routes.{Letter, letters_of}
 use Rattle.letters.specs.Again.{sent_again}
 use Rattle.letter_laws.proofs.Given.{letter-from}
-use Rattle.machine_states.specs.States.{Played, Makes, Skips, WouldStop}
+use Rattle.machine_states.specs.States.{Played, Makes, Skips, Would, SecondStop}
 use Rattle.message_wires.specs.Play.{has_stopped}
 use Rattle.message_layout.specs.Messages.{NodeMessage, Carrying, Reporting, Declaring}
 use Rattle.message_layout.specs.Reading.{understood}
@@ -41,6 +41,8 @@ use Rattle.packet_places.proofs.Copies.{IsDoneAt, AnyAt, SomeAt, keeps-same, run
 use Rattle.packet_places.proofs.Copies.{marked-there}
 use Rattle.packet_places.proofs.Nodes.{OnlyAt, learns-only, posted-only, arrived-only, ticked-only, cut-only}
 use Rattle.packet_places.proofs.Nodes.{declares-only}
+use Rattle.machine_states.proofs.Turning.{drive-cases}
+use Rattle.schedule.specs.declared.event.DriveEvent.{DriveEvent}
 
 -- Letters of sendings at a node are sent by it
 letters-by : (site : Site) (w : World) (node : ℕ) (sendings : List Sending)
@@ -169,19 +171,19 @@ words-stay node (Some words) s = by (understood s.site words)
 abbrev KeepsIf : ℕ → Underway → Played Midst → Type 0
 KeepsIf node s (Makes next) = Keeps node s next
 KeepsIf node s Skips = Unit {0}
-KeepsIf node s (WouldStop processor) = Unit {0}
+KeepsIf node s (Would harm) = Unit {0}
 
 abbrev StaysIf : ℕ → Packeted → Played Wires → Type 0
 StaysIf node s (Makes next) = StaysElsewhere node s next
 StaysIf node s Skips = Unit {0}
-StaysIf node s (WouldStop processor) = Unit {0}
+StaysIf node s (Would harm) = Unit {0}
 
 -- what is taken off a bus, and what is put on, is at no node
 over-stays : (node : ℕ) (s : Packeted) (wires : Wires) (played : Played Midst) → KeepsIf node (begun s) played
     → StaysIf node s (ended wires played)
 over-stays node s wires (Makes next) keeps = record { nodes = keeps.nodes; copies = keeps.copies }
 over-stays node s wires Skips keeps = tt
-over-stays node s wires (WouldStop processor) keeps = tt
+over-stays node s wires (Would harm) keeps = tt
 
 deliver-found : (name : BusName) (s : Underway) (packet : Packet)
     → KeepsIf packet.receiver s (deliver_acted name s (Some packet))
@@ -233,7 +235,7 @@ run-stays s next number made =
     Somewhere : Played Wires → Type 0
     Somewhere (Makes next) = (node : ℕ) × StaysElsewhere node s next
     Somewhere Skips = Unit {0}
-    Somewhere (WouldStop processor) = Unit {0}
+    Somewhere (Would harm) = Unit {0}
 
     by : (done : Option Done) → SomeAt s.world done → Somewhere (ended s.wires (made_by (begun s) done))
     by None at = tt
@@ -307,7 +309,7 @@ fail-keeps : (s : Underway) (processor node : ℕ) → KeepsIf node s (fail_acte
 fail-keeps s processor node = by (slice_get s.world.stopped processor) refl
   where
     stops : slice_get s.world.stopped processor ≡ Some false → (test : Bool)
-        → KeepsIf node s (if test then WouldStop processor else Makes
+        → KeepsIf node s (if test then Would (SecondStop processor) else Makes
         (record s { world = stopped_world processor s.world }))
     stops runs true = tt
     stops runs false = record {
@@ -329,6 +331,16 @@ pub fail-stays : (s next : Packeted) (processor node : ℕ) → play s (Fail pro
 fail-stays s next processor node made =
     subst (StaysIf node s) made (over-stays node s s.wires (acted s (Fail processor))
     (fail-keeps (begun s) processor node))
+
+-- What becomes of drives
+
+pub drive-stays : (s next : Packeted) (event : DriveEvent) (node : ℕ) → play s (Drive event) ≡ Makes next
+    → StaysElsewhere node s next
+drive-stays s next event node made =
+    let same : Keeps node (begun s) (begun s) = same-stays (begun s) in
+    subst (StaysIf node s) made (over-stays node s s.wires (acted s (Drive event))
+    (drive-cases event (begun s) (KeepsIf node (begun s))
+    (λ drives. record { nodes = same.nodes; copies = same.copies }) tt (λ process. tt)))
 
 -- Ticks
 
@@ -356,7 +368,7 @@ tick-keeps s node = by (is_running s.world.stopped node)
     only = ticked-only s.site.processors node s.wires
 
     stops : (processor : ℕ) → slice_get s.world.stopped processor ≡ Some false → (test : Bool)
-        → KeepsIf node s (if test then WouldStop processor
+        → KeepsIf node s (if test then Would (SecondStop processor)
         else Makes (marks_and_declares node processor
         (record s { world = stopped_world processor s.world; wires = ticked s.site.processors node s.wires })))
     stops processor runs true = tt

@@ -1,6 +1,7 @@
 //! Laws of places.
 ghost use Rattle.std.specs.Prelude.{◌≡◌, ℕ, Bool, Some};
-ghost use Rattle.schedule.specs.declared.event.Event.TheVariants.{Run, Enter, Deliver, Lose, Repeat, Tick, Fail};
+ghost use Rattle.schedule.specs.declared.event.DriveEvent.{DriveEvent};
+ghost use Rattle.schedule.specs.declared.event.Event.TheVariants.{Run, Enter, Deliver, Lose, Repeat, Tick, Fail, Drive};
 ghost use Rattle.packet_words.specs.declared.packet.Packet.{Packet};
 ghost use Rattle.world_semantics.specs.World.{terminal_node};
 ghost use Rattle.machine_states.specs.States.{Makes};
@@ -25,5 +26,7 @@ pub fn an_event_stays_at_its_node()
         → StaysElsewhere node s next }
     ensures tick { (s next : Packeted) (node : ℕ) → play s (Tick node) ≡ Makes next → StaysElsewhere node s next }
     ensures fail { (s next : Packeted) (processor node : ℕ) → play s (Fail processor) ≡ Makes next
+        → StaysElsewhere node s next }
+    ensures drive { (s next : Packeted) (event : DriveEvent) (node : ℕ) → play s (Drive event) ≡ Makes next
         → StaysElsewhere node s next }
 {}

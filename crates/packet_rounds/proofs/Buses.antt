@@ -4,7 +4,7 @@ use Rattle.std.proofs.Common.{slice_get, Option, Some, None, refl, ap, sym, subs
 use Rattle.std.proofs.lemmas.List.{append_assoc, append-nil}
 use Rattle.std.specs.List.{remove}
 use Rattle.schedule.specs.declared.event.Event.{Event}
-use Rattle.schedule.specs.declared.event.Event.TheVariants.{Run, Enter, Deliver, Lose, Repeat, Tick, Fail}
+use Rattle.schedule.specs.declared.event.Event.TheVariants.{Run, Enter, Deliver, Lose, Repeat, Tick, Fail, Drive}
 use Rattle.packet_words.specs.declared.bus_name.BusName.TheVariants as bus
 use Rattle.packet_words.specs.declared.packet.Packet.{Packet}
 use Rattle.bus_model.specs.Packets.{sent, has_room}
@@ -12,13 +12,15 @@ use Rattle.world_semantics.specs.World.{is_running}
 use Rattle.world_semantics.specs.Running.{Done, run_done}
 use Rattle.computed_changes.specs.Entered.{enter_done}
 use Rattle.computed_changes.specs.Stopped.{stop_done}
-use Rattle.machine_states.specs.States.{Played, Makes, Skips, WouldStop}
+use Rattle.machine_states.specs.States.{Played, Makes, Skips, Would, SecondStop}
 use Rattle.message_wires.specs.Play.{has_stopped}
 use Rattle.packet_wires.specs.Wires.{Wires, Midst, bus_named, packets_over, all_put}
 use Rattle.packet_wires.specs.Play.{Packeted, Underway, begun, deliver_acted, ended, fail_acted, lose_acted}
 use Rattle.packet_wires.specs.Play.{made_by, over, packet_at, play, received, repeat_acted, taken_off, tick_acted}
 use Rattle.round_laws.specs.Buses.{IsGrown, Leaves, HasBuses}
 use Rattle.packet_rounds.specs.Played.{buses_of, IsPlay}
+use Rattle.machine_states.proofs.Turning.{drive-cases}
+use Rattle.machine_states.specs.disc_device.specs.mirror.specs.declared.state.DriveState.{DriveState}
 
 -- What is put on a bus comes behind what is there
 
@@ -56,7 +58,7 @@ skipped-grown on k none = ([], sym (append-nil (remove on k) ∙ none-there on k
 abbrev LeavesIf : Packeted → Event → Played Wires → Type 0
 LeavesIf s event (Makes next) = (bus : Bool) → Leaves bus event (buses_of s bus) (buses_of next bus)
 LeavesIf s event Skips = (bus : Bool) → Leaves bus event (buses_of s bus) (buses_of s bus)
-LeavesIf s event (WouldStop processor) = Unit {0}
+LeavesIf s event (Would harm) = Unit {0}
 
 -- what takes nothing off
 plain-made : (s : Packeted) (after : Underway) (bus : Bool)
@@ -85,25 +87,25 @@ leaves s (Run number) = by (made_by (begun s) (run_done s.site number s.world))
     by : (played : Played Midst) → LeavesIf s (Run number) (ended s.wires played)
     by (Makes after) = plain-made s after
     by Skips = λ bus. grown-none (buses_of s bus)
-    by (WouldStop processor) = tt
+    by (Would harm) = tt
 leaves s (Enter terminal) = by (made_by (begun s) (enter_done s.site terminal s.world))
   where
     by : (played : Played Midst) → LeavesIf s (Enter terminal) (ended s.wires played)
     by (Makes after) = plain-made s after
     by Skips = λ bus. grown-none (buses_of s bus)
-    by (WouldStop processor) = tt
+    by (Would harm) = tt
 leaves s (Tick node) = by (tick_acted node (begun s))
   where
     by : (played : Played Midst) → LeavesIf s (Tick node) (ended s.wires played)
     by (Makes after) = plain-made s after
     by Skips = λ bus. grown-none (buses_of s bus)
-    by (WouldStop processor) = tt
+    by (Would harm) = tt
 leaves s (Repeat y k) = by (repeat_acted (bus_named y) (begun s) (packet_at s (bus_named y) k))
   where
     by : (played : Played Midst) → LeavesIf s (Repeat y k) (ended s.wires played)
     by (Makes after) = plain-made s after
     by Skips = λ bus. grown-none (buses_of s bus)
-    by (WouldStop processor) = tt
+    by (Would harm) = tt
 leaves s (Deliver y k) = by (packet_at s (bus_named y) k) refl
   where
     by : (packet : Option Packet) → packet_at s (bus_named y) k ≡ packet
@@ -129,13 +131,21 @@ leaves s (Fail processor) = by (stop_done processor s.world)
     made done true = refl
 
     first : (done : Done) (any : Bool) → LeavesIf s (Fail processor) (ended s.wires
-        (if any then WouldStop processor else Makes (record (begun s) { world = done.world })))
+        (if any then Would (SecondStop processor) else Makes (record (begun s) { world = done.world })))
     first done true = tt
     first done false = made done
 
     by : (done : Option Done) → LeavesIf s (Fail processor) (ended s.wires (fail_acted processor (begun s) done))
     by None = same
     by (Some done) = first done (has_stopped s.world.stopped)
+leaves s (Drive event) =
+    drive-cases event (begun s) (λ (played : Played Midst). LeavesIf s (Drive event) (ended s.wires played)) made
+    (λ bus. refl) (λ process. tt)
+  where
+    made : (drives : List (List DriveState)) (bus : Bool)
+        → buses_of (over s.wires (record (begun s) { drives = drives })) bus ≡ buses_of s bus
+    made drives false = refl
+    made drives true = refl
 
 pub has-buses : HasBuses buses_of IsPlay
 has-buses s event next (inl made) bus = subst (LeavesIf s event) made (leaves s event) bus

@@ -8,7 +8,7 @@ use Rattle.std.specs.Option.{option_to_list}
 use Rattle.gd_words.specs.Members.{IsAmong}
 use Rattle.tal_tree.specs.declared.site.Site.{Site}
 use Rattle.schedule.specs.declared.event.Event.{Event}
-use Rattle.schedule.specs.declared.event.Event.TheVariants.{Run, Enter, Deliver, Lose, Repeat, Tick, Fail}
+use Rattle.schedule.specs.declared.event.Event.TheVariants.{Run, Enter, Deliver, Lose, Repeat, Tick, Fail, Drive}
 use Rattle.packet_words.specs.declared.packet.Packet.{Packet}
 use Rattle.world_semantics.specs.World.{is_running, runs_by, terminal_node}
 use Rattle.world_semantics.proofs.Lists.{set-there, set-other}
@@ -60,7 +60,7 @@ remains s event next made = by (play s event) (play-goes s event) made
   where
     by : (played : Played Wires) → going.Goes s played → played ≡ Makes next → Remains s next
     by _ going.skips is = absurd (cc)
-    by _ (going.would_stop processor) is = absurd (cc)
+    by _ (going.would_harm harm) is = absurd (cc)
     by _ (going.stops_none {next = made} site stopped) is =
         let same : made ≡ next = cc in
         subst (Remains s) same (record {
@@ -159,6 +159,7 @@ comes-named s (Lose y k) came named bus p among = absurd among
 comes-named s (Repeat y k) came named bus p among = absurd among
 comes-named s (Tick node) came named bus p among = absurd among
 comes-named s (Fail processor) came named bus p among = absurd among
+comes-named s (Drive event) came named bus p among = absurd among
 comes-named s (Deliver y k) came named bus p among = by y bus named among
   where
     one : (o : Option Packet) → ((q : Packet) → o ≡ Some q → IsAmong q came) → IsAmong p (option_to_list o)
@@ -182,6 +183,7 @@ none-delivered s (Lose y k) skips p is = absurd (cc)
 none-delivered s (Repeat y k) skips p is = absurd (cc)
 none-delivered s (Tick node) skips p is = absurd (cc)
 none-delivered s (Fail processor) skips p is = absurd (cc)
+none-delivered s (Drive event) skips p is = absurd (cc)
 none-delivered s (Deliver y k) skips p is = absurd (by (packet_at s (bus_named y) k) is skips)
   where
     by : (o : Option Packet) → o ≡ Some p → ended (taken_off (Deliver y k) s.wires)

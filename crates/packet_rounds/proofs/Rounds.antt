@@ -26,7 +26,7 @@ use Rattle.channel_laws.specs.Rounds.{Passes, nothing, by_push, by_packet, by_dr
 use Rattle.channel_laws.specs.Rounds.{by_mark, IsRound, HasWaited, IsSent, IsAnswered, IsBroughtOn}
 use Rattle.channel_laws.specs.Way.{IsOutstanding, IsEnded}
 use Rattle.channel_laws.proofs.Rounds.{brought-on}
-use Rattle.machine_states.specs.States.{Played, Makes, Skips, WouldStop}
+use Rattle.machine_states.specs.States.{Played, Makes, Skips, Would, SecondStop}
 use Rattle.packet_wires.specs.Nodes.{end_at}
 use Rattle.packet_wires.specs.Wires.{Wires, Midst, ticked}
 use Rattle.packet_wires.specs.Play.{Packeted, Underway, IsClear, begun, ended, line_of, marks_and_declares, play}
@@ -169,7 +169,7 @@ module _ (node : ℕ) (s : Underway) where
   pulled-acts processor (Some true) skips = absurd (cc)
   pulled-acts processor (Some false) skips = by (has_stopped s.world.stopped) skips
     where
-      by : (any : Bool) → (if any then WouldStop processor else Makes
+      by : (any : Bool) → (if any then Would (SecondStop processor) else Makes
           (marks_and_declares node processor (record s { world = stopped_world processor s.world }))) ≡ Skips → ⊥
       by true skips = absurd (cc)
       by false skips = absurd (cc)
@@ -181,7 +181,7 @@ module _ (node : ℕ) (s : Underway) where
   ended-acts : (wires : Wires) (played : Played Midst) → (played ≡ Skips → ⊥) → ended wires played ≡ Skips → ⊥
   ended-acts wires (Makes next) acts skips = absurd (cc)
   ended-acts wires Skips acts skips = acts refl
-  ended-acts wires (WouldStop processor) acts skips = absurd (cc)
+  ended-acts wires (Would harm) acts skips = absurd (cc)
 
 tick-acts : (s : Packeted) (node : ℕ) → is_running s.world.stopped node ≡ true → play s (Tick node) ≡ Skips → ⊥
 tick-acts s node here skips = by (is_running s.world.stopped node) here skips

@@ -6,7 +6,7 @@ use Rattle.std.specs.Prelude.{Option, Some, None}
 use Rattle.std.specs.Option.{option_and_then, option_map}
 use Rattle.tal_tree.specs.declared.site.Site.{Site}
 use Rattle.schedule.specs.declared.event.Event.{Event}
-use Rattle.schedule.specs.declared.event.Event.TheVariants.{Run, Enter, Deliver, Lose, Repeat, Tick, Fail}
+use Rattle.schedule.specs.declared.event.Event.TheVariants.{Run, Enter, Deliver, Lose, Repeat, Tick, Fail, Drive}
 use Rattle.packet_words.specs.declared.packet.Packet.{Packet}
 use Rattle.packet_words.specs.declared.packet.PacketKind.{PacketKind}
 use Rattle.packet_words.specs.declared.bus_name.BusName.{BusName}
@@ -20,7 +20,9 @@ use Rattle.message_wires.specs.computed_changes.specs.Handed.{handed_done}
 use Rattle.message_wires.specs.computed_changes.specs.Stopped.{stop_done, stopped_world, down_done}
 use Rattle.message_wires.specs.letters.specs.Routes.{letters_of}
 use Rattle.message_wires.specs.letters.specs.Again.{sent_again}
-use Rattle.message_wires.specs.machine_states.specs.States.{State, Played, Makes, Skips, WouldStop}
+use Rattle.message_wires.specs.machine_states.specs.Drives.{drives_at_boot}
+use Rattle.message_wires.specs.machine_states.specs.States.{State, Played, Makes, Skips, Would}
+use Rattle.message_wires.specs.machine_states.specs.States.{SecondStop, drive_played}
 use Rattle.message_wires.specs.Play.{has_stopped}
 use Rattle.message_layout.specs.Messages.{NodeMessage, Carrying, Reporting, Declaring}
 use Rattle.message_layout.specs.Reading.{understood}
@@ -35,7 +37,12 @@ abbrev pub Packeted : Type 0
 Packeted = State Wires
 
 abbrev pub packeted_at_boot : Site → Packeted
-packeted_at_boot site = record { site = site; world = boot site; wires = wires_at_boot site.processors }
+packeted_at_boot site = record {
+  site = site;
+  world = boot site;
+  wires = wires_at_boot site.processors;
+  drives = drives_at_boot site;
+}
 
 -- a state in the midst of an event
 abbrev pub Underway : Type 0
@@ -43,11 +50,11 @@ Underway = State Midst
 
 -- an event begins
 abbrev pub begun : Packeted → Underway
-begun s = record { site = s.site; world = s.world; wires = nothing_sent s.wires.nodes }
+begun s = record { site = s.site; world = s.world; wires = nothing_sent s.wires.nodes; drives = s.drives }
 
 -- an event is over: what it sent is put on the buses
 abbrev pub over : Wires → Underway → Packeted
-over wires s = record { site = s.site; world = s.world; wires = with_sent s.wires wires }
+over wires s = record { site = s.site; world = s.world; wires = with_sent s.wires wires; drives = s.drives }
 
 -- Changes of the world
 
@@ -139,7 +146,7 @@ repeat_acted name s (Some packet) = Makes (record s { wires = goes_over name pac
 abbrev pub fail_acted : ℕ → Underway → Option Done → Played Midst
 fail_acted processor s None = Skips
 fail_acted processor s (Some done) =
-    if has_stopped s.world.stopped then WouldStop processor else Makes (record s { world = done.world })
+    if has_stopped s.world.stopped then Would (SecondStop processor) else Makes (record s { world = done.world })
 
 -- a node tells the others that a processor is down
 abbrev pub declared : ℕ → ℕ → Underway → Underway
@@ -154,7 +161,7 @@ abbrev pub pulled : ℕ → ℕ → Underway → Option Bool → Played Midst
 pulled node processor s None = Makes s
 pulled node processor s (Some true) = Makes (marks_and_declares node processor s)
 pulled node processor s (Some false) =
-    if has_stopped s.world.stopped then WouldStop processor
+    if has_stopped s.world.stopped then Would (SecondStop processor)
     else Makes (marks_and_declares node processor (record s { world = stopped_world processor s.world }))
 
 abbrev pub pulls : ℕ → Underway → Option ℕ → Played Midst
@@ -189,6 +196,7 @@ acted s (Lose y k) = lose_acted (begun s) (packet_at s (bus_named y) k)
 acted s (Repeat y k) = repeat_acted (bus_named y) (begun s) (packet_at s (bus_named y) k)
 acted s (Tick node) = tick_acted node (begun s)
 acted s (Fail processor) = fail_acted processor (begun s) (stop_done processor s.world)
+acted s (Drive event) = drive_played event (begun s)
 
 -- the wires without the packet that an event delivers or loses
 abbrev pub taken_off : Event → Wires → Wires
@@ -199,11 +207,12 @@ taken_off (Lose y k) wires = without_packet (bus_named y) k wires
 taken_off (Repeat y k) wires = wires
 taken_off (Tick node) wires = wires
 taken_off (Fail processor) wires = wires
+taken_off (Drive event) wires = wires
 
 abbrev pub ended : Wires → Played Midst → Played Wires
 ended wires (Makes s) = Makes (over wires s)
 ended wires Skips = Skips
-ended wires (WouldStop processor) = WouldStop processor
+ended wires (Would harm) = Would harm
 
 -- what an event makes of a state
 abbrev pub play : Packeted → Event → Played Wires
@@ -213,7 +222,7 @@ play s event = ended (taken_off event s.wires) (acted s event)
 abbrev pub out_of : Played Midst → List Outgoing
 out_of (Makes s) = s.wires.out
 out_of Skips = []
-out_of (WouldStop processor) = []
+out_of (Would harm) = []
 
 abbrev pub sent_by : Packeted → Event → List Outgoing
 sent_by s event = out_of (acted s event)

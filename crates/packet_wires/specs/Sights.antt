@@ -1,7 +1,7 @@
 -- Packets as they are seen on the buses in worked runs.
 use Rattle.std.specs.Prelude.{ℕ, if◌then◌else◌, List, [], ◌∷◌, map}
 use Rattle.schedule.specs.declared.event.Event.{Event}
-use Rattle.message_wires.specs.machine_states.specs.States.{Played, Makes, Skips, WouldStop}
+use Rattle.message_wires.specs.machine_states.specs.States.{Played, Makes, Skips, Would}
 use Rattle.packet_words.specs.declared.packet.Packet.{Packet}
 use Rattle.packet_words.specs.declared.packet.PacketKind.{PacketKind}
 use Rattle.packet_words.specs.declared.packet.PacketKind.TheVariants as kind
@@ -59,7 +59,7 @@ none = only_x []
 abbrev pub state_after : Played Wires → Packeted → Packeted
 state_after (Makes next) s = next
 state_after Skips s = s
-state_after (WouldStop processor) s = s
+state_after (Would harm) s = s
 
 abbrev pub end_of : Packeted → List Event → Packeted
 end_of s [] = s

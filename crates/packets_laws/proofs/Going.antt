@@ -3,7 +3,7 @@ use Rattle.std.proofs.Common.{◌≡◌, ℕ, zero, suc, ℤ, Bool, true, false,
 use Rattle.std.proofs.Common.{Some, None, slice_get, slice_set, refl, sym, subst, ◌∙◌}
 use Rattle.tal_tree.specs.declared.site.Site.{Site}
 use Rattle.schedule.specs.declared.event.Event.{Event}
-use Rattle.schedule.specs.declared.event.Event.TheVariants.{Run, Enter, Deliver, Lose, Repeat, Tick, Fail}
+use Rattle.schedule.specs.declared.event.Event.TheVariants.{Run, Enter, Deliver, Lose, Repeat, Tick, Fail, Drive}
 use Rattle.packet_words.specs.declared.bus_name.BusName.{BusName}
 use Rattle.packet_words.specs.declared.packet.Packet.{Packet}
 use Rattle.world_semantics.specs.Running.{Done, run_done}
@@ -12,7 +12,7 @@ use Rattle.computed_changes.specs.Entered.{enter_done}
 use Rattle.computed_changes.specs.Handed.{handed_done}
 use Rattle.computed_changes.specs.Stopped.{down_done, stopped_world, stop_where, stop_done}
 use Rattle.letters.specs.Idle.{OneStops}
-use Rattle.machine_states.specs.States.{State, Played, Makes, Skips, WouldStop}
+use Rattle.machine_states.specs.States.{State, Played, Makes, Skips, Would, SecondStop, DiscLoss, Harm}
 use Rattle.message_wires.specs.Play.{has_stopped}
 use Rattle.world_semantics.proofs.Lists.{Changed, is_new, is_same, changed}
 use Rattle.message_wires_laws.proofs.Stopping.{StopsNone, run-none, enter-none, handed-none, mark-none}
@@ -25,6 +25,7 @@ use Rattle.packet_wires.specs.Play.{packet_at, acted, taken_off, ended, play}
 use Rattle.packet_wires.specs.Nodes.{end_at}
 use Rattle.packet_wires.specs.Runs.{IsPlayed, played_none, played_more, skipped}
 use Rattle.packet_wires.specs.Wires.{Wires, Midst, bus_named, arrived, ticked}
+use Rattle.machine_states.proofs.Turning.{drive-cases}
 
 -- the site is the same, and so is who has stopped
 pub record Stays (s next : Underway) : Type 0 where
@@ -34,7 +35,7 @@ pub record Stays (s next : Underway) : Type 0 where
 -- an event stops no processor, or it stops one and none had stopped before
 pub data Goes {W V : Type 0} (s : State W) : Played V → Type 0 where
   skips : Goes s Skips
-  would_stop : (processor : ℕ) → Goes s (WouldStop processor)
+  would_harm : (harm : Harm) → Goes s (Would harm)
   stops_none : {next : State V} → next.site ≡ s.site → next.world.stopped ≡ s.world.stopped → Goes s (Makes next)
   stops_one : {next : State V} (processor : ℕ) → next.site ≡ s.site → has_stopped s.world.stopped ≡ false
       → next.world.stopped ≡ slice_set s.world.stopped processor true
@@ -84,8 +85,9 @@ fail-goes : (processor : ℕ) (s : Underway) → Goes s (fail_acted processor s 
 fail-goes processor s = by (slice_get s.world.stopped processor)
   where
     first : (test : Bool) → has_stopped s.world.stopped ≡ test
-        → Goes s (if test then WouldStop processor else Makes (record s { world = stopped_world processor s.world }))
-    first true e = would_stop processor
+        → Goes s (if test then Would (SecondStop processor)
+        else Makes (record s { world = stopped_world processor s.world }))
+    first true e = would_harm (SecondStop processor)
     first false e = stops_one processor refl e refl
 
     by : (stopped : Option Bool) → Goes s (fail_acted processor s (stop_where processor s.world stopped))
@@ -101,9 +103,9 @@ tick-goes node s = by (is_running s.world.stopped node)
     line midst (Some processor) = at (slice_get s.world.stopped processor)
       where
         first : (test : Bool) → has_stopped s.world.stopped ≡ test
-            → Goes s (if test then WouldStop processor else Makes
+            → Goes s (if test then Would (SecondStop processor) else Makes
             (marks_and_declares node processor (record s { world = stopped_world processor s.world; wires = midst })))
-        first true e = would_stop processor
+        first true e = would_harm (SecondStop processor)
         first false e =
             let stay = marks-stay node processor (record s
             { world = stopped_world processor s.world; wires = midst }) in
@@ -137,13 +139,16 @@ acted-goes s (Repeat y k) = by (packet_at s (bus_named y) k)
     by (Some packet) = stops_none refl refl
 acted-goes s (Tick node) = tick-goes node (begun s)
 acted-goes s (Fail processor) = fail-goes processor (begun s)
+acted-goes s (Drive event) =
+    drive-cases event (begun s) (Goes (begun s)) (λ drives. stops_none refl refl) skips
+    (λ process. would_harm (DiscLoss process))
 
 pub play-goes : (s : Packeted) (event : Event) → Goes s (play s event)
 play-goes s event = by (acted s event) (acted-goes s event)
   where
     by : (played : Played Midst) → Goes (begun s) played → Goes s (ended (taken_off event s.wires) played)
     by Skips skips = skips
-    by (WouldStop _) (would_stop processor) = would_stop processor
+    by (Would _) (would_harm harm) = would_harm harm
     by (Makes next) (stops_none same none) = stops_none same none
     by (Makes next) (stops_one processor same first one) = stops_one processor same first one
 
@@ -157,11 +162,11 @@ played-site {site = site} (played_more {s = s} {next = next} event before e) =
     OfSite : Played Wires → Type 0
     OfSite (Makes next) = next.site ≡ site
     OfSite Skips = Unit {0}
-    OfSite (WouldStop processor) = Unit {0}
+    OfSite (Would harm) = Unit {0}
 
     by : (played : Played Wires) → Goes s played → s.site ≡ site → OfSite played
     by Skips skips was = tt
-    by (WouldStop _) (would_stop processor) was = tt
+    by (Would _) (would_harm harm) was = tt
     by (Makes made) (stops_none same none) was = same ∙ was
     by (Makes made) (stops_one processor same first one) was = same ∙ was
 played-site (skipped event before e) = played-site before
@@ -193,11 +198,11 @@ played-one (played_more {s = s} {next = next} event before e) =
     IsOne : Played Wires → Type 0
     IsOne (Makes next) = OneStops next.world
     IsOne Skips = Unit {0}
-    IsOne (WouldStop processor) = Unit {0}
+    IsOne (Would harm) = Unit {0}
 
     by : (played : Played Wires) → Goes s played → OneStops s.world → IsOne played
     by Skips skips was = tt
-    by (WouldStop _) (would_stop processor) was = tt
+    by (Would _) (would_harm harm) was = tt
     by (Makes made) (stops_none same none) was =
         subst (λ (stopped : List Bool). (one other : ℕ) → slice_get stopped one ≡ Some true
         → slice_get stopped other ≡ Some true → one ≡ other) (sym none) was

@@ -26,7 +26,7 @@ use Rattle.packet_nets.proofs.Tied.{running-low, running-stands}
 
 -- the site and the world of a state, with no wires under them
 abbrev bare : Packeted → MachineState
-bare s = record { site = s.site; world = s.world; wires = wires_at_boot }
+bare s = record { site = s.site; world = s.world; wires = wires_at_boot; drives = s.drives }
 
 -- a way whose sender holds nothing has handed over all that was pushed
 all-handed : (w : Way) → IsJoint w → w.sender.queue ≡ [] → w.out ≡ w.pushes

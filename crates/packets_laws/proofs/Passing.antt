@@ -7,7 +7,7 @@ use Rattle.std.specs.Option.{option_to_list}
 use Rattle.gd_words.specs.Members.{IsAmong}
 use Rattle.gd_words.proofs.Among.{among-left, among-right, among-either}
 use Rattle.schedule.specs.declared.event.Event.{Event}
-use Rattle.schedule.specs.declared.event.Event.TheVariants.{Run, Enter, Deliver, Lose, Repeat, Tick, Fail}
+use Rattle.schedule.specs.declared.event.Event.TheVariants.{Run, Enter, Deliver, Lose, Repeat, Tick, Fail, Drive}
 use Rattle.packet_words.specs.declared.bus_name.BusName.{BusName}
 use Rattle.packet_words.specs.declared.bus_name.BusName.TheVariants as bus
 use Rattle.packet_words.specs.declared.packet.Packet.{Packet}
@@ -22,7 +22,7 @@ use Rattle.computed_changes.specs.Handed.{handed_done}
 use Rattle.computed_changes.specs.Stopped.{down_done, stopped_world, stop_where, stop_done}
 use Rattle.letters.specs.Again.{sent_again}
 use Rattle.letters.specs.Routes.{Letter, letters_of}
-use Rattle.machine_states.specs.States.{Played, Makes, Skips, WouldStop}
+use Rattle.machine_states.specs.States.{Played, Makes, Skips, Would, SecondStop}
 use Rattle.message_wires.specs.Play.{has_stopped}
 use Rattle.message_wires_laws.proofs.Stopping.{StopsNone, run-none, enter-none, handed-none, mark-none}
 use Rattle.message_layout.specs.Messages.{NodeMessage, Carrying, Reporting, Declaring}
@@ -44,6 +44,7 @@ use Rattle.packet_nets.proofs.Tied.{stop-running}
 use Rattle.packets_laws.specs.Passing.{delivered, TakesToDeliver, IsNetOf, IsPassed, IsTickPassed}
 use Rattle.packets_laws.proofs.Going.{marks-stay}
 use Rattle.packets_laws.proofs.Playing.{among-taken, stands-there, mark-gone, still-running, now-stopped}
+use Rattle.machine_states.proofs.Turning.{drive-cases}
 
 -- A state in the midst of an event
 
@@ -55,7 +56,7 @@ abbrev LeadsOn : ℕ → ℕ → List Packet → Net → List Packet → Played 
 LeadsOn a b on start came (Makes s) =
     is_running s.world.stopped a ≡ true → is_running s.world.stopped b ≡ true → Passing a b on start came s
 LeadsOn a b on start came Skips = Unit {0}
-LeadsOn a b on start came (WouldStop processor) = Unit {0}
+LeadsOn a b on start came (Would harm) = Unit {0}
 
 -- who runs after a stop isn't the one that stopped
 apart-of : (stopped : List Bool) (processor a : ℕ) → slice_get stopped processor ≡ Some false
@@ -148,7 +149,7 @@ module _ {a b : ℕ} {on : List Packet} {start : Net} where
   fail-leads processor s P = by (slice_get s.world.stopped processor) refl
     where
       stops : slice_get s.world.stopped processor ≡ Some false → (test : Bool)
-          → LeadsOn a b on start [] (if test then WouldStop processor else Makes
+          → LeadsOn a b on start [] (if test then Would (SecondStop processor) else Makes
           (record s { world = stopped_world processor s.world }))
       stops at true = tt
       stops at false = λ one other. stop-passes processor at (apart-of s.world.stopped processor a at one)
@@ -175,7 +176,7 @@ module _ {a b : ℕ} {on : List Packet} {start : Net} where
   line-leads node s (Some processor) other runs P = by (slice_get s.world.stopped processor) refl
     where
       stops : slice_get s.world.stopped processor ≡ Some false → (test : Bool)
-          → LeadsOn a b on start [] (if test then WouldStop processor else Makes
+          → LeadsOn a b on start [] (if test then Would (SecondStop processor) else Makes
           (marks_and_declares node processor (record s { world = stopped_world processor s.world })))
       stops at true = tt
       stops at false = λ one two.
@@ -224,6 +225,8 @@ acted-leads a b s event n few N = by event
         repeat-leads (bus_named y) (begun s) (packet_at s (bus_named y) k) (stands-there s (bus_named y) k) P
     by (Tick node) = tick-leads node (begun s) P
     by (Fail processor) = fail-leads processor (begun s) P
+    by (Drive event) =
+        drive-cases event (begun s) (LeadsOn a b (on_both s.wires) n []) (λ drives one two. P) tt (λ process. tt)
 
 -- what was on a bus is still there, or was taken off
 kept-or-taken : (p : Packet) (on : List Packet) (k : ℕ) → IsAmong p on
@@ -257,6 +260,7 @@ event-keeps s (Lose y k) takes p among = absurd takes
 event-keeps s (Repeat y k) takes p among = inl among
 event-keeps s (Tick node) takes p among = inl among
 event-keeps s (Fail processor) takes p among = inl among
+event-keeps s (Drive event) takes p among = inl among
 
 among-some : (p : Packet) (found : Option Packet) → found ≡ Some p → IsAmong p (option_to_list found)
 among-some p found is = subst (λ o. IsAmong p (option_to_list o)) (sym is) (inl refl)
@@ -266,13 +270,13 @@ abbrev PassesIf : ℕ → ℕ → Packeted → Event → Net → Played Wires �
 PassesIf a b s event n (Makes next) =
     is_running next.world.stopped a ≡ true → is_running next.world.stopped b ≡ true → IsPassed a b s event next n
 PassesIf a b s event n Skips = Unit {0}
-PassesIf a b s event n (WouldStop processor) = Unit {0}
+PassesIf a b s event n (Would harm) = Unit {0}
 
 over-passes : (a b : ℕ) (s : Packeted) (event : Event) (n : Net) (played : Played Midst) → acted s event ≡ played
     → LeadsOn a b (on_both s.wires) n (option_to_list (delivered s event)) played
     → PassesIf a b s event n (ended (taken_off event s.wires) played)
 over-passes a b s event n Skips is leads = tt
-over-passes a b s event n (WouldStop processor) is leads = tt
+over-passes a b s event n (Would harm) is leads = tt
 over-passes a b s event n (Makes after) is leads = λ one other.
     let P = leads one other in record {
       came = option_to_list (delivered s event);
@@ -301,13 +305,13 @@ abbrev CutsIf : ℕ → ℕ → List Packet → Net → Played Midst → Type 0
 CutsIf a b on start (Makes s) = is_running s.world.stopped a ≡ true → is_running s.world.stopped b ≡ true
     → IsCut a b s.world.stopped on start s.wires
 CutsIf a b on start Skips = Unit {0}
-CutsIf a b on start (WouldStop processor) = Unit {0}
+CutsIf a b on start (Would harm) = Unit {0}
 
 -- who runs in what is made ran before
 abbrev Ran : ℕ → Underway → Played Midst → Type 0
 Ran b s (Makes next) = is_running next.world.stopped b ≡ true → is_running s.world.stopped b ≡ true
 Ran b s Skips = Unit {0}
-Ran b s (WouldStop processor) = Unit {0}
+Ran b s (Would harm) = Unit {0}
 
 -- what goes on after the cut leads on from it
 cut-on : (a b : ℕ) (on : List Packet) (start middle : Net) (played : Played Midst) → Passes a b start [] middle
@@ -315,7 +319,7 @@ cut-on : (a b : ℕ) (on : List Packet) (start middle : Net) (played : Played Mi
 cut-on a b on start middle (Makes s) first leads =
     λ one other. record { middle = middle; first = first; rest = leads one other }
 cut-on a b on start middle Skips first leads = tt
-cut-on a b on start middle (WouldStop processor) first leads = tt
+cut-on a b on start middle (Would harm) first leads = tt
 
 -- who runs after a node pulled its line ran before
 ran-before : (b node : ℕ) (s : Underway) (line : Option ℕ) → Ran b s (pulls node s line)
@@ -323,7 +327,7 @@ ran-before b node s None = λ other. other
 ran-before b node s (Some processor) = by (slice_get s.world.stopped processor) refl
   where
     stops : slice_get s.world.stopped processor ≡ Some false → (test : Bool)
-        → Ran b s (if test then WouldStop processor else Makes
+        → Ran b s (if test then Would (SecondStop processor) else Makes
         (marks_and_declares node processor (record s { world = stopped_world processor s.world })))
     stops at true = tt
     stops at false = λ other.
@@ -344,7 +348,7 @@ tick-cuts a b on start s P = by (is_running s.world.stopped a) refl
         → pulls_its a (record s { wires = ticked s.site.processors a s.wires }) ≡ played
         → Ran b (record s { wires = ticked s.site.processors a s.wires }) played → CutsIf a b on start played
     whole runs Skips is ran = tt
-    whole runs (WouldStop processor) is ran = tt
+    whole runs (Would harm) is ran = tt
     whole runs (Makes next) is ran = λ one other.
         let cut = ticked-cut runs (ran other) s.site.processors s.wires P in
         cut-on a b on start cut.middle (Makes next) cut.first (subst (LeadsOn a b on (ticked_net a b cut.middle) []) is
@@ -366,13 +370,13 @@ abbrev TicksIf : ℕ → ℕ → Packeted → Net → Played Wires → Type 0
 TicksIf a b s n (Makes next) =
     is_running next.world.stopped a ≡ true → is_running next.world.stopped b ≡ true → IsTickPassed a b s next n
 TicksIf a b s n Skips = Unit {0}
-TicksIf a b s n (WouldStop processor) = Unit {0}
+TicksIf a b s n (Would harm) = Unit {0}
 
 over-ticks : (a b : ℕ) (s : Packeted) (n : Net) (played : Played Midst) → tick_acted a (begun s) ≡ played
     → CutsIf a b (on_both s.wires) n played
     → TicksIf a b s n (ended s.wires played)
 over-ticks a b s n Skips is cuts = tt
-over-ticks a b s n (WouldStop processor) is cuts = tt
+over-ticks a b s n (Would harm) is cuts = tt
 over-ticks a b s n (Makes after) is cuts = λ one other.
     let cut = cuts one other in record {
       middle = cut.middle;

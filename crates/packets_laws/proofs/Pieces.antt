@@ -1,7 +1,7 @@
 -- Only the last piece of a message hands anything over.
 use Rattle.std.proofs.Common.{◌≡◌, ◌⊎◌, inl, inr, ℕ, ℤ, Bool, true, false, if◌then◌else◌, List, Option, Some, None}
 use Rattle.std.proofs.Common.{refl, sym, subst, ◌∙◌}
-use Rattle.schedule.specs.declared.event.Event.TheVariants.{Deliver, Lose, Repeat}
+use Rattle.schedule.specs.declared.event.Event.TheVariants.{Deliver, Drive, Lose, Repeat}
 use Rattle.packet_words.specs.declared.bus_name.BusName.{BusName}
 use Rattle.packet_words.specs.declared.packet.Packet.{Packet}
 use Rattle.packet_words.specs.declared.packet.PacketKind.{PacketKind}
@@ -11,12 +11,14 @@ use Rattle.packet_words.specs.Pieces as pieces
 use Rattle.link_control.specs.Ends as ends
 use Rattle.link_control.specs.Ends.{End, handed_by_packet, handed_by_kind}
 use Rattle.world_semantics.specs.World.{is_running}
-use Rattle.machine_states.specs.States.{Played, Makes, Skips, WouldStop}
+use Rattle.machine_states.specs.States.{Played, Makes, Skips, Would}
 use Rattle.packet_wires.specs.Nodes.{end_at}
 use Rattle.packet_wires.specs.Play.{Packeted, begun, completed, handed_words, received, deliver_acted, lose_acted}
 use Rattle.packet_wires.specs.Play.{repeat_acted, packet_at, acted, taken_off, ended, play}
 use Rattle.packet_wires.specs.Wires.{Wires, Midst, bus_named, arrived}
 use Rattle.packets_laws.specs.Pieces.{HandsOver}
+use Rattle.machine_states.proofs.Turning.{drive-cases}
+use Rattle.schedule.specs.declared.event.DriveEvent.{DriveEvent}
 
 -- a packet that completes a message is a last piece
 pub record IsLast (packet : Packet) : Type 0 where
@@ -55,13 +57,13 @@ completed-last packet (Some e) words is = last-piece packet e words is
 abbrev Stays : {W : Type 0} → Packeted → Type 0 → Played W → Type 0
 Stays s Or (Makes next) = (next.world ≡ s.world) ⊎ Or
 Stays s Or Skips = Unit {0}
-Stays s Or (WouldStop processor) = Unit {0}
+Stays s Or (Would harm) = Unit {0}
 
 over-stays : (s : Packeted) (Or : Type 0) (wires : Wires) (played : Played Midst) → Stays s Or played
     → Stays s Or (ended wires played)
 over-stays s Or wires (Makes next) stays = stays
 over-stays s Or wires Skips stays = tt
-over-stays s Or wires (WouldStop processor) stays = tt
+over-stays s Or wires (Would harm) stays = tt
 
 deliver-stays : (s : Packeted) (name : BusName) (k : ℕ) (found : Option Packet) → packet_at s name k ≡ found
     → Stays s (HandsOver s name k) (deliver_acted name (begun s) found)
@@ -100,7 +102,7 @@ deliver-hands s next y k e =
 abbrev Keeps : Packeted → Played Wires → Type 0
 Keeps s (Makes next) = next.world ≡ s.world
 Keeps s Skips = Unit {0}
-Keeps s (WouldStop processor) = Unit {0}
+Keeps s (Would harm) = Unit {0}
 
 pub lose-keeps : (s next : Packeted) (y : Bool) (k : ℕ) → play s (Lose y k) ≡ Makes next → next.world ≡ s.world
 lose-keeps s next y k e = subst (Keeps s) e (by (packet_at s (bus_named y) k))
@@ -115,3 +117,8 @@ repeat-keeps s next y k e = subst (Keeps s) e (by (packet_at s (bus_named y) k))
     by : (found : Option Packet) → Keeps s (ended s.wires (repeat_acted (bus_named y) (begun s) found))
     by None = tt
     by (Some packet) = refl
+
+pub drive-keeps : (s next : Packeted) (event : DriveEvent) → play s (Drive event) ≡ Makes next → next.world ≡ s.world
+drive-keeps s next event e =
+    subst (Keeps s) e (drive-cases event (begun s) (λ (played : Played Midst). Keeps s (ended s.wires played))
+    (λ drives. refl) tt (λ process. tt))

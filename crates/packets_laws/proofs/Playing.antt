@@ -5,7 +5,7 @@ use Rattle.gd_words.specs.Members.{IsAmong}
 use Rattle.gd_words.proofs.Among.{among-at, among-left, among-right}
 use Rattle.tal_tree.specs.declared.site.Site.{Site}
 use Rattle.schedule.specs.declared.event.Event.{Event}
-use Rattle.schedule.specs.declared.event.Event.TheVariants.{Run, Enter, Deliver, Lose, Repeat, Tick, Fail}
+use Rattle.schedule.specs.declared.event.Event.TheVariants.{Run, Enter, Deliver, Lose, Repeat, Tick, Fail, Drive}
 use Rattle.packet_words.specs.declared.bus_name.BusName.{BusName}
 use Rattle.packet_words.specs.declared.bus_name.BusName.TheVariants as bus
 use Rattle.packet_words.specs.declared.packet.Packet.{Packet}
@@ -33,8 +33,9 @@ use Rattle.letters.specs.Posts.{Post, with_letters, post_after_down, without_tho
 use Rattle.letters.specs.Posts.{PlaysEvent, plays_run, plays_no_run, plays_enter, plays_no_enter, plays_nothing}
 use Rattle.letters.specs.Posts.{plays_hand, plays_drop, plays_again, plays_mark, plays_loss, plays_repeat}
 use Rattle.letters.specs.Posts.{plays_no_tick, plays_tick, plays_tick_stop, plays_fail, plays_no_fail, NotesLetters}
+use Rattle.letters.specs.Posts.{plays_drive}
 use Rattle.letters.specs.Posts.{no_mark, one_mark, IsTaken}
-use Rattle.machine_states.specs.States.{Played, Makes, Skips, WouldStop}
+use Rattle.machine_states.specs.States.{Played, Makes, Skips, Would, drive_played, SecondStop}
 use Rattle.message_wires.specs.Play.{has_stopped}
 use Rattle.message_wires_laws.proofs.Stopping.{StopsNone, run-none, enter-none, handed-none, mark-none}
 use Rattle.message_layout.specs.Messages.{NodeMessage, Carrying, Reporting, Declaring}
@@ -55,6 +56,8 @@ use Rattle.packet_nets.proofs.Sending.{came}
 use Rattle.packet_nets.proofs.Ticking.{ticked-ties, down-ties, pulled-other}
 use Rattle.packet_nets.proofs.Tied.{stop-tied, repeated-tied}
 use Rattle.packet_nets.proofs.Watches.{changed-watch, size-set}
+use Rattle.machine_states.proofs.Turning.{drive-cases}
+use Rattle.schedule.specs.declared.event.DriveEvent.{DriveEvent}
 
 -- some letters are owed, and some were sent, by which these events carry the state, while these packets are on the
 -- buses
@@ -70,7 +73,7 @@ FitAll site events = (post : Post) → HasPlayed site events post → (letter : 
 abbrev pub GoesOn : List Event → List Packet → Underway → Played Midst → Type 0
 GoesOn events on s (Makes next) = Carries events on next
 GoesOn events on s Skips = Carries events on s
-GoesOn events on s (WouldStop processor) = Unit {0}
+GoesOn events on s (Would harm) = Unit {0}
 
 -- a change that stops nobody, and then its letters
 posted-on : {on : List Packet} (s : Underway) (events : List Event) (world : World) (midst : Midst)
@@ -220,7 +223,7 @@ module _ (events : List Event) (on : List Packet) (s : Underway) (owed sent : Li
       stops : slice_get s.world.stopped processor ≡ Some false
           → Change s.site s.world (Stopping processor) [] (stopped_world processor s.world) → (test : Bool)
           → GoesOn (events ++ Fail processor ∷ []) on s
-          (if test then WouldStop processor else Makes (record s { world = stopped_world processor s.world }))
+          (if test then Would (SecondStop processor) else Makes (record s { world = stopped_world processor s.world }))
       stops e change true = tt
       stops e change false = (
         owed,
@@ -239,6 +242,12 @@ module _ (events : List Event) (on : List Packet) (s : Underway) (owed sent : Li
           (has_stopped s.world.stopped)
       by (Some true) e = calm (Fail processor) s.wires carried.ties (plays_no_fail (idle (rw e refl)))
       by None e = calm (Fail processor) s.wires carried.ties (plays_no_fail (idle (rw e refl)))
+
+  drive-on : (event : DriveEvent) → GoesOn (events ++ Drive event ∷ []) on s (drive_played event s)
+  drive-on event =
+      drive-cases event s (GoesOn (events ++ Drive event ∷ []) on s)
+      (λ drives. (owed, sent, record { played = played_more carried.played plays_drive; ties = carried.ties }))
+      (calm (Drive event) s.wires carried.ties plays_drive) (λ process. tt)
 
   -- A packet is delivered
 
@@ -409,7 +418,7 @@ module _ (events : List Event) (on : List Packet) (s : Underway) (owed sent : Li
       where
         stops : slice_get s.world.stopped processor ≡ Some false
             → Change s.site s.world (Stopping processor) [] (stopped_world processor s.world) → (test : Bool)
-            → GoesOn (events ++ Tick node ∷ []) on s (if test then WouldStop processor
+            → GoesOn (events ++ Tick node ∷ []) on s (if test then Would (SecondStop processor)
             else Makes (marks_and_declares node processor
             (record s { world = stopped_world processor s.world; wires = ticked s.site.processors node s.wires })))
         stops e change true = tt
@@ -461,7 +470,7 @@ CarriesAtRest events s = Carries events (on_both s.wires) (begun s)
 abbrev pub GoesOnAtRest : List Event → Packeted → Played Wires → Type 0
 GoesOnAtRest events s (Makes next) = CarriesAtRest events next
 GoesOnAtRest events s Skips = CarriesAtRest events s
-GoesOnAtRest events s (WouldStop processor) = Unit {0}
+GoesOnAtRest events s (Would harm) = Unit {0}
 
 -- what is left on the buses when an event has taken its packet was there
 pub among-taken : (event : Event) (wires : Wires) (p : Packet) → IsAmong p (on_both (taken_off event wires))
@@ -473,12 +482,13 @@ among-taken (Lose y k) wires p among = among-without (bus_named y) k wires p amo
 among-taken (Repeat y k) wires p among = among
 among-taken (Tick node) wires p among = among
 among-taken (Fail processor) wires p among = among
+among-taken (Drive event) wires p among = among
 
 over-on : (events : List Event) (s : Packeted) (event : Event) (played : Played Midst)
     → GoesOn events (on_both s.wires) (begun s) played
     → GoesOnAtRest events s (ended (taken_off event s.wires) played)
 over-on events s event Skips on = on
-over-on events s event (WouldStop processor) on = tt
+over-on events s event (Would harm) on = tt
 over-on events s event (Makes next) (owed, sent, c) = (
   owed,
   sent,
@@ -516,3 +526,4 @@ plays-on events s owed sent carried honest only fit event =
         (packet_at s (bus_named y) k) (stands-there s (bus_named y) k)
     by (Tick node) = tick-on events (on_both s.wires) (begun s) owed sent carried honest only fit node
     by (Fail processor) = fail-on events (on_both s.wires) (begun s) owed sent carried honest only fit processor
+    by (Drive event) = drive-on events (on_both s.wires) (begun s) owed sent carried honest only fit event

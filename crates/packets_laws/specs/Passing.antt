@@ -2,7 +2,7 @@
 use Rattle.std.specs.Prelude.{◌≡◌, ◌≤◌, ℕ, List, [], length, Option, Some, None}
 use Rattle.gd_words.specs.Members.{IsAmong}
 use Rattle.schedule.specs.declared.event.Event.{Event}
-use Rattle.schedule.specs.declared.event.Event.TheVariants.{Run, Enter, Deliver, Lose, Repeat, Tick, Fail}
+use Rattle.schedule.specs.declared.event.Event.TheVariants.{Run, Enter, Deliver, Lose, Repeat, Tick, Fail, Drive}
 use Rattle.packet_words.specs.declared.packet.Packet.{Packet}
 use Rattle.channel_laws.specs.Net.{Net, Goes, ticked_net}
 use Rattle.channel_laws.specs.Rounds.{Passes}
@@ -20,6 +20,7 @@ delivered s (Lose y k) = None
 delivered s (Repeat y k) = None
 delivered s (Tick node) = None
 delivered s (Fail processor) = None
+delivered s (Drive event) = None
 
 -- an event takes nothing off a bus that it doesn't deliver
 abbrev pub TakesToDeliver : Event → Type 0
@@ -30,6 +31,7 @@ TakesToDeliver (Lose y k) = ⊥
 TakesToDeliver (Repeat y k) = Unit {0}
 TakesToDeliver (Tick node) = Unit {0}
 TakesToDeliver (Fail processor) = Unit {0}
+TakesToDeliver (Drive event) = Unit {0}
 
 -- the wires of a state are those of a net
 abbrev pub IsNetOf : Packeted → Net → Type 0

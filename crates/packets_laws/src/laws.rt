@@ -5,7 +5,8 @@ ghost use Rattle.packet_words.specs.declared.bus_name.BusName.{BusName};
 ghost use Rattle.packet_words.specs.declared.packet.Packet.{Packet};
 ghost use Rattle.tal_tree.specs.declared.site.Site.{Site};
 ghost use Rattle.schedule.specs.declared.event.Event.{Event};
-ghost use Rattle.schedule.specs.declared.event.Event.TheVariants.{Deliver, Lose, Repeat, Tick};
+ghost use Rattle.schedule.specs.declared.event.Event.TheVariants.{Deliver, Drive, Lose, Repeat, Tick};
+ghost use Rattle.schedule.specs.declared.event.DriveEvent.{DriveEvent};
 ghost use Rattle.world_semantics.specs.Follows.{IsRun};
 ghost use Rattle.world_semantics.specs.World.{Down, is_running};
 ghost use Rattle.message_wires_laws.specs.takeover_laws.specs.Fit.{IsFit};
@@ -59,6 +60,8 @@ pub fn only_a_last_piece_hands_over()
         → (next.world ≡ s.world) ⊎ HandsOver s (bus_named y) k }
     ensures lose { (s next : Packeted) (y : Bool) (k : ℕ) → play s (Lose y k) ≡ Makes next → next.world ≡ s.world }
     ensures repeat { (s next : Packeted) (y : Bool) (k : ℕ) → play s (Repeat y k) ≡ Makes next → next.world ≡ s.world }
+    ensures drive { (s next : Packeted) (event : DriveEvent) → play s (Drive event) ≡ Makes next
+        → next.world ≡ s.world }
 {}
 
 /// A node has marked only what has stopped, and all marks of a run name one processor.

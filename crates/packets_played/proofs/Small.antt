@@ -81,7 +81,7 @@ module _ (site : Site) (accepted : IsAcceptedSite site) where
   files-low number spec there = of spec.what refl
     where
       of : (what : Kind) → spec.what ≡ what → (file : FileUse) → IsAmong file (files_of what) → file.depth ≤ 4
-      of (kind.Disc sectors) is file among = absurd among
+      of (kind.Disc sectors mirrored) is file among = absurd among
       of (kind.Pair program) is file among =
           let read = accepted.read number spec program there is in
           let within : IsWithinLimits program =

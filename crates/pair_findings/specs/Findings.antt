@@ -57,7 +57,7 @@ pub record IsFinding (program : Program) (finding : PairFinding) : Type 0 where
   pub checkpoints : finding.checkpoints ≡ checkpoints_of program
 
 abbrev pub IsFindingOf : Kind → Finding → Type 0
-IsFindingOf (kind.Disc sectors) finding = finding ≡ found.Disc
+IsFindingOf (kind.Disc sectors mirrored) finding = finding ≡ found.Disc
 IsFindingOf (kind.Pair program) (found.Pair one) = IsFinding program one
 IsFindingOf (kind.Pair program) found.Disc = ⊥
 

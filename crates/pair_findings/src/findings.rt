@@ -32,7 +32,7 @@ fn finding_of(alloc: Global, what: &Kind) -> Result<Finding, NoMemory>
     ensures { IfOk result (λ finding. IsFindingOf what.now finding) }
 {
     match what {
-        Kind::Disc { sectors: _ } => Ok(Finding::Disc),
+        Kind::Disc { .. } => Ok(Finding::Disc),
         Kind::Pair(program) => {
             let found = pair_finding_of(alloc, program)?;
             Ok(Finding::Pair(found))

@@ -1,3 +1,4 @@
+pub mod Drives
 pub mod Marks
 pub mod PacketKinds
 pub mod Packets

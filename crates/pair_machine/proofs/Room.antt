@@ -10,7 +10,7 @@ use Rattle.world_semantics.specs.Running.{Done}
 use Rattle.world_semantics.proofs.Lists.{some-same}
 use Rattle.computed_changes.specs.Stopped.{mark_where, down_done, marked_where, may_note}
 use Rattle.letters.specs.Routes.{Letter, letter_of, letters_of, receiver_of}
-use Rattle.machine_states.specs.States.{Played, Makes, Skips, WouldStop}
+use Rattle.machine_states.specs.States.{Played, Makes, Skips, Would}
 use Rattle.message_wires.specs.Play.{MachineState, after_any, made_by, noted_by, notes_from, play}
 use Rattle.message_wires.specs.Wires.{Wires, wires_after_posts, wires_after_post}
 use Rattle.number_laws.proofs.Counts.{marks-grow}
@@ -105,7 +105,7 @@ played-counted s letters event = by (play s event) refl
     by : (made : Played Wires) → play s event ≡ made → AreCountedAfter made
     by (Makes next) is = letters event next is
     by Skips is = tt
-    by (WouldStop processor) is = tt
+    by (Would harm) is = tt
 
 -- so are those that a change sends, which is told
 pub told-counted : (s mid : MachineState) (done : Option Done) (told : Option (List Sending)) → mid ≡ unsent s done

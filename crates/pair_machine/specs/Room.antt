@@ -3,7 +3,7 @@
 use Rattle.std.specs.Prelude.{◌<◌, ℕ, ◌^◌, List, Option, Some, None}
 use Rattle.gd_words.specs.Members.{IsAmong}
 use Rattle.world_semantics.specs.Messages.{Sending}
-use Rattle.machine_states.specs.States.{Played, Makes, Skips, WouldStop}
+use Rattle.machine_states.specs.States.{Played, Makes, Skips, Would}
 use Rattle.message_wires.specs.Wires.{Sent, Wires}
 use Rattle.message_wires.specs.Play.{MachineState}
 use Rattle.world_copies.specs.Room.{NamesItsOpener}
@@ -17,7 +17,7 @@ AreCounted s = s.wires.count < 2 ^ 64
 abbrev pub AreCountedAfter : Played Wires → Type 0
 AreCountedAfter (Makes next) = AreCounted next
 AreCountedAfter Skips = Unit {0}
-AreCountedAfter (WouldStop processor) = Unit {0}
+AreCountedAfter (Would harm) = Unit {0}
 
 -- and after these messages were sent, if something is done that sends them
 abbrev pub AreCountedTelling : Option (List Sending) → MachineState → Type 0

@@ -14,6 +14,7 @@ pub mod pairs;
 mod posting;
 mod running;
 mod ticking;
+mod turning;
 mod whole;
 
 pub use pairs::PairMachine;

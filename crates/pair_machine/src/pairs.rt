@@ -212,6 +212,7 @@ impl MachineParts {
             Event::Repeat { y, k } => self.repeat(y, k),
             Event::Tick(node) => self.tick(node),
             Event::Fail(processor) => self.fail(processor),
+            Event::Drive(turn) => Ok(self.turn(turn)),
         }
     }
 }

@@ -15,8 +15,7 @@ use Rattle.plain_semantics.specs.Machine.{sectors_at_first, slot_at}
 use Rattle.plain_semantics.specs.Openers.{openers_of}
 use Rattle.plain_semantics.specs.declared.slot.Opener.{Opener}
 use Rattle.plain_semantics.specs.declared.slot.Slot.TheVariants.{Empty}
-use Rattle.disc_device.specs.declared.stored.Stored.{Stored}
-use Rattle.disc_device.specs.Sectors.{blank}
+use Rattle.disc_device.specs.Sectors.{Stored, blank}
 use Rattle.world_semantics.specs.Core.{core_at_boot}
 use Rattle.world_semantics.specs.World.{device_at_boot}
 use Rattle.world_semantics.proofs.Lists.{some-same}
@@ -41,7 +40,7 @@ blank-words zero = refl
 blank-words (suc n) = ap (λ rest. zeros 8 ∷ rest) (blank-words n)
 
 first-sectors : (what : Kind) → sectors_at_first what ≡ map (λ (stored : Stored). stored.words) (device_at_boot what)
-first-sectors (kind.Disc sectors) = blank-words sectors
+first-sectors (kind.Disc sectors mirrored) = blank-words sectors
 first-sectors (kind.Pair program) = refl
 
 first-slot : (openers : List OpenerSpec) (place : ℕ) (spec : OpenerSpec) → slice_get openers place ≡ Some spec

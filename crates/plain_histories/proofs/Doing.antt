@@ -17,7 +17,7 @@ use Rattle.plain_semantics.specs.declared.slot.Opener.{Opener}
 use Rattle.plain_semantics.specs.declared.slot.Slot.{Slot}
 use Rattle.plain_semantics.specs.declared.slot.Slot.TheVariants.{Empty, Waiting, Taken, Answered}
 use Rattle.whole_states.specs.Processes.{IsRegularKind}
-use Rattle.disc_device.specs.declared.stored.Stored.{Stored}
+use Rattle.disc_device.specs.Sectors.{Stored}
 use Rattle.world_semantics.specs.checkpoint_image.specs.Receive.{is_place}
 use Rattle.world_semantics.specs.Core.{Core, Deed, Went, Checkpointed, Took, Asked, Got, Answered as Replied, Acted}
 use Rattle.world_semantics.specs.Core.{Advances, goes, marks, takes, asks, gets, answers, acts}

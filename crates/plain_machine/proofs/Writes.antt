@@ -255,6 +255,7 @@ happened-within site (event.Lose y k) ran = omega arith
 happened-within site (event.Repeat y k) ran = omega arith
 happened-within site (event.Tick node) ran = omega arith
 happened-within site (event.Fail processor) ran = omega arith
+happened-within site (event.Drive turn) ran = omega arith
 
 repeated-within : (site : Site) (event : Event) (times : ℕ) (ran : Ran)
     → most_write (repeated site event times ran).plain.processes ≤ most_write ran.plain.processes + times
@@ -290,7 +291,7 @@ turn-within (suc k) (suc n) size within =
 -- At the beginning
 
 start-last : (what : Kind) → last_write_of (process.start_of what) ≡ 0
-start-last (kind.Disc sectors) = refl
+start-last (kind.Disc sectors mirrored) = refl
 start-last (kind.Pair program) = refl
 
 first-none : (site : Site) (number : ℕ) (specs : List ProcessSpec)

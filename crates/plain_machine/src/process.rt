@@ -218,7 +218,7 @@ fn zero_sectors(alloc: Global, kind: &Kind) -> Result<Vec<Sector>, NoMemory>
     ensures { IfOk result (λ sectors. sectors.items ≡ sectors_at_first kind.now) }
 {
     match kind {
-        Kind::Disc { sectors } => zeros(alloc, *sectors),
+        Kind::Disc { sectors, .. } => zeros(alloc, *sectors),
         Kind::Pair(_) => Ok(Vec::new(alloc)),
     }
 }

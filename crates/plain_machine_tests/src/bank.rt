@@ -49,7 +49,14 @@ pub fn bank_site(alloc: Global) -> Result<Site, Fail>
 {
     let program = program_of(alloc, BANK)?;
     let mut processes = List::new(alloc);
-    add(&mut processes, b"$DATA", Kind::Disc { sectors: 16 })?;
+    add(
+        &mut processes,
+        b"$DATA",
+        Kind::Disc {
+            sectors: 16,
+            mirrored: false,
+        },
+    )?;
     add(&mut processes, b"$BANK", Kind::Pair(program))?;
     let terminals = terminals(alloc)?;
     let site = Site {

@@ -38,7 +38,7 @@ pub record Plain : Type 0 where
 
 -- a disc's sectors, all zero
 abbrev pub sectors_at_first : Kind → List (List ℤ)
-sectors_at_first (kind.Disc sectors) = replicate sectors (zeros 8)
+sectors_at_first (kind.Disc sectors mirrored) = replicate sectors (zeros 8)
 sectors_at_first (kind.Pair program) = []
 
 -- a process at its beginning, with an empty slot for each opener

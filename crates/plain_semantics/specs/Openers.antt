@@ -39,7 +39,7 @@ files_from name process number (file ∷ files) =
 
 -- the files of a process: a disc has none
 abbrev pub files_of : Kind → List FileUse
-files_of (kind.Disc sectors) = []
+files_of (kind.Disc sectors mirrored) = []
 files_of (kind.Pair program) = program.files
 
 -- the openers among the files of processes, from a place in the deck on

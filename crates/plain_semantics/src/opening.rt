@@ -53,7 +53,7 @@ pub fn files_of(kind: &Kind) -> &[FileUse]
     ensures { result.now ≡ files_of kind.now }
 {
     match kind {
-        Kind::Disc { sectors: _ } => &[],
+        Kind::Disc { .. } => &[],
         Kind::Pair(program) => program.files.as_slice(),
     }
 }

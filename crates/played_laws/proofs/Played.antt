@@ -3,7 +3,7 @@ use Rattle.std.proofs.Common.{◌≡◌, Bool, true, false, ◌&&◌, List, [], 
 use Rattle.std.proofs.lemmas.List.{append-nil, append_assoc}
 use Rattle.tal_tree.specs.declared.site.Site.{Site}
 use Rattle.schedule.specs.declared.event.Event.{Event}
-use Rattle.machine_states.specs.States.{Played, Makes, Skips, WouldStop}
+use Rattle.machine_states.specs.States.{Played, Makes, Skips, Would}
 use Rattle.message_wires.specs.Examples.{end_of, state_after}
 use Rattle.message_wires.specs.Play.{MachineState, play}
 use Rattle.message_wires.specs.Runs.{IsPlayed, played_more, skipped}
@@ -12,7 +12,7 @@ use Rattle.message_wires.specs.Wires.{Wires}
 abbrev pub is_played : Played Wires → Bool
 is_played (Makes next) = true
 is_played Skips = true
-is_played (WouldStop processor) = false
+is_played (Would harm) = false
 
 -- none of these events would stop a second processor
 abbrev pub are_played : MachineState → List Event → Bool
@@ -24,7 +24,7 @@ one-more : {site : Site} {before : List Event} {s : MachineState} (event : Event
     → IsPlayed site (before ++ event ∷ []) (state_after made s)
 one-more event played (Makes next) e ok = played_more event played e
 one-more event played Skips e ok = skipped event played e
-one-more event played (WouldStop processor) e ok = absurd (cc)
+one-more event played (Would harm) e ok = absurd (cc)
 
 and-true : (one other : Bool) → (one && other) ≡ true → (one ≡ true) × (other ≡ true)
 and-true true other e = (refl, e)

@@ -3,7 +3,7 @@ use Rattle.std.proofs.Common.{◌≡◌, ℕ, ◌+◌, ◌-◌, ◌≤◌, ◌==
 use Rattle.std.proofs.Common.{Some, None, option_map, if◌then◌else◌, refl, arith}
 use Rattle.std.proofs.lemmas.Bool.{ltb-true}
 use Rattle.schedule.specs.declared.event.Event.{Event}
-use Rattle.schedule.specs.declared.event.Event.TheVariants.{Run, Enter, Deliver, Lose, Repeat, Tick, Fail}
+use Rattle.schedule.specs.declared.event.Event.TheVariants.{Run, Enter, Deliver, Lose, Repeat, Tick, Fail, Drive}
 use Rattle.schedule.specs.declared.event.Counts.{Counts}
 use Rattle.player.specs.declared.standing.Sizes.{Sizes}
 use Rattle.player.specs.declared.standing.Rule.TheVariants.{Drain, Mute, Until}
@@ -38,6 +38,7 @@ muted-rounds node counts (Lose bus k) = refl
 muted-rounds node counts (Repeat bus k) = refl
 muted-rounds node counts (Tick tick) = refl
 muted-rounds node counts (Fail processor) = refl
+muted-rounds node counts (Drive event) = refl
 
 spared-rounds : (counts : Counts) (event : Event) → rounds_of_event (spared counts event) ≡ rounds_of_event event
 spared-rounds counts (Run process) = refl
@@ -47,6 +48,7 @@ spared-rounds counts (Lose bus k) = no-round counts.alive (Deliver bus k) (Lose 
 spared-rounds counts (Repeat bus k) = refl
 spared-rounds counts (Tick tick) = refl
 spared-rounds counts (Fail processor) = refl
+spared-rounds counts (Drive event) = refl
 
 decided-rounds : (standing : LinePlace) (counts : Counts) (event : Event)
     → rounds_of_event (decided standing counts event) ≡ rounds_of_event event
@@ -77,6 +79,7 @@ at-most-one (Lose bus k) = none 1
 at-most-one (Repeat bus k) = none 1
 at-most-one (Tick node) = tick-one (node == 16)
 at-most-one (Fail processor) = none 1
+at-most-one (Drive event) = none 1
 
 begun-kept : (left : ℕ) (move : Move) → rounds_of_event move.event + rounds_left move.standing ≤ left - 1 + 1
     → ended_and_left (if nat_lt 0 left then Some move else None) ≤ left

@@ -12,11 +12,11 @@ use Rattle.sync_ids.specs.Tables.{untaken}
 use Rattle.world_semantics.specs.Core.{Core}
 
 pub start-free : (what : Kind) → in_hand (start_of what) ≡ false
-start-free (kind.Disc sectors) = refl
+start-free (kind.Disc sectors mirrored) = refl
 start-free (kind.Pair program) = refl
 
 pub start-files : (what : Kind) → length (openers.files_of what) ≡ files_of (start_of what)
-start-files (kind.Disc sectors) = refl
+start-files (kind.Disc sectors mirrored) = refl
 start-files (kind.Pair program) = refl
 
 ones : {A : Type 0} (items : List A) → replicate {A = ℕ} (length items) 1 ≡ map (λ item. 1) items

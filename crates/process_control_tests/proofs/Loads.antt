@@ -8,7 +8,7 @@ use Rattle.whole_states.specs.Processes.{IsRegularKind, IsWholeProcess}
 use Rattle.whole_states.proofs.Processes.{stays-whole, start-process}
 
 regular : (what : Kind) → IsLoadableKind what → IsRegularKind what
-regular (kind.Disc sectors) loadable = tt
+regular (kind.Disc sectors mirrored) loadable = tt
 regular (kind.Pair program) loadable = loadable.regular
 
 pub starts-whole : (what : Kind) → IsLoadableKind what → IsWholeProcess (start_of what)

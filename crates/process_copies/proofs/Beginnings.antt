@@ -7,15 +7,18 @@ use Rattle.process_semantics.specs.Process.{start_of}
 use Rattle.plain_semantics.specs.Openers.{files_of, openers_of}
 use Rattle.checkpoint_image.specs.declared.message.ImageMessage.{ImageMessage}
 use Rattle.checkpoint_image.specs.declared.message.TakenMessage.{TakenMessage}
-use Rattle.disc_device.specs.declared.stored.Stored.{Stored}
+use Rattle.disc_device.specs.Sectors.{Stored}
+use Rattle.disc_device.specs.mirror.specs.declared.state.DriveState.{DriveState}
+use Rattle.machine_states.specs.Drives.{states_at_boot}
 use Rattle.world_semantics.specs.declared.role.Role.{Role}
 use Rattle.world_semantics.specs.declared.role.Role.TheVariants.{Acting, Watching}
 use Rattle.world_semantics.specs.Core.{core_at_boot}
-use Rattle.world_semantics.specs.World.{Copy, copy_at_boot, device_at_boot, pair_at_boot}
+use Rattle.world_semantics.specs.World.{Copy, copy_at_boot, device_at_boot}
 use Rattle.node_copies.specs.process_control.specs.Cores.{core_at_start}
 use Rattle.node_copies.specs.process_control.proofs.Starting.{starts}
 use Rattle.node_copies.specs.Seen.{CopyAndDepths}
 use Rattle.process_copies.specs.Seen.{Placed}
+use Rattle.process_copies.specs.Starting.{placed_at_boot}
 
 -- a copy at the start, with these openers
 abbrev pub Started : ProcessSpec → List OpenerSpec → Role → ℕ → CopyAndDepths
@@ -34,8 +37,9 @@ copy-starts site number spec openers role processor one all is =
     (core_at_start (start_of spec.what) (length (files_of spec.what)) o).core) all
     ∙ ap (copy_at_boot role processor) (starts (start_of spec.what) (files_of spec.what) (openers_of site number))
 
-abbrev Put : Site → ℕ → Copy → Copy → List ImageMessage → List TakenMessage → List Stored → Placed
-Put site number first second checkpoints takens sectors = record {
+abbrev Put : Site → ℕ → Copy → Copy → List ImageMessage → List TakenMessage → List Stored
+    → List DriveState → Placed
+Put site number first second checkpoints takens sectors drives = record {
   site = site;
   number = number;
   pair = record {
@@ -46,24 +50,26 @@ Put site number first second checkpoints takens sectors = record {
     takens = takens;
     sectors = sectors;
   };
+  drives = drives;
 }
 
 pub process-starts : (site own : Site) (number : ℕ) (spec : ProcessSpec) (openers : List OpenerSpec)
     (first second : CopyAndDepths)
-    (checkpoints : List ImageMessage) (takens : List TakenMessage) (sectors : List Stored)
+    (checkpoints : List ImageMessage) (takens : List TakenMessage) (sectors : List Stored) (drives : List DriveState)
     → own ≡ site → openers ≡ openers_of site number → first ≡ Started spec openers Acting spec.primary
     → second ≡ Started spec openers Watching spec.backup
     → checkpoints ≡ [] → takens ≡ [] → sectors ≡ device_at_boot spec.what
-    → Put own number first.copy second.copy checkpoints takens sectors
-    ≡ record { site = site; number = number; pair = pair_at_boot site number spec }
-process-starts site own number spec openers first second checkpoints takens sectors here all one other unsent untaken
-    device =
-    ap (λ (s : Site). Put s number first.copy second.copy checkpoints takens sectors) here
-    ∙ ap₂ (λ (a b : Copy). Put site number a b checkpoints takens sectors)
+    → drives ≡ states_at_boot spec.what
+    → Put own number first.copy second.copy checkpoints takens sectors drives ≡ placed_at_boot site number spec
+process-starts site own number spec openers first second checkpoints takens sectors drives here all one other unsent
+    untaken device standing =
+    ap (λ (s : Site). Put s number first.copy second.copy checkpoints takens sectors drives) here
+    ∙ ap₂ (λ (a b : Copy). Put site number a b checkpoints takens sectors drives)
     (copy-starts site number spec openers Acting spec.primary first all one)
     (copy-starts site number spec openers Watching spec.backup second all other)
     ∙ ap₂ (λ (sent : List ImageMessage) (taken : List TakenMessage). Put site number
     (copy_at_boot Acting spec.primary (core_at_boot site number spec))
-    (copy_at_boot Watching spec.backup (core_at_boot site number spec)) sent taken sectors) unsent untaken
-    ∙ ap (λ (d : List Stored). Put site number (copy_at_boot Acting spec.primary (core_at_boot site number spec))
-    (copy_at_boot Watching spec.backup (core_at_boot site number spec)) [] [] d) device
+    (copy_at_boot Watching spec.backup (core_at_boot site number spec)) sent taken sectors drives) unsent untaken
+    ∙ ap₂ (λ (d : List Stored) (s : List DriveState). Put site number
+    (copy_at_boot Acting spec.primary (core_at_boot site number spec))
+    (copy_at_boot Watching spec.backup (core_at_boot site number spec)) [] [] d s) device standing

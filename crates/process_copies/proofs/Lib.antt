@@ -4,3 +4,4 @@ mod Applying
 mod Beginnings
 mod Depths
 mod Steps
+mod Turned

@@ -3,7 +3,7 @@ use Rattle.std.proofs.Common.{◌≡◌, ◌≢◌, ℕ, List, Option, Some, Non
 use Rattle.tal_tree.specs.declared.site.Site.{Site}
 use Rattle.process_semantics.specs.declared.point.Point.{Point}
 use Rattle.process_semantics.specs.declared.point.Point.TheVariants as point
-use Rattle.disc_device.specs.declared.stored.Stored.{Stored}
+use Rattle.disc_device.specs.Sectors.{Stored}
 use Rattle.world_semantics.specs.declared.which.Which.{Which}
 use Rattle.world_semantics.specs.declared.which.Which.TheVariants.{First, Second}
 use Rattle.world_semantics.specs.Messages.{Sending}

@@ -2,6 +2,9 @@ pub mod Acting
 pub mod Receiving
 pub mod Seen
 pub mod Starting
+pub mod Turning
+pub use Rattle.disc_device
+pub use Rattle.machine_states
 pub use Rattle.node_copies.specs.message_wires
 pub use Rattle.node_copies
 pub use Rattle.node_copies.specs.number_ranges

@@ -1,4 +1,7 @@
 ghost use Rattle.std.specs.Prelude.{◌≡◌, length};
+ghost use Rattle.std.specs.Option.{option_copied};
+ghost use Rattle.disc_device.specs.mirror.specs.States.{standing};
+ghost use Rattle.node_copies.specs.Seen.{drives_on, sectors_on};
 ghost use Rattle.process_semantics.specs.Process.{point};
 ghost use Rattle.plain_semantics.specs.Openers.{openers_of};
 ghost use Rattle.world_semantics.specs.World.{copy_of};
@@ -6,6 +9,7 @@ ghost use Rattle.sendings.specs.letters.specs.Routes.{other_end};
 ghost use Rattle.computed_changes.specs.Handed.{copy_in};
 
 use checkpoint_image::{ImageMessage, TakenMessage};
+use disc_device::mirror::DriveState;
 use disc_device::{Disc, Stored};
 use gd_words::List;
 use ghost_logs::GhostLog;
@@ -39,7 +43,7 @@ impl Model for ProcessCopies {
     ghost use Rattle.tal_tree.specs.contracts.statement.Statement as statement;
     ghost use Rattle.plain_semantics.specs.Openers.{openers_of};
     ghost use Rattle.computed_changes.specs.Fitting.{depths_of};
-    ghost use Rattle.node_copies.specs.Seen.{openers_on, sectors_on};
+    ghost use Rattle.node_copies.specs.Seen.{drives_on, openers_on, sectors_on};
     ghost use Rattle.process_copies.specs.Seen.{Placed};
 
     ghost Value = { Placed };
@@ -57,6 +61,7 @@ impl Model for ProcessCopies {
         takens = process.takens;
         sectors = sectors_on process.device;
       };
+      drives = drives_on process.device;
     } };
 
     ghost invariant = { λ process. (process.openers ≡ openers_of process.site.value process.number)
@@ -106,6 +111,24 @@ impl ProcessCopies {
         match &self.device {
             None => 0,
             Some(disc) => disc.count(),
+        }
+    }
+
+    /// Its device, if it is a disc.
+    pub fn disc(&self) -> Option<&Disc>
+        ensures sectors { sectors_on (option_copied result) ≡ self.now.pair.sectors }
+        ensures drives { drives_on (option_copied result) ≡ self.now.drives }
+    {
+        self.device.as_ref()
+    }
+
+    /// How the drive of its device at a place stands; one that isn't there has failed.
+    pub fn standing(&self, drive: u8) -> DriveState
+        ensures { result ≡ standing self.now.drives drive }
+    {
+        match &self.device {
+            None => DriveState::Failed,
+            Some(disc) => disc.standing(drive),
         }
     }
 

@@ -14,8 +14,12 @@ pub mod marking;
 mod running;
 mod starting;
 mod telling;
+mod turning;
 
 pub use copies::ProcessCopies;
+pub use disc_device;
+pub use machine_states;
 pub use node_copies;
 pub use node_copies::kept_acts;
+pub use schedule;
 pub use starting::address_of;

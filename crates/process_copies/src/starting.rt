@@ -1,12 +1,15 @@
-ghost use Rattle.std.specs.Prelude.{◌≡◌, ◌≤◌, All, Some, length, slice_get, IfOk};
+ghost use Rattle.std.specs.Prelude.{◌≡◌, ◌≤◌, if◌then◌else◌, All, None, Some, length, slice_get, IfOk};
 ghost use Rattle.std.specs.Option.{IfSome};
 ghost use Rattle.plain_semantics.specs.Openers.{files_of, openers_of};
 ghost use Rattle.plain_semantics.specs.SiteLimits.{KeepsSiteLimits};
 ghost use Rattle.node_copies.specs.processes.specs.Seen.{IsLoadableKind};
 ghost use Rattle.sync_ids.specs.Tables.{IsDepth};
-ghost use Rattle.world_semantics.specs.World.{device_at_boot, pair_at_boot};
-ghost use Rattle.node_copies.specs.Seen.{file_row, sectors_on};
-ghost use Rattle.process_copies.specs.Starting.{HasAddress, HasSectors, IsStartable};
+ghost use Rattle.disc_device.specs.mirror.specs.Mirror.{all_working};
+ghost use Rattle.disc_device.specs.mirror.specs.Sectors.{blanks};
+ghost use Rattle.machine_states.specs.Drives.{states_at_boot};
+ghost use Rattle.world_semantics.specs.World.{device_at_boot};
+ghost use Rattle.node_copies.specs.Seen.{drives_on, file_row, sectors_on};
+ghost use Rattle.process_copies.specs.Starting.{HasAddress, HasSectors, IsStartable, placed_at_boot};
 
 use crate::copies::ProcessCopies;
 use disc_device::Disc;
@@ -30,7 +33,7 @@ impl ProcessCopies {
         requires startable { IsStartable site.now }
         requires there { slice_get site.now.processes number ≡ Some spec.now }
         ensures { IfOk result (λ process. process
-            ≡ record { site = site.now; number = number; pair = pair_at_boot site.now number spec.now }) }
+            ≡ placed_at_boot site.now number spec.now) }
     {
         let process = start_in(alloc, site, number, spec)?;
         Ok(process)
@@ -50,7 +53,7 @@ fn start_in(
     requires few { length (files_of spec.now.what) ≤ 8 }
     requires depths { All (λ opener. IsDepth opener.depth) (openers_of site.now number) }
     ensures { IfOk result (λ process. process
-        ≡ record { site = site.now; number = number; pair = pair_at_boot site.now number spec.now }) }
+        ≡ placed_at_boot site.now number spec.now) }
 {
     let what = &spec.what;
     let openers = openers(alloc, site, usize::from(number))?;
@@ -109,13 +112,28 @@ pub fn address_of(opener: Option<Opener>) -> Option<Address>
 /// The device of a disc; a program has none.
 fn start_device(alloc: Global, what: &Kind) -> Result<Option<Disc>, NoMemory>
     requires { HasSectors what.now }
-    ensures { IfOk result (λ device. sectors_on device ≡ device_at_boot what.now) }
+    ensures sectors { IfOk result (λ device. sectors_on device ≡ device_at_boot what.now) }
+    ensures drives { IfOk result (λ device. drives_on device ≡ states_at_boot what.now) }
 {
     match what {
-        Kind::Disc { sectors } => {
-            let disc = Disc::new(alloc, *sectors)?;
+        Kind::Disc { sectors, mirrored } => {
+            let disc = start_disc(alloc, *sectors, *mirrored)?;
             Ok(Some(disc))
         }
         Kind::Pair(_) => Ok(None),
+    }
+}
+
+/// A disc on which nothing was written, with two drives if it is mirrored.
+fn start_disc(alloc: Global, sectors: u8, mirrored: bool) -> Result<Disc, NoMemory>
+    requires some { 1 ≤ sectors }
+    requires few { sectors ≤ 64 }
+    ensures { IfOk result (λ disc. disc
+        ≡ all_working (blanks sectors) (if mirrored then Some (blanks sectors) else None)) }
+{
+    if mirrored {
+        Disc::mirrored(alloc, sectors)
+    } else {
+        Disc::new(alloc, sectors)
     }
 }

@@ -1,5 +1,5 @@
 -- A disc that a terminal asks, and states of its machine; and a disc that a program opens.
-use Rattle.std.specs.Prelude.{ℕ, ℤ, pos, List, [], ◌∷◌, map, Option, Some, None, replicate}
+use Rattle.std.specs.Prelude.{ℕ, ℤ, pos, false, List, [], ◌∷◌, map, Option, Some, None, replicate}
 use Rattle.tal_tree.specs.declared.program.Program.{Program}
 use Rattle.tal_tree.specs.declared.program.Target.TheVariants as target
 use Rattle.tal_tree.specs.declared.site.Site.{Site}
@@ -17,7 +17,7 @@ use Rattle.plain_semantics.specs.Machine.{Plain, PlainProcess}
 abbrev pub disc_site : Site
 disc_site = record {
   processors = 2;
-  processes = record { name = 36 ∷ 68 ∷ []; primary = 0; backup = 1; what = kind.Disc 2 } ∷ [];
+  processes = record { name = 36 ∷ 68 ∷ []; primary = 0; backup = 1; what = kind.Disc 2 false } ∷ [];
   terminals = record { name = 36 ∷ 84 ∷ []; target = 0; requests = (pos 1 ∷ pos 1 ∷ []) ∷ [] } ∷ [];
 }
 
@@ -35,7 +35,7 @@ opening = record {
 abbrev pub opened_site : Site
 opened_site = record {
   processors = 2;
-  processes = record { name = 36 ∷ 68 ∷ []; primary = 0; backup = 1; what = kind.Disc 4 }
+  processes = record { name = 36 ∷ 68 ∷ []; primary = 0; backup = 1; what = kind.Disc 4 false }
       ∷ record { name = 36 ∷ 65 ∷ []; primary = 0; backup = 1; what = kind.Pair opening } ∷ [];
   terminals = record { name = 36 ∷ 84 ∷ []; target = 1; requests = [] }
       ∷ record { name = 36 ∷ 85 ∷ []; target = 0; requests = [] } ∷ [];
@@ -97,7 +97,7 @@ shared_site = record {
   processors = 2;
   processes = record { name = 36 ∷ 65 ∷ []; primary = 0; backup = 1; what = kind.Pair opening_twice }
       ∷ record { name = 36 ∷ 66 ∷ []; primary = 0; backup = 1; what = kind.Pair opening }
-      ∷ record { name = 36 ∷ 68 ∷ []; primary = 0; backup = 1; what = kind.Disc 4 } ∷ [];
+      ∷ record { name = 36 ∷ 68 ∷ []; primary = 0; backup = 1; what = kind.Disc 4 false } ∷ [];
   terminals = record { name = 36 ∷ 84 ∷ []; target = 2; requests = [] }
       ∷ record { name = 36 ∷ 85 ∷ []; target = 2; requests = [] } ∷ [];
 }

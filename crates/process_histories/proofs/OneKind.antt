@@ -1,5 +1,5 @@
 -- A process stays of its kind.
-use Rattle.std.proofs.Common.{◌≡◌, ℕ, ◌+◌, ℤ, List, [], length, refl, ◌∙◌}
+use Rattle.std.proofs.Common.{◌≡◌, ℕ, ◌+◌, ℤ, List, [], length, refl, sym, ◌∙◌}
 use Rattle.std.proofs.lemmas.List.{length-map, length-set}
 use Rattle.tal_tree.specs.declared.site.Kind.{Kind}
 use Rattle.tal_tree.specs.declared.site.Kind.TheVariants as kind
@@ -9,13 +9,15 @@ use Rattle.process_semantics.specs.Process as process
 use Rattle.process_semantics.specs.Process.{ProcessState, Runs, Serves}
 use Rattle.world_semantics.specs.Core.{Core, Deed, goes, marks, takes, asks, gets, answers, acts, next_on}
 use Rattle.tal_tree.specs.declared.program.FileUse.{FileUse}
+use Rattle.tal_tree.specs.declared.program.Program.{Program}
+use Rattle.world_semantics.specs.World.{device_at_boot}
 use Rattle.tal_tree.specs.declared.site.OpenerSpec.{OpenerSpec}
 use Rattle.world_semantics.specs.checkpoint_image.specs.declared.receive.OpenerBlock.{OpenerBlock}
 use Rattle.world_semantics.specs.plain_semantics.specs.Openers.{files_of, openers_of}
-use Rattle.process_histories.specs.Histories.{HasDone, nothing_done, one_more, kind_of}
+use Rattle.process_histories.specs.Histories.{HasDone, nothing_done, one_more, kind_of, unmirrored}
 
-start-kind : (what : Kind) → kind_of (process.start_of what) ≡ what
-start-kind (kind.Disc sectors) = refl
+start-kind : (what : Kind) → kind_of (process.start_of what) ≡ unmirrored what
+start-kind (kind.Disc sectors mirrored) = refl
 start-kind (kind.Pair program) = refl
 
 inner-kind : (s : ProcessState) → kind_of (process.after_inner s) ≡ kind_of s
@@ -46,8 +48,22 @@ device-kind : (s : ProcessState) (found : List ℤ) → kind_of (process.after_d
 device-kind (Runs program s) found = refl
 device-kind (Serves sectors s) found = refl
 
+-- a kind has the sectors and the files that it has with no drives told apart
+pub same-device : (what : Kind) → device_at_boot (unmirrored what) ≡ device_at_boot what
+same-device (kind.Disc sectors mirrored) = refl
+same-device (kind.Pair program) = refl
+
+pub same-files : (what : Kind) → files_of (unmirrored what) ≡ files_of what
+same-files (kind.Disc sectors mirrored) = refl
+same-files (kind.Pair program) = refl
+
+-- and it is that of a program exactly then
+pub same-pair : (what : Kind) (program : Program) → kind.Pair program ≡ unmirrored what → what ≡ kind.Pair program
+same-pair (kind.Disc sectors mirrored) program is = absurd (cc)
+same-pair (kind.Pair other) program is = sym is
+
 pub done-kind : {site : Site} {number : ℕ} {spec : ProcessSpec} {deeds : List Deed} {core : Core}
-    → HasDone site number spec deeds core → kind_of core.state ≡ spec.what
+    → HasDone site number spec deeds core → kind_of core.state ≡ unmirrored spec.what
 done-kind {spec = spec} nothing_done = start-kind spec.what
 done-kind (one_more {before = core} done (goes at)) = inner-kind core.state ∙ done-kind done
 done-kind (one_more {before = core} done (marks at)) = marked-kind core.state ∙ done-kind done

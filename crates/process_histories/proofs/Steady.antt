@@ -42,7 +42,7 @@ calm-away (Runs program s) is = awake-away program s is.1
 calm-away (Serves sectors s) is = is.0
 
 pub start-calm : (what : Kind) → IsRegularKind what → IsCalm (process.start_of what)
-start-calm (kind.Disc sectors) regular = (λ same. cc, λ same. cc)
+start-calm (kind.Disc sectors mirrored) regular = (λ same. cc, λ same. cc)
 start-calm (kind.Pair program) regular = (regular, start-awake program regular)
 
 pub inner-calm : (s : ProcessState) → IsSteady s → IsCalm (process.after_inner s)

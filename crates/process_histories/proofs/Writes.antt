@@ -17,17 +17,16 @@ use Rattle.tal_tree.specs.declared.site.Site.{Site}
 use Rattle.process_semantics.specs.Disc as disc
 use Rattle.process_semantics.specs.Process as process
 use Rattle.process_semantics.specs.Process.{ProcessState, Runs, Serves}
-use Rattle.disc_device.specs.declared.stored.Stored.{Stored}
-use Rattle.disc_device.specs.Sectors.{blank, is_of_write, is_written}
+use Rattle.disc_device.specs.Sectors.{Stored, blank, is_of_write, is_written}
 use Rattle.world_semantics.specs.checkpoint_image.specs.Behaving.{last_write_of}
 use Rattle.world_semantics.specs.Core.{Core, Deed, Went, Checkpointed, Took, Asked, Got, Answered, Acted, goes, marks}
 use Rattle.world_semantics.specs.Core.{takes, asks, gets, answers, acts}
 use Rattle.world_semantics.specs.World.{device_at_boot}
 use Rattle.world_semantics.proofs.Lists.{some-same}
 use Rattle.process_histories.specs.Devices.{after_call, sectors_after, writes_in}
-use Rattle.process_histories.specs.Histories.{HasDone, nothing_done, one_more, kind_of}
+use Rattle.process_histories.specs.Histories.{HasDone, nothing_done, one_more, kind_of, unmirrored}
 use Rattle.process_histories.proofs.Places.{set-one}
-use Rattle.process_histories.proofs.OneKind.{done-kind}
+use Rattle.process_histories.proofs.OneKind.{done-kind, same-device}
 
 -- What a disc writes
 
@@ -126,7 +125,7 @@ answered-last (Serves sectors s) = refl
 
 start-last : (what : Kind) → last_write_of (process.start_of what) ≡ 0
 start-last (kind.Pair program) = refl
-start-last (kind.Disc sectors) = refl
+start-last (kind.Disc sectors mirrored) = refl
 
 count-write : (call : DeviceCall) (found : List ℤ) (deeds : List Deed)
     → writes_in (Acted call found ∷ deeds) ≡ writes_in deeds + one_write call
@@ -159,7 +158,7 @@ all-blank (suc n) (suc sector) stored there = all-blank n sector stored there
 
 pub first-blank : (what : Kind) (sector : ℕ) (stored : Stored) → slice_get (device_at_boot what) sector ≡ Some stored
     → stored ≡ blank
-first-blank (kind.Disc sectors) sector stored there = all-blank sectors sector stored there
+first-blank (kind.Disc sectors mirrored) sector stored there = all-blank sectors sector stored there
 first-blank (kind.Pair program) sector stored there = absurd (cc)
 
 device-length : (what : Kind) (deeds : List Deed) → length (sectors_after what deeds) ≡ length (device_at_boot what)
@@ -262,12 +261,13 @@ module _ {site : Site} {number : ℕ} {spec : ProcessSpec} where
       (one_more {before = core} done (acts at is)) =
       by core.state (sym is) (done-kind done)
     where
-      by : (s : ProcessState) → process.call_of s ≡ Write sector words write → kind_of s ≡ spec.what
+      by : (s : ProcessState) → process.call_of s ≡ Write sector words write → kind_of s ≡ unmirrored spec.what
           → sector < length (sectors_after spec.what deeds)
       by (Runs program s) is same = absurd (cc)
       by (Serves sectors s) is same =
           let many = device-length spec.what deeds in
-          let all : length (device_at_boot spec.what) ≡ sectors = rw (← same) (length-replicate sectors blank) in
+          let all : length (device_at_boot spec.what) ≡ sectors =
+          ap length (sym (same-device spec.what) ∙ ap device_at_boot (sym same)) ∙ length-replicate sectors blank in
           let there = (write-of sectors (s.last_write + 1) (unwrap_or s.request []) sector words write is).there in
           omega (arith, many, all, there)
 

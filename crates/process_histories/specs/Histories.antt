@@ -1,5 +1,5 @@
 -- What a process has done: its deeds one after the other, the newest first.
-use Rattle.std.specs.Prelude.{ℕ, List, [], ◌∷◌}
+use Rattle.std.specs.Prelude.{ℕ, false, List, [], ◌∷◌}
 use Rattle.tal_tree.specs.declared.site.Kind.{Kind}
 use Rattle.tal_tree.specs.declared.site.Kind.TheVariants as kind
 use Rattle.tal_tree.specs.declared.site.ProcessSpec.{ProcessSpec}
@@ -14,7 +14,12 @@ pub data HasDone (site : Site) (number : ℕ) (spec : ProcessSpec) : List Deed �
   one_more : {deeds : List Deed} {deed : Deed} {before after : Core} → HasDone site number spec deeds before
       → Advances (openers_of site number) before deed after → HasDone site number spec (deed ∷ deeds) after
 
+-- a kind of process, where no drives are told apart: those of a mirrored disc are no part of what the process does
+abbrev pub unmirrored : Kind → Kind
+unmirrored (kind.Disc sectors mirrored) = kind.Disc sectors false
+unmirrored (kind.Pair program) = kind.Pair program
+
 -- what kind of process a state is of
 abbrev pub kind_of : ProcessState → Kind
 kind_of (Runs program s) = kind.Pair program
-kind_of (Serves sectors s) = kind.Disc sectors
+kind_of (Serves sectors s) = kind.Disc sectors false

@@ -1,5 +1,5 @@
 -- A disc that serves one request of a terminal.
-use Rattle.std.specs.Prelude.{ℤ, pos, List, [], ◌∷◌, replicate, None}
+use Rattle.std.specs.Prelude.{ℤ, pos, false, List, [], ◌∷◌, replicate, None}
 use Rattle.gd_words.specs.declared.device.DeviceCall.TheVariants.{Write}
 use Rattle.tal_tree.specs.declared.site.Kind.TheVariants as kind
 use Rattle.tal_tree.specs.declared.site.ProcessSpec.{ProcessSpec}
@@ -10,7 +10,7 @@ use Rattle.world_semantics.specs.Core.{Core, Deed, Checkpointed, Took, Answered,
 
 -- a disc of two sectors
 abbrev pub disc : ProcessSpec
-disc = record { name = 36 ∷ 68 ∷ []; primary = 0; backup = 1; what = kind.Disc 2 }
+disc = record { name = 36 ∷ 68 ∷ []; primary = 0; backup = 1; what = kind.Disc 2 false }
 
 -- a terminal asks it to write 5 to sector 1
 abbrev pub disc_site : Site

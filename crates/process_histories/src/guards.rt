@@ -24,16 +24,16 @@ pub fn a_disc_serves_a_request()
 
 /// Its device has what it wrote, with the write's number, and a call finds what stands there when it comes.
 pub fn a_device_has_what_was_written()
-    ensures written { sectors_after (kind.Disc 2) one_write
+    ensures written { sectors_after (kind.Disc 2 false) one_write
         ≡ blank ∷ record { words = sector_with (pos 5); number = 1 } ∷ [] }
-    ensures again { sectors_after (kind.Disc 2)
+    ensures again { sectors_after (kind.Disc 2 false)
         (Acted (Write 1 (sector_with (pos 6)) 1) (sector_with (pos 5)) ∷ one_write)
-        ≡ sectors_after (kind.Disc 2) one_write }
-    ensures next { sectors_after (kind.Disc 2)
+        ≡ sectors_after (kind.Disc 2 false) one_write }
+    ensures next { sectors_after (kind.Disc 2 false)
         (Acted (Write 0 (sector_with (pos 6)) 2) (sector_with (pos 0)) ∷ one_write)
         ≡ record { words = sector_with (pos 6); number = 2 } ∷ record { words = sector_with (pos 5); number = 1 } ∷ [] }
-    ensures found { FoundWhatStood (kind.Disc 2) (Acted (Read 1) (sector_with (pos 5)) ∷ one_write) }
-    ensures not_found { FoundWhatStood (kind.Disc 2) (Acted (Read 1) (sector_with (pos 0)) ∷ one_write) → ⊥ }
+    ensures found { FoundWhatStood (kind.Disc 2 false) (Acted (Read 1) (sector_with (pos 5)) ∷ one_write) }
+    ensures not_found { FoundWhatStood (kind.Disc 2 false) (Acted (Read 1) (sector_with (pos 0)) ∷ one_write) → ⊥ }
     ensures counted { writes_in (Acted (Read 1) (sector_with (pos 5)) ∷ one_write) ≡ 1 }
 {}
 

@@ -10,8 +10,7 @@ ghost use Rattle.process_semantics.specs.declared.point.Point.TheVariants.{Take}
 ghost use Rattle.process_semantics.specs.Process.{in_hand, point};
 ghost use Rattle.world_semantics.specs.plain_semantics.specs.Openers.{files_of, openers_of};
 ghost use Rattle.world_semantics.specs.whole_states.specs.Processes.{IsRegularKind, IsWholeProcess};
-ghost use Rattle.disc_device.specs.declared.stored.Stored.{Stored};
-ghost use Rattle.disc_device.specs.Sectors.{is_written};
+ghost use Rattle.disc_device.specs.Sectors.{Stored, is_written};
 ghost use Rattle.world_semantics.specs.checkpoint_image.specs.Behaving.{last_write_of};
 ghost use Rattle.world_semantics.specs.checkpoint_image.specs.declared.receive.OpenerBlock.{OpenerBlock};
 ghost use Rattle.world_semantics.specs.checkpoint_image.specs.Receive.{holds, last_ones};
@@ -19,7 +18,7 @@ ghost use Rattle.world_semantics.specs.Core.{Core, Deed, Acted, Advances};
 ghost use Rattle.world_semantics.specs.Own.{found_on};
 ghost use Rattle.process_histories.specs.Bounds.{AreBounded};
 ghost use Rattle.process_histories.specs.Devices.{sectors_after, writes_in};
-ghost use Rattle.process_histories.specs.Histories.{HasDone, kind_of};
+ghost use Rattle.process_histories.specs.Histories.{HasDone, kind_of, unmirrored};
 ghost use Rattle.process_histories.specs.Words.{taken_from, answered_to, requests_on, replies_on, awaits_on, one_if};
 
 /// Deeds determine the core that they leave, and the deeds that came before others were done too, each from the core
@@ -80,7 +79,7 @@ pub fn the_last_replies_are_kept()
 /// A process stays of its kind, with a next number for each of its files and a block for each of its openers.
 pub fn a_process_stays_of_its_kind()
     ensures kind { (site : Site) (number : ℕ) (spec : ProcessSpec) (deeds : List Deed) (core : Core)
-        → HasDone site number spec deeds core → kind_of core.state ≡ spec.what }
+        → HasDone site number spec deeds core → kind_of core.state ≡ unmirrored spec.what }
     ensures files { (site : Site) (number : ℕ) (spec : ProcessSpec) (deeds : List Deed) (core : Core)
         → HasDone site number spec deeds core
         → length core.next ≡ length (files_of spec.what) }

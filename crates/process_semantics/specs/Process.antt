@@ -21,7 +21,7 @@ pub data ProcessState : Type 0 where
 
 -- a process at its beginning
 abbrev pub start_of : Kind → ProcessState
-start_of (kind.Disc sectors) = Serves sectors disc.disc_start
+start_of (kind.Disc sectors mirrored) = Serves sectors disc.disc_start
 start_of (kind.Pair code) = Runs code (start code)
 
 -- where a process stands: what its next step is

@@ -13,5 +13,5 @@ state_of (process.Disc serving) = Serves serving.sectors serving.disc
 
 -- a disc, or a program that can be loaded
 abbrev pub IsLoadableKind : Kind → Type 0
-IsLoadableKind (kind.Disc sectors) = Unit {0}
+IsLoadableKind (kind.Disc sectors mirrored) = Unit {0}
 IsLoadableKind (kind.Pair program) = IsLoadable program

@@ -25,7 +25,7 @@ impl Process {
         ensures { IfOk result (λ process. state_of process ≡ start_of kind.now) }
     {
         match kind {
-            Kind::Disc { sectors } => Ok(Process::Disc(DiscProcess::new(alloc, *sectors))),
+            Kind::Disc { sectors, .. } => Ok(Process::Disc(DiscProcess::new(alloc, *sectors))),
             Kind::Pair(program) => {
                 let process = TalProcess::load(alloc, program)?;
                 Ok(Process::Program(process))

@@ -1,5 +1,5 @@
 -- A site that the guards name: a disc, a pair that opens it, and a terminal for each.
-use Rattle.std.specs.Prelude.{[], ◌∷◌, codes}
+use Rattle.std.specs.Prelude.{false, [], ◌∷◌, codes}
 use Rattle.tal_tree.specs.declared.program.Program.{Program}
 use Rattle.tal_tree.specs.declared.program.Shape.TheVariants as shape
 use Rattle.tal_tree.specs.declared.program.Target.TheVariants as target
@@ -20,7 +20,7 @@ program = record {
 abbrev pub site : Site
 site = record {
   processors = 3;
-  processes = record { name = codes "$DATA"; primary = 0; backup = 1; what = kind.Disc 16 }
+  processes = record { name = codes "$DATA"; primary = 0; backup = 1; what = kind.Disc 16 false }
       ∷ record { name = codes "$BANK"; primary = 1; backup = 2; what = kind.Pair program } ∷ [];
   terminals = record { name = codes "$T1"; target = 1; requests = [] }
       ∷ record { name = codes "$T2"; target = 0; requests = [] } ∷ [];

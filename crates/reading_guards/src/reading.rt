@@ -59,8 +59,15 @@ pub fn a_stop_names_a_processor()
     ensures cut { told_by site (codes "END cut") ≡ Some (told.End Cut) }
     ensures second { told_by site (codes "END second 1") ≡ Some (told.End (Second 1)) }
     ensures second_past { told_by site (codes "END second 3") ≡ None }
+    ensures lost { told_by site (codes "END lost $DATA") ≡ None }
     ensures other { told_by site (codes "END swept") ≡ None }
     ensures empty { told_by site [] ≡ None }
+{}
+
+/// How drives stand isn't told of single processes.
+pub fn no_line_tells_of_drives()
+    ensures working { told_by site (codes "M $DATA working working") ≡ None }
+    ensures reviving { told_by site (codes "M $DATA reviving 3 working") ≡ None }
 {}
 
 /// Writes and replies come first, in any order, then sectors, then processors rising, then acts, and the end comes

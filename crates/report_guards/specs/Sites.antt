@@ -1,5 +1,5 @@
 -- A site that the guards name: a disc, a pair that opens it, and a terminal for each.
-use Rattle.std.specs.Prelude.{ℕ, pos, ℤ, List, [], ◌∷◌, replicate, codes}
+use Rattle.std.specs.Prelude.{ℕ, pos, ℤ, false, List, [], ◌∷◌, replicate, codes}
 use Rattle.tal_tree.specs.declared.program.Program.{Program}
 use Rattle.tal_tree.specs.declared.program.Shape.TheVariants as shape
 use Rattle.tal_tree.specs.declared.program.Target.TheVariants as target
@@ -22,7 +22,7 @@ program = record {
 abbrev pub site : Site
 site = record {
   processors = 3;
-  processes = record { name = codes "$DATA"; primary = 0; backup = 1; what = kind.Disc 16 }
+  processes = record { name = codes "$DATA"; primary = 0; backup = 1; what = kind.Disc 16 false }
       ∷ record { name = codes "$BANK"; primary = 1; backup = 2; what = kind.Pair program } ∷ [];
   terminals = record { name = codes "$T1"; target = 1; requests = [] }
       ∷ record { name = codes "$T2"; target = 0; requests = [] } ∷ [];
@@ -40,7 +40,7 @@ shown = Write 0 3 (sector 5) ∷ Write 0 1 (sector 6) ∷ Reply 0 1 (pos 5 ∷ [
 abbrev pub discs : Site
 discs = record {
   processors = 2;
-  processes = record { name = codes "$A"; primary = 0; backup = 1; what = kind.Disc 4 }
-      ∷ record { name = codes "$B"; primary = 0; backup = 1; what = kind.Disc 2 } ∷ [];
+  processes = record { name = codes "$A"; primary = 0; backup = 1; what = kind.Disc 4 false }
+      ∷ record { name = codes "$B"; primary = 0; backup = 1; what = kind.Disc 2 false } ∷ [];
   terminals = [];
 }

@@ -10,7 +10,13 @@ ghost use Rattle.trace_print.specs.ActLine.{act_line, act_lines};
 ghost use Rattle.trace_print.specs.EndLine.{end_line};
 ghost use Rattle.trace_print.specs.LoadLines.{load_lines};
 ghost use Rattle.trace_print.specs.NumbersText.{words_text};
-ghost use Rattle.trace_print.specs.ReportText.{load_report_text, report_text};
+ghost use Rattle.trace_print.specs.ReportText.{load_report_text, report_text, run_text};
+ghost use Rattle.trace_print.specs.EndLine.{closing_line};
+ghost use Rattle.trace_print.specs.MirrorLine.{mirror_line, mirror_lines};
+ghost use Rattle.trace_print.specs.declared.closing.Closing.{Closing};
+ghost use Rattle.trace_print.specs.declared.closing.Closing.TheVariants.{Ended, Lost};
+ghost use Rattle.trace_print.specs.declared.mirrors.MirrorDrives.{MirrorDrives};
+ghost use Rattle.trace_print.specs.mirror.specs.declared.state.DriveState.TheVariants.{Failed, Reviving, Working};
 ghost use Rattle.trace_print.specs.SectorLine.{sector_line, sector_lines};
 ghost use Rattle.trace_print.specs.ShownLine.{shown_line, shown_lines};
 ghost use Rattle.trace_print.specs.StopLine.{stop_lines};
@@ -31,15 +37,26 @@ pub fn what_is_shown_has_its_line()
 {}
 
 /// Lines stand in the order of what they tell. What a run shows comes first, or a load's counts in its place, then the
-/// sectors, the stops, the acts and the end.
+/// sectors, the drives of mirrored discs, the stops, the acts and the end.
 pub fn a_report_is_in_order()
     ensures run { (all : List Shown) (sectors : List SectorWords) (stopped : List ℕ) (acts : List Act) (end : End)
         → report_text site all sectors stopped acts end
         ≡ shown_lines site all ++ sector_lines site sectors ++ stop_lines stopped ++ act_lines site acts
         ++ end_line end }
-    ensures load { (counts : LoadCounts) (sectors : List SectorWords) (stopped : List ℕ) (end : End)
-        → load_report_text site counts sectors stopped end
-        ≡ load_lines counts ++ sector_lines site sectors ++ stop_lines stopped ++ end_line end }
+    ensures whole { (all : List Shown) (sectors : List SectorWords) (mirrors : List MirrorDrives) (stopped : List ℕ)
+        (acts : List Act) (closing : Closing) → run_text site all sectors mirrors stopped acts closing
+        ≡ shown_lines site all ++ sector_lines site sectors ++ mirror_lines site mirrors ++ stop_lines stopped
+        ++ act_lines site acts ++ closing_line site closing }
+    ensures plain { (all : List Shown) (sectors : List SectorWords) (stopped : List ℕ) (acts : List Act) (end : End)
+        → run_text site all sectors [] stopped acts (Ended end) ≡ report_text site all sectors stopped acts end }
+    ensures mirror { (mark : ℕ) → mirror_line site (record { process = 0; first = Reviving mark; second = Working })
+        ≡ codes "M $DATA reviving " ++ decimal mark ++ codes " " ++ codes "working" ++ 10 ∷ [] }
+    ensures failed { mirror_lines site (record { process = 0; first = Working; second = Failed } ∷ [])
+        ≡ codes "M $DATA working failed" ++ 10 ∷ [] }
+    ensures lost { closing_line site (Lost 0) ≡ codes "END lost $DATA" ++ 10 ∷ [] }
+    ensures load { (counts : LoadCounts) (sectors : List SectorWords) (stopped : List ℕ) (closing : Closing)
+        → load_report_text site counts sectors stopped closing
+        ≡ load_lines counts ++ sector_lines site sectors ++ stop_lines stopped ++ closing_line site closing }
     ensures shown { (one : Shown) (rest : List Shown)
         → shown_lines site (one ∷ rest) ≡ shown_line site one ++ shown_lines site rest }
     ensures sectors { (one : SectorWords) (rest : List SectorWords)

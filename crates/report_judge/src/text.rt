@@ -9,7 +9,7 @@ ghost use Rattle.report_reader.specs.trace_print.specs.ReportText.{report_text};
 use gd_io::{Gave, Sink, WriteFault};
 use gd_words::{List, NoMemory};
 use report_reader::Told;
-use report_reader::trace_print::{End, write_report};
+use report_reader::trace_print::{Closing, End, write_report};
 use shown_sectors::sectors_after;
 use std::alloc::Global;
 use tal_tree::{Act, Shown, Site};
@@ -118,7 +118,8 @@ pub fn text_of(
     let mut sink = TextSink::new(alloc);
     let sectors = sectors.as_slice();
     let stopped = stopped.as_slice();
-    match write_report(&mut sink, site, shown, sectors, stopped, acts, end) {
+    let closing = Closing::Ended(end);
+    match write_report(&mut sink, site, shown, sectors, &[], stopped, acts, closing) {
         Ok(()) => Ok(sink),
         Err(WriteFault) => Err(sink.memory()),
     }

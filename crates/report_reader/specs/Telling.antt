@@ -61,7 +61,7 @@ parts_told text =
     (cut_at 32 text)
 
 abbrev pub has_sectors : Kind → ℕ → Bool
-has_sectors (kind.Disc sectors) sector = nat_lt sector sectors
+has_sectors (kind.Disc sectors mirrored) sector = nat_lt sector sectors
 has_sectors (kind.Pair program) sector = false
 
 abbrev pub has_sectors_in : Option ProcessSpec → ℕ → Bool

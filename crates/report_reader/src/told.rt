@@ -223,7 +223,7 @@ fn has_sectors(kind: &Kind, sector: u32) -> bool
     ensures { result ≡ has_sectors kind.now sector }
 {
     match kind {
-        Kind::Disc { sectors } => sector < u32::from(*sectors),
+        Kind::Disc { sectors, .. } => sector < u32::from(*sectors),
         Kind::Pair(_) => false,
     }
 }

@@ -20,12 +20,14 @@ use Rattle.trace_print.specs.declared.closing.End.{End}
 use Rattle.trace_print.specs.declared.closing.End.TheVariants.{Idle, Cut, Second}
 use Rattle.told_reports.specs.InForm.{AreEach, AreRisingFrom, IsEndOn, IsInForm, IsProcessorOf}
 use Rattle.command_dues.specs.Decided.{IsReportOf}
-use Rattle.command_dues.specs.RunEnds.{acts_of_run, end_of}
+use Rattle.command_dues.specs.RunEnds.{acts_of_run, closing_of}
 use Rattle.command_dues.specs.Written.{text_of_run}
 use Rattle.command_dues.specs.declared.due.Report.{Report}
 use Rattle.command_dues.specs.declared.task.Telling.TheVariants.{Lines}
 use Rattle.reported_runs.proofs.Reports.{run-reported}
 use Rattle.reported_runs.proofs.Verified.{run-verified}
+use Rattle.trace_print.specs.declared.closing.Closing.TheVariants.{Ended}
+use Rattle.reported_runs.specs.Unmirrored.{AreUnmirrored}
 
 -- processors that rise below a bound
 rising-from : (least bound : ℕ) (processors : List ℕ) → AreRising least bound processors
@@ -60,12 +62,13 @@ reported-form bytes deck text acts stopped how decks is =
       ends = end-on deck.site few how is.ends;
     }
 
-pub every-report-verified : (bytes : List ℕ) (deck : Deck) (stop : Option ProcessorStop) (report : Report)
+pub every-report-verified : (bytes : List ℕ) (deck : Deck) (stop : Option ProcessorStop) (report : Report) (end : End)
     (verdict : Result ℕ VerifyRefusal)
-    → Decks bytes deck → IsReportOf deck stop report → report.tells ≡ Lines true
+    → Decks bytes deck → AreUnmirrored deck.site.processes → IsReportOf deck stop report
+    → closing_of report.run.ran.ending ≡ Ended end → report.tells ≡ Lines true
     → IsVerdict deck.site (text_of_run report) verdict
     → IsSameVerdict verdict (Ok (length (acts_of_run report.run)))
-every-report-verified bytes deck stop report verdict decks is tells judged =
-    run-verified deck stop report verdict is tells (names-apart bytes deck decks)
-    (reported-form bytes deck (text_of_run report) (acts_of_run report.run) report.stopped
-    (end_of report.run.ran.ending) decks (run-reported deck stop report is tells)) judged
+every-report-verified bytes deck stop report end verdict decks none is ended tells judged =
+    run-verified deck stop report end verdict none is ended tells (names-apart bytes deck decks)
+    (reported-form bytes deck (text_of_run report) (acts_of_run report.run) report.stopped end decks
+    (run-reported deck stop report is none end ended tells)) judged

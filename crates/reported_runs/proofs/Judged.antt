@@ -17,7 +17,7 @@ use Rattle.tal_tree.specs.declared.act.Act.{Act}
 use Rattle.trace_print.specs.declared.closing.End.{End}
 use Rattle.told_reports.proofs.ReadBack.{report-read}
 use Rattle.command_dues.specs.Decided.{IsDue, IsDueOn, IsReportOf}
-use Rattle.command_dues.specs.RunEnds.{acts_of_run, end_of}
+use Rattle.command_dues.specs.RunEnds.{acts_of_run, closing_of}
 use Rattle.command_dues.specs.Verified.{deck_in, report_in}
 use Rattle.command_dues.specs.Written.{text_of, text_of_run}
 use Rattle.command_dues.specs.declared.due.Due.TheVariants as due
@@ -28,6 +28,8 @@ use Rattle.reported_runs.proofs.EndedDecks.{deck-first, report-last}
 use Rattle.reported_runs.proofs.InForm.{reported-form}
 use Rattle.reported_runs.proofs.Reports.{run-reported}
 use Rattle.reported_runs.specs.EndedDecks.{IsEnded}
+use Rattle.trace_print.specs.declared.closing.Closing.TheVariants.{Ended}
+use Rattle.reported_runs.specs.Unmirrored.{AreUnmirrored}
 
 -- a report of a deck has its verdict
 verdict-of : (bytes : List ℕ) (deck : Deck) (text : List ℕ) (acts : List Act) (stopped : List ℕ) (how : End)
@@ -67,18 +69,21 @@ run-due words bytes before now stop report asked (inr is) =
     }
 
 pub run-judged : (words others : List (List ℕ)) (bytes : List ℕ) (before now later last : ℕ)
-    (stop : Option ProcessorStop) (report : Report)
+    (stop : Option ProcessorStop) (report : Report) (end : End)
     → asked_by words ≡ Some (Run true stop) → IsDue words (Some bytes) before now (due.Report report)
-    → asked_by others ≡ Some Verify → IsEnded bytes
+    → closing_of report.run.ran.ending ≡ Ended end
+    → ((deck : Deck) → Decks bytes deck → AreUnmirrored deck.site.processes) → asked_by others ≡ Some Verify
+    → IsEnded bytes
     → length (bytes ++ text_of (due.Report report)) ≤ 67108864
     → IsDue others (Some (bytes ++ text_of (due.Report report))) later last
     (due.Verified (length (acts_of_run report.run)))
-run-judged words others bytes before now later last stop report asked is judged ended few =
+run-judged words others bytes before now later last stop report end asked is ends none judged ended few =
     let due_is = run-due words bytes before now stop report asked is in
     let text = text_of_run report in
     let acts = length (acts_of_run report.run) in
     let verdict = verdict-of bytes due_is.deck text (acts_of_run report.run) report.stopped
-    (end_of report.run.ran.ending) due_is.spelt (run-reported due_is.deck stop report due_is.run due_is.tells) in
+    end due_is.spelt (run-reported due_is.deck stop report due_is.run (none due_is.deck due_is.spelt) end ends
+    due_is.tells) in
     let spelt : Decks (deck_in (bytes ++ text)) due_is.deck =
     subst (λ (all : List ℕ). Decks all due_is.deck) (sym (deck-first bytes text ended)) due_is.spelt in
     let behind : IsVerdict due_is.deck.site (report_in (bytes ++ text)) (Ok acts) =

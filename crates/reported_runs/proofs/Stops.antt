@@ -5,7 +5,7 @@ use Rattle.std.proofs.lemmas.List.{length-replicate}
 use Rattle.std.proofs.lemmas.Option.{slice_get_within}
 use Rattle.tal_tree.specs.declared.site.Site.{Site}
 use Rattle.schedule.specs.declared.event.Event.{Event}
-use Rattle.schedule.specs.declared.event.Event.TheVariants.{Run, Enter, Deliver, Lose, Repeat, Tick, Fail}
+use Rattle.schedule.specs.declared.event.Event.TheVariants.{Run, Enter, Deliver, Lose, Repeat, Tick, Fail, Drive}
 use Rattle.schedule.specs.declared.line.Line.{Line}
 use Rattle.player.specs.declared.stop.ProcessorStop.{ProcessorStop}
 use Rattle.packet_words.specs.declared.bus_name.BusName.{BusName}
@@ -15,11 +15,11 @@ use Rattle.world_semantics.specs.World.{is_running}
 use Rattle.agendas.specs.Agendas.{Agenda}
 use Rattle.computed_changes.specs.Entered.{enter_done}
 use Rattle.computed_changes.specs.Stopped.{stop_where, stopped_world}
-use Rattle.machine_states.specs.States.{Makes, Played, Skips, State, WouldStop}
+use Rattle.machine_states.specs.States.{Makes, Played, Skips, State, Would, SecondStop, DiscLoss}
 use Rattle.message_wires.specs.Play.{has_stopped}
 use Rattle.packet_wires.specs.Play.{Packeted, Underway, acted, begun, deliver_acted, ended, fail_acted, line_of}
 use Rattle.packet_wires.specs.Play.{lose_acted, made_by, marks_and_declares, packet_at, play, pulled, pulls, pulls_its}
-use Rattle.packet_wires.specs.Play.{received, repeat_acted, taken_off, tick_acted}
+use Rattle.packet_wires.specs.Play.{repeat_acted, taken_off, tick_acted}
 use Rattle.packet_wires.specs.Runs.{IsPlayed, played_none, played_more, skipped}
 use Rattle.packet_wires.specs.Wires.{Midst, Wires, bus_named, ticked}
 use Rattle.packets_laws.proofs.Going as going
@@ -30,9 +30,12 @@ use Rattle.command_dues.specs.packet_runs.specs.Runs.{course_on, packet_rules}
 use Rattle.command_dues.specs.packet_runs.specs.declared.ran.Ran.{Ran}
 use Rattle.schedule_loop.specs.Ends.{EndsBy, Plays}
 use Rattle.schedule_loop.specs.declared.ran.Ending.{Ending}
-use Rattle.schedule_loop.specs.declared.ran.Ending.TheVariants.{Idle, Cut, Second}
+use Rattle.schedule_loop.specs.declared.ran.Ending.TheVariants.{Idle, Cut, Lost, Second}
 use Rattle.report_judge.specs.Reported.{IsEndOfRun}
-use Rattle.command_dues.specs.RunEnds.{end_of}
+use Rattle.command_dues.specs.RunEnds.{closing_of}
+use Rattle.machine_states.proofs.Turning.{drive-cases}
+use Rattle.trace_print.specs.declared.closing.Closing.TheVariants.{Ended}
+use Rattle.trace_print.specs.declared.closing.End.{End}
 
 -- As many processors
 
@@ -46,7 +49,7 @@ event-size s event next made = by (play s event) (play-goes s event) made
 
     by : (all : Played Wires) → Goes s all → all ≡ Makes next → length next.world.stopped ≡ length s.world.stopped
     by _ going.skips is = absurd (cc)
-    by _ (going.would_stop processor) is = absurd (cc)
+    by _ (going.would_harm harm) is = absurd (cc)
     by _ (going.stops_none {next = it} site stopped) is = to-next it (cc) (ap length stopped)
     by _ (going.stops_one {next = it} processor site first stopped) is =
         to-next it (cc) (ap length stopped ∙ length-set s.world.stopped processor true)
@@ -63,7 +66,8 @@ played-size (skipped event before skips) = played-size before
 abbrev StopsThere : {W V : Type 0} → State W → Played V → Type 0
 StopsThere s (Makes next) = Unit {0}
 StopsThere s Skips = Unit {0}
-StopsThere s (WouldStop processor) = processor < length s.world.stopped
+StopsThere s (Would (SecondStop processor)) = processor < length s.world.stopped
+StopsThere s (Would (DiscLoss process)) = Unit {0}
 
 made-there : (s : Underway) (done : Option Done) → StopsThere s (made_by s done)
 made-there s None = tt
@@ -83,7 +87,7 @@ repeat-there name s (Some packet) = tt
 
 -- one that runs, and would stop where another one has stopped
 one-there : (s : Underway) (processor : ℕ) (next : Underway) → slice_get s.world.stopped processor ≡ Some false
-    → (test : Bool) → StopsThere s (if test then WouldStop processor else Makes next)
+    → (test : Bool) → StopsThere s (if test then Would (SecondStop processor) else Makes next)
 one-there s processor next at true = slice_get_within s.world.stopped processor false at
 one-there s processor next at false = tt
 
@@ -125,6 +129,8 @@ acted-there s (Repeat y k) = repeat-there (bus_named y) (begun s) (packet_at s (
 acted-there s (Tick node) = tick-there node (begun s)
 acted-there s (Fail processor) =
     fail-there processor (begun s) (slice_get s.world.stopped processor) refl
+acted-there s (Drive event) =
+    drive-cases event (begun s) (StopsThere (begun s)) (λ drives. tt) tt (λ process. tt)
 
 play-there : (s : Packeted) (event : Event) → StopsThere s (play s event)
 play-there s event = by (acted s event) (acted-there s event)
@@ -132,9 +138,11 @@ play-there s event = by (acted s event) (acted-there s event)
     by : (all : Played Midst) → StopsThere (begun s) all → StopsThere s (ended (taken_off event s.wires) all)
     by Skips there = tt
     by (Makes next) there = tt
-    by (WouldStop processor) there = there
+    by (Would (SecondStop processor)) there = there
+    by (Would (DiscLoss process)) there = tt
 
-event-there : (s : Packeted) (event : Event) (one : ℕ) → play s event ≡ WouldStop one → one < length s.world.stopped
+event-there : (s : Packeted) (event : Event) (one : ℕ) → play s event ≡ Would (SecondStop one)
+    → one < length s.world.stopped
 event-there s event one would = subst (StopsThere s) would (play-there s event)
 
 -- Runs
@@ -142,7 +150,10 @@ event-there s event one would = subst (StopsThere s) would (play-there s event)
 -- what is known of the processors where a run ended
 pub record AreOfSite (site : Site) (left : Packeted) (ending : Ending) : Type 0 where
   pub size : length left.world.stopped ≡ site.processors
-  pub end : IsEndOfRun site (end_of ending)
+  pub end : (end : End) → closing_of ending ≡ Ended end → IsEndOfRun site end
+
+same-ended : {one other : End} → Ended one ≡ Ended other → one ≡ other
+same-ended is = cc
 
 size-at : (site : Site) (lines : List Line) (stop : Option ProcessorStop) (events : List Event) (agenda : Agenda)
     (s : Packeted) → Plays packet_rules (course_on site lines stop) events agenda s
@@ -157,20 +168,26 @@ ends-of-site : (site : Site) (lines : List Line) (stop : Option ProcessorStop) (
 ends-of-site site lines stop events s left asked Idle ends = record {
   size = ap (λ (m : Packeted). length m.world.stopped) ends.2
       ∙ size-at site lines stop events ends.0.agenda s ends.0.played;
-  end = tt;
+  end = λ end is. subst (IsEndOfRun site) (same-ended is) tt;
 }
 ends-of-site site lines stop events s left asked Cut ends = record {
   size = ap (λ (m : Packeted). length m.world.stopped) ends.2
       ∙ size-at site lines stop events ends.0.agenda s ends.0.played;
-  end = tt;
+  end = λ end is. subst (IsEndOfRun site) (same-ended is) tt;
 }
 ends-of-site site lines stop events s left asked (Second processor) ends =
     let size : length s.world.stopped ≡ site.processors =
     size-at site lines stop events ends.0.agenda s ends.0.played in
     record {
       size = ap (λ (m : Packeted). length m.world.stopped) ends.1 ∙ size;
-      end = subst (λ (n : ℕ). processor < n) size (event-there s ends.0.plan.event processor ends.0.would);
+      end = λ end is. subst (IsEndOfRun site) (same-ended is)
+          (subst (λ (n : ℕ). processor < n) size (event-there s ends.0.plan.event processor ends.0.would));
     }
+ends-of-site site lines stop events s left asked (Lost process) ends = record {
+  size = ap (λ (m : Packeted). length m.world.stopped) ends.1
+      ∙ size-at site lines stop events ends.0.agenda s ends.0.played;
+  end = λ end is. absurd (cc);
+}
 
 pub run-of-site : (site : Site) (lines : List Line) (stop : Option ProcessorStop) (ran : Ran)
     → IsRunOf site lines stop ran → AreOfSite site ran.machine.state ran.ending

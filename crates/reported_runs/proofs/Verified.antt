@@ -17,24 +17,27 @@ use Rattle.told_reports.proofs.ReadBack.{report-read}
 use Rattle.told_reports.specs.InForm.{IsInForm}
 use Rattle.told_reports.specs.NamesApart.{TellsNamesApart}
 use Rattle.command_dues.specs.Decided.{IsReportOf}
-use Rattle.command_dues.specs.RunEnds.{acts_of_run, end_of}
+use Rattle.command_dues.specs.RunEnds.{acts_of_run, closing_of}
 use Rattle.command_dues.specs.Written.{text_of_run}
 use Rattle.command_dues.specs.declared.due.Report.{Report}
 use Rattle.command_dues.specs.declared.task.Telling.TheVariants.{Lines}
 use Rattle.reported_runs.proofs.Reports.{run-reported}
+use Rattle.trace_print.specs.declared.closing.Closing.TheVariants.{Ended}
+use Rattle.reported_runs.specs.Unmirrored.{AreUnmirrored}
 
-pub run-verified : (deck : Deck) (stop : Option ProcessorStop) (report : Report) (verdict : Result ℕ VerifyRefusal)
-    → IsReportOf deck stop report → report.tells ≡ Lines true → TellsNamesApart deck.site
+pub run-verified : (deck : Deck) (stop : Option ProcessorStop) (report : Report) (how : End)
+    (verdict : Result ℕ VerifyRefusal) → AreUnmirrored deck.site.processes
+    → IsReportOf deck stop report → closing_of report.run.ran.ending ≡ Ended how → report.tells ≡ Lines true
+    → TellsNamesApart deck.site
     → IsInForm deck.site (shown_by deck.site (acts_of_run report.run))
     (sectors_after deck.site (shown_by deck.site (acts_of_run report.run))) report.stopped (acts_of_run report.run)
-    (end_of report.run.ran.ending)
+    how
     → IsVerdict deck.site (text_of_run report) verdict
     → IsSameVerdict verdict (Ok (length (acts_of_run report.run)))
-run-verified deck stop report verdict is tells apart form judged =
+run-verified deck stop report how verdict none is ended tells apart form judged =
     let acts = acts_of_run report.run in
-    let how = end_of report.run.ran.ending in
     let shown = shown_by deck.site acts in
-    let reported = run-reported deck stop report is tells in
+    let reported = run-reported deck stop report is none how ended tells in
     let read = report-read deck.site shown (sectors_after deck.site shown) report.stopped acts how apart form in
     let whole : IsReported deck.site (text_of_run report) (acts_in read.0.told) (stops_in read.0.told) read.0.end =
     subst (λ (e : End). IsReported deck.site (text_of_run report) (acts_in read.0.told) (stops_in read.0.told) e)

@@ -1,1 +1,2 @@
 pub mod EndedDecks
+pub mod Unmirrored

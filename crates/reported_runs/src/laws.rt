@@ -11,8 +11,11 @@ ghost use Rattle.report_judge.specs.Verdicts.{IsVerdict};
 ghost use Rattle.report_judge.specs.declared.judge.VerifyRefusal.{VerifyRefusal};
 ghost use Rattle.report_laws.specs.OneVerdict.{IsSameVerdict};
 ghost use Rattle.command_dues.specs.Decided.{IsDue, IsReportOf};
-ghost use Rattle.command_dues.specs.RunEnds.{acts_of_run, end_of};
+ghost use Rattle.command_dues.specs.RunEnds.{acts_of_run, closing_of};
 ghost use Rattle.reported_runs.specs.EndedDecks.{IsEnded};
+ghost use Rattle.reported_runs.specs.Unmirrored.{AreUnmirrored};
+ghost use Rattle.trace_print.specs.declared.closing.Closing.TheVariants.{Ended};
+ghost use Rattle.trace_print.specs.declared.closing.End.{End};
 ghost use Rattle.command_dues.specs.Verified.{deck_in, report_in};
 ghost use Rattle.command_dues.specs.Written.{text_of, text_of_run};
 ghost use Rattle.command_dues.specs.declared.due.Due.TheVariants as due;
@@ -23,42 +26,45 @@ ghost use Rattle.told_reports.specs.InForm.{IsInForm};
 ghost use Rattle.told_reports.specs.NamesApart.{TellsNamesApart};
 
 /// The report of a run that tells its acts is a reported run of the deck's site: with those acts, the processors that
-/// have stopped, and how it ended.
+/// have stopped, and how it ended. The deck has no mirrored disc, of whose drives no reported run tells.
 pub fn a_report_of_a_run_is_reported()
     ensures { (deck : Deck) (stop : Option ProcessorStop) (report : Report) → IsReportOf deck stop report
+        → AreUnmirrored deck.site.processes → (end : End) → closing_of report.run.ran.ending ≡ Ended end
         → report.tells ≡ Lines true
-        → IsReported deck.site (text_of_run report) (acts_of_run report.run) report.stopped
-        (end_of report.run.ran.ending) }
+        → IsReported deck.site (text_of_run report) (acts_of_run report.run) report.stopped end }
 {}
 
 /// So what is written where the words ask for a run with its acts, and a run is made, is a reported run of the deck
 /// that the bytes spell.
 pub fn what_a_run_writes_is_reported()
     ensures { (words : List (List ℕ)) (bytes : List ℕ) (before now : ℕ) (stop : Option ProcessorStop)
-        (report : Report)
+        (report : Report) (end : End)
         → asked_by words ≡ Some (Run true stop) → IsDue words (Some bytes) before now (due.Report report)
-        → (deck : Deck) × Decks bytes deck
-        × IsReported deck.site (text_of (due.Report report)) (acts_of_run report.run) report.stopped
-        (end_of report.run.ran.ending) }
+        → closing_of report.run.ran.ending ≡ Ended end
+        → (deck : Deck) × Decks bytes deck × (AreUnmirrored deck.site.processes
+        → IsReported deck.site (text_of (due.Report report)) (acts_of_run report.run) report.stopped end) }
 {}
 
 /// Where names tell processes, terminals and openers apart, and what the run shows is in form, its report is verified,
 /// with all its acts, unless memory runs out.
 pub fn a_report_of_a_run_in_form_is_verified()
-    ensures { (deck : Deck) (stop : Option ProcessorStop) (report : Report) (verdict : Result ℕ VerifyRefusal)
-        → IsReportOf deck stop report → report.tells ≡ Lines true → TellsNamesApart deck.site
+    ensures { (deck : Deck) (stop : Option ProcessorStop) (report : Report) (end : End)
+        (verdict : Result ℕ VerifyRefusal) → AreUnmirrored deck.site.processes
+        → IsReportOf deck stop report → closing_of report.run.ran.ending ≡ Ended end → report.tells ≡ Lines true
+        → TellsNamesApart deck.site
         → IsInForm deck.site (shown_by deck.site (acts_of_run report.run))
         (sectors_after deck.site (shown_by deck.site (acts_of_run report.run))) report.stopped
-        (acts_of_run report.run) (end_of report.run.ran.ending)
+        (acts_of_run report.run) end
         → IsVerdict deck.site (text_of_run report) verdict
         → IsSameVerdict verdict (Ok (length (acts_of_run report.run))) }
 {}
 
-/// Each report of a run of a deck that tells its acts is verified, with all its acts, unless memory runs out.
+/// Each report of a run of a deck without mirrored discs that tells its acts is verified, with all its acts, unless
+/// memory runs out.
 pub fn every_report_of_a_run_is_verified()
-    ensures { (bytes : List ℕ) (deck : Deck) (stop : Option ProcessorStop) (report : Report)
-        (verdict : Result ℕ VerifyRefusal) → Decks bytes deck
-        → IsReportOf deck stop report → report.tells ≡ Lines true
+    ensures { (bytes : List ℕ) (deck : Deck) (stop : Option ProcessorStop) (report : Report) (end : End)
+        (verdict : Result ℕ VerifyRefusal) → Decks bytes deck → AreUnmirrored deck.site.processes
+        → IsReportOf deck stop report → closing_of report.run.ran.ending ≡ Ended end → report.tells ≡ Lines true
         → IsVerdict deck.site (text_of_run report) verdict
         → IsSameVerdict verdict (Ok (length (acts_of_run report.run))) }
 {}
@@ -74,9 +80,11 @@ pub fn a_report_follows_its_deck()
 /// at most 67,108,864 bytes together, are due to be verified, with all acts of the run.
 pub fn a_run_and_its_report_are_verified()
     ensures { (words others : List (List ℕ)) (bytes : List ℕ) (before now later last : ℕ)
-        (stop : Option ProcessorStop) (report : Report)
+        (stop : Option ProcessorStop) (report : Report) (end : End)
         → asked_by words ≡ Some (Run true stop) → IsDue words (Some bytes) before now (due.Report report)
-        → asked_by others ≡ Some Verify → IsEnded bytes
+        → closing_of report.run.ran.ending ≡ Ended end
+        → ((deck : Deck) → Decks bytes deck → AreUnmirrored deck.site.processes) → asked_by others ≡ Some Verify
+        → IsEnded bytes
         → length (bytes ++ text_of (due.Report report)) ≤ 67108864
         → IsDue others (Some (bytes ++ text_of (due.Report report))) later last
         (due.Verified (length (acts_of_run report.run))) }

@@ -5,8 +5,9 @@ use Rattle.schedule.specs.declared.line.Line.TheVariants.{One}
 use Rattle.player.specs.declared.standing.LinePlace.TheVariants as standing
 use Rattle.world_semantics.specs.Examples.{disc_site}
 use Rattle.message_wires.specs.Play.{machine_at_boot}
-use Rattle.schedule_runs.specs.Runs.{Plan, PlaysSchedule, plays_none, plays_on, RunsOut, RunsToStop}
+use Rattle.schedule_runs.specs.Runs.{Plan, PlaysSchedule, plays_none, plays_on, RunsOut, RunsToHarm}
 use Rattle.run_guards.specs.Played.{both_stop, disc_after, skipped_first, stop_of_first}
+use Rattle.message_wires.specs.machine_states.specs.States.{SecondStop}
 
 -- a run that can't be done
 abbrev run_plan : Plan
@@ -74,7 +75,7 @@ second_plan = record {
   agenda = record { standing = standing.Event (event.Fail 0) 0; lines = []; stop = None; held_back = None };
 }
 
-pub second : RunsToStop disc_site both_stop None (event.Fail 1 ∷ []) (disc_after (event.Fail 1 ∷ [])) 0
+pub second : RunsToHarm disc_site both_stop None (event.Fail 1 ∷ []) (disc_after (event.Fail 1 ∷ [])) (SecondStop 0)
 second = record {
   agenda = first_plan.agenda;
   plan = second_plan;

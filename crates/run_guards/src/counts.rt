@@ -5,8 +5,9 @@ ghost use Rattle.tal_tree.specs.declared.act.Shown.TheVariants.{Reply, Write};
 ghost use Rattle.world_semantics.specs.Examples.{bank_site, disc_site};
 ghost use Rattle.message_wires.specs.Idle.{is_idle};
 ghost use Rattle.message_wires.specs.Play.{MachineState};
+ghost use Rattle.message_wires.specs.machine_states.specs.States.{SecondStop};
 ghost use Rattle.message_wires.specs.Wires.{Sent};
-ghost use Rattle.schedule_runs.specs.Runs.{RunsOut, RunsToStop, counts_of, sizes_of};
+ghost use Rattle.schedule_runs.specs.Runs.{RunsOut, RunsToHarm, counts_of, sizes_of};
 ghost use Rattle.run_guards.specs.Asked.{showing, with_bus};
 ghost use Rattle.run_guards.specs.Played.{both_stop, disc_after, skipped_first, stop_of_first};
 
@@ -32,5 +33,5 @@ pub fn a_skipped_event_counts()
 
 /// A run ends before the event that would stop a second processor.
 pub fn a_run_ends_before_a_second_stop()
-    ensures { RunsToStop disc_site both_stop None (Fail 1 ∷ []) (disc_after (Fail 1 ∷ [])) 0 }
+    ensures { RunsToHarm disc_site both_stop None (Fail 1 ∷ []) (disc_after (Fail 1 ∷ [])) (SecondStop 0) }
 {}

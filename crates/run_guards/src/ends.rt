@@ -5,12 +5,13 @@ ghost use Rattle.schedule.specs.declared.line.Line.{Line};
 ghost use Rattle.player.specs.declared.stop.ProcessorStop.{ProcessorStop};
 ghost use Rattle.message_wires.specs.Idle.{is_idle};
 ghost use Rattle.message_wires.specs.Play.{MachineState};
+ghost use Rattle.message_wires.specs.machine_states.specs.States.{DiscLoss, SecondStop};
 ghost use Rattle.schedule_runs.specs.pair_machine.specs.Seen.{closed_state};
 ghost use Rattle.world_semantics.specs.Shares.{let_go};
 ghost use Rattle.world_semantics.specs.World.{Pair};
 ghost use Rattle.schedule_runs.specs.Ends.{EndsAs, IsRunOf};
-ghost use Rattle.schedule_runs.specs.Runs.{RunsOut, RunsToStop};
-ghost use Rattle.schedule_runs.specs.declared.ran.Ending.TheVariants.{Idle, Cut, Second};
+ghost use Rattle.schedule_runs.specs.Runs.{RunsOut, RunsToHarm};
+ghost use Rattle.schedule_runs.specs.declared.ran.Ending.TheVariants.{Idle, Cut, Lost, Second};
 ghost use Rattle.schedule_runs.specs.declared.ran.Ran.{Ran};
 
 /// A run that is over asked for the events that it played: where nothing is left to do it ended idle and was closed,
@@ -25,7 +26,11 @@ pub fn a_run_ends_as_it_says()
     ensures second { (site : Site) (lines : List Line) (stop : Option ProcessorStop) (events : List Event)
         (s left : MachineState) (asked processor : ℕ)
         → EndsAs site lines stop events s left asked (Second processor)
-        → RunsToStop site lines stop events s processor × (left ≡ s) × (asked ≡ length events + 1) }
+        → RunsToHarm site lines stop events s (SecondStop processor) × (left ≡ s) × (asked ≡ length events + 1) }
+    ensures lost { (site : Site) (lines : List Line) (stop : Option ProcessorStop) (events : List Event)
+        (s left : MachineState) (asked process : ℕ)
+        → EndsAs site lines stop events s left asked (Lost process)
+        → RunsToHarm site lines stop events s (DiscLoss process) × (left ≡ s) × (asked ≡ length events + 1) }
 {}
 
 /// A run has few events, and its machine is whole.

@@ -11,6 +11,7 @@ ghost use Rattle.command_dues.specs.Decided.{IsDueOfPrograms, IsDueOfTask, IsDue
 ghost use Rattle.command_dues.specs.Decided.{IsDueOfAdvice};
 ghost use Rattle.command_dues.specs.Decided.{IsReportOf, IsSpelt, IsOfWholeDeck, due_of_fault, reads_deck};
 
+use crate::mirrors::mirrors_of;
 use crate::stopped::stopped_processors;
 use crate::sweep::swept;
 use crate::verified::due_of_verify;
@@ -231,11 +232,13 @@ fn report_of(
         ran: run(alloc, &site, lines.as_slice(), stop)?,
     };
     let sectors = sectors_after(alloc, site.get(), run.shown())?;
+    let mirrors = mirrors_of(alloc, site.get(), &run.ran.machine)?;
     let stopped = stopped_processors(alloc, &run.ran.machine)?;
     Ok(Report {
         site,
         run,
         sectors,
+        mirrors,
         stopped,
         tells,
     })

@@ -2,7 +2,7 @@ ghost use Rattle.std.specs.Prelude.{◌≡◌, Ok, map, string_bytes};
 ghost use Rattle.gd_io.specs.Puts.{Puts};
 ghost use Rattle.command_dues.specs.Ends.{Ends};
 ghost use Rattle.command_dues.specs.Numbers.{status_number};
-ghost use Rattle.command_dues.specs.RunEnds.{end_of};
+ghost use Rattle.command_dues.specs.RunEnds.{closing_of};
 ghost use Rattle.command_dues.specs.Written.{text_of, text_of_run, text_telling, told_acts, run_of, outcome_of};
 ghost use Rattle.command_dues.specs.Written.{CanBeWritten, cause_of};
 ghost use Rattle.command_dues.specs.declared.outcome.Outcome.{Outcome};
@@ -15,7 +15,7 @@ use schedule_loop::Ending;
 use std::alloc::Global;
 use tal_tree::Act;
 use trace_print::{
-    End, write_advised, write_checked, write_fault, write_load_report, write_refusal,
+    Closing, End, write_advised, write_checked, write_fault, write_load_report, write_refusal,
     write_rejected, write_report, write_sweep, write_usage, write_verified,
 };
 use verdicts::RefusedProgram;
@@ -98,10 +98,11 @@ fn write_lines<K: Sink>(sink: &mut K, report: &Report, acts: bool) -> Result<(),
     let site = report.site.get();
     let shown = report.run.shown();
     let sectors = report.sectors.as_slice();
+    let mirrors = report.mirrors.as_slice();
     let stopped = report.stopped.as_slice();
     let acts = told_acts(&report.run, acts);
-    let end = end_of(report.run.ran.ending);
-    write_report(sink, site, shown, sectors, stopped, acts, end)
+    let closing = closing_of(report.run.ran.ending);
+    write_report(sink, site, shown, sectors, mirrors, stopped, acts, closing)
 }
 
 fn write_counts<K: Sink>(sink: &mut K, report: &Report, requests: u32) -> Result<(), WriteFault>
@@ -111,8 +112,8 @@ fn write_counts<K: Sink>(sink: &mut K, report: &Report, requests: u32) -> Result
     let counts = report.run.counts(requests);
     let sectors = report.sectors.as_slice();
     let stopped = report.stopped.as_slice();
-    let end = end_of(report.run.ran.ending);
-    write_load_report(sink, site, counts, sectors, stopped, end)
+    let closing = closing_of(report.run.ran.ending);
+    write_load_report(sink, site, counts, sectors, stopped, closing)
 }
 
 fn write_refused<K: Sink>(sink: &mut K, refused: &RefusedSite) -> Result<(), WriteFault>
@@ -142,13 +143,14 @@ fn cause_of(why: Why) -> u8
     }
 }
 
-fn end_of(ending: Ending) -> End
-    ensures { result ≡ end_of ending }
+fn closing_of(ending: Ending) -> Closing
+    ensures { result ≡ closing_of ending }
 {
     match ending {
-        Ending::Idle => End::Idle,
-        Ending::Cut => End::Cut,
-        Ending::Second(processor) => End::Second(processor),
+        Ending::Idle => Closing::Ended(End::Idle),
+        Ending::Cut => Closing::Ended(End::Cut),
+        Ending::Second(processor) => Closing::Ended(End::Second(processor)),
+        Ending::Lost(process) => Closing::Lost(process),
     }
 }
 

@@ -9,6 +9,7 @@
 
 mod decide;
 pub mod entry;
+mod mirrors;
 mod stopped;
 mod sweep;
 mod verified;

@@ -13,6 +13,7 @@ ghost use Rattle.schedule_loop.specs.declared.ran.Ending.TheVariants.{Idle};
 ghost use Rattle.shown_sectors.specs.Sectors.{sectors_after};
 ghost use Rattle.command_dues.specs.Decided.{IsDue, IsOfWholeDeck, IsReportOf, reads_deck};
 ghost use Rattle.command_dues.specs.Ends.{Ends};
+ghost use Rattle.command_dues.specs.Mirrors.{mirrors_from};
 ghost use Rattle.command_dues.specs.RunEnds.{acts_of_run, shown_in};
 ghost use Rattle.command_dues.specs.Stopped.{stopped_from};
 ghost use Rattle.command_dues.specs.Written.{IsWritten, outcome_of, text_of};
@@ -24,8 +25,8 @@ ghost use Rattle.command_dues.specs.declared.outcome.Status.TheVariants as statu
 use gd_io::{Sink, Source};
 
 /// A report is of a run of its deck. The acts that the run keeps are possible on the machine of single unfailing
-/// processes, what it shows is what they show there, and where it ended idle none is left. Its sectors and its stops
-/// are those of the run.
+/// processes, what it shows is what they show there, and where it ended idle none is left. Its sectors, the drives
+/// of its mirrored discs and its stops are those of the run.
 pub fn a_report_promises_no_failure()
     ensures site { (deck : Deck) (stop : Option ProcessorStop) (report : Report) → IsReportOf deck stop report
         → report.site ≡ deck.site }
@@ -40,6 +41,8 @@ pub fn a_report_promises_no_failure()
         → IsNoneLeft deck.site (acts_of_run report.run) }
     ensures sectors { (deck : Deck) (stop : Option ProcessorStop) (report : Report) → IsReportOf deck stop report
         → report.sectors ≡ sectors_after deck.site (shown_in report.run) }
+    ensures mirrors { (deck : Deck) (stop : Option ProcessorStop) (report : Report) → IsReportOf deck stop report
+        → report.mirrors ≡ mirrors_from 0 deck.site.processes report.run.ran.machine.state.drives }
     ensures stopped { (deck : Deck) (stop : Option ProcessorStop) (report : Report) → IsReportOf deck stop report
         → report.stopped ≡ stopped_from 0 report.run.ran.machine.state.world.stopped }
 {}

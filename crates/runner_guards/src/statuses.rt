@@ -21,6 +21,7 @@ pub fn a_status_has_its_number()
     ensures refused { (process : ℕ) (refusal : RefusalFault) → status_number (status.Refused process refusal) ≡ 3 }
     ensures cut { status_number status.Cut ≡ 4 }
     ensures second_stop { (processor : ℕ) → status_number (status.SecondStop processor) ≡ 5 }
+    ensures disc_lost { (process : ℕ) → status_number (status.DiscLost process) ≡ 10 }
     ensures read_fault { status_number status.ReadFault ≡ 6 }
     ensures write_fault { status_number status.WriteFault ≡ 7 }
     ensures no_memory { status_number (status.NoMemory no_memory) ≡ 8 }

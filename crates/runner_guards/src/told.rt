@@ -3,12 +3,14 @@ ghost use Rattle.player.specs.declared.stop.ProcessorStop.{ProcessorStop};
 ghost use Rattle.tal_tree.specs.declared.act.Act.{Act};
 ghost use Rattle.tal_tree.specs.declared.act.Shown.{Shown};
 ghost use Rattle.tal_tree.specs.declared.act.Shown.TheVariants.{Reply, Write};
-ghost use Rattle.trace_print.specs.ReportText.{load_report_text, report_text};
+ghost use Rattle.trace_print.specs.ReportText.{load_report_text, run_text};
+ghost use Rattle.trace_print.specs.declared.closing.Closing.TheVariants as closing;
+ghost use Rattle.trace_print.specs.declared.closing.Closing.TheVariants.{Ended};
 ghost use Rattle.trace_print.specs.declared.closing.End.TheVariants as end;
 ghost use Rattle.command_words.specs.declared.asked.Command.TheVariants as command;
-ghost use Rattle.schedule_loop.specs.declared.ran.Ending.TheVariants.{Idle, Cut, Second};
+ghost use Rattle.schedule_loop.specs.declared.ran.Ending.TheVariants.{Idle, Cut, Lost, Second};
 ghost use Rattle.command_dues.specs.Decided.{reads_deck};
-ghost use Rattle.command_dues.specs.RunEnds.{acts_of_run, end_of, load_counts, shown_in, status_of_run};
+ghost use Rattle.command_dues.specs.RunEnds.{acts_of_run, closing_of, load_counts, shown_in, status_of_run};
 ghost use Rattle.command_dues.specs.Written.{text_of_run, told_acts};
 ghost use Rattle.command_dues.specs.declared.due.Report.{Report};
 ghost use Rattle.command_dues.specs.declared.outcome.RunEnd.{RunEnd};
@@ -27,22 +29,25 @@ pub fn what_a_run_did_is_told_in_order()
         ≡ record { requests = 50; writes = 1; replies = 2 } }
 {}
 
-/// A run that ended idle is done, one with something left was cut, and one before a second stop says which.
+/// A run that ended idle is done, one with something left was cut, and one before a second stop or the
+/// loss of a disc says which.
 pub fn an_ending_has_its_status_and_its_line()
-    ensures idle { (status_of_run Idle ≡ status.Done) × (end_of Idle ≡ end.Idle) }
-    ensures cut { (status_of_run Cut ≡ status.Cut) × (end_of Cut ≡ end.Cut) }
+    ensures idle { (status_of_run Idle ≡ status.Done) × (closing_of Idle ≡ Ended end.Idle) }
+    ensures cut { (status_of_run Cut ≡ status.Cut) × (closing_of Cut ≡ Ended end.Cut) }
     ensures second { (processor : ℕ) → (status_of_run (Second processor) ≡ status.SecondStop processor)
-        × (end_of (Second processor) ≡ end.Second processor) }
+        × (closing_of (Second processor) ≡ Ended (end.Second processor)) }
+    ensures lost { (process : ℕ) → (status_of_run (Lost process) ≡ status.DiscLost process)
+        × (closing_of (Lost process) ≡ closing.Lost process) }
 {}
 
 /// A report tells of its own run: by lines, or for a load by counts.
 pub fn a_report_is_by_what_it_tells()
     ensures lines { (report : Report) (acts : Bool) → text_of_run (record report { tells = Lines acts })
-        ≡ report_text report.site (shown_in report.run) report.sectors report.stopped (told_acts acts report.run)
-        (end_of report.run.ran.ending) }
+        ≡ run_text report.site (shown_in report.run) report.sectors report.mirrors report.stopped
+        (told_acts acts report.run) (closing_of report.run.ran.ending) }
     ensures load { (report : Report) (requests : ℕ) → text_of_run (record report { tells = Counts requests })
         ≡ load_report_text report.site (load_counts requests report.run) report.sectors report.stopped
-        (end_of report.run.ran.ending) }
+        (closing_of report.run.ran.ending) }
 {}
 
 /// A deck is read to run, check or sweep it or to advise, and not for a load or for words that are no command.

@@ -9,6 +9,25 @@ pub enum Event {
     Repeat { y: bool, k: u32 },
     Tick(u8),
     Fail(u8),
+    Drive(DriveEvent),
+}
+
+/// What befalls one of the two drives, 0 or 1, of the mirrored disc that is the process at a place in the deck.
+#[derive(Clone, Copy, PartialEq, Eq)]
+pub struct DriveEvent {
+    pub process: u8,
+    pub drive: u8,
+    pub change: DriveChange,
+}
+
+#[derive(Clone, Copy, PartialEq, Eq)]
+pub enum DriveChange {
+    /// It fails.
+    Break,
+    /// A new drive is put in the place of one that failed.
+    Revive,
+    /// The next sector is copied on a new drive.
+    Copy,
 }
 
 /// What the next event of a line is chosen by: the packets on the buses, whether the packet that it concerns is an

@@ -18,7 +18,7 @@ use Rattle.player.specs.declared.stop.ProcessorStop.{ProcessorStop}
 use Rattle.player.specs.Lines.{draining, moved, next_event, with_packets_left}
 use Rattle.player.specs.Rounds.{delivers_y, next_turn, ticks, turn}
 use Rattle.agendas.specs.Agendas.{Plan, coming, stopped_by}
-use Rattle.machine_states.specs.States.{Makes, Played, Settles, Skips, State, WouldStop}
+use Rattle.machine_states.specs.States.{DiscLoss, Makes, Played, SecondStop, Settles, Skips, State, Would}
 use Rattle.machine_states.specs.declared.effect.Effect.TheVariants as effect
 use Rattle.schedule_loop.specs.Ends.{Course}
 use Rattle.schedule_loop.specs.Looks.{asks_packet}
@@ -62,7 +62,8 @@ makes : {Wires : Type 0} (played : Played Wires) (before after : State Wires)
     → Settles played before effect.Done after → played ≡ Makes after
 makes (Makes next) before after is = ap Makes (sym is.1)
 makes Skips before after is = absurd (cc)
-makes (WouldStop processor) before after is = absurd (cc)
+makes (Would (SecondStop processor)) before after is = absurd (cc)
+makes (Would (DiscLoss process)) before after is = absurd (cc)
 
 abbrev Goes_on : {Wires : Type 0} → Rules Wires → Course Wires → Scheduled → State Wires → State Wires → ℕ → ℕ
     → Type 0

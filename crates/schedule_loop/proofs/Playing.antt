@@ -6,15 +6,14 @@ use Rattle.std.specs.Option.{IfSome}
 use Rattle.schedule.specs.declared.event.Event.{Event}
 use Rattle.player.specs.declared.standing.Sizes.{Sizes}
 use Rattle.agendas.specs.Agendas.{Agenda, Plan, agenda_of}
-use Rattle.machine_states.specs.States.{State, WouldStop}
+use Rattle.machine_states.specs.States.{State, Would, Harm, SecondStop, DiscLoss}
 use Rattle.schedule_loop.specs.Ends.{CanBePlayed, Course, EndsBy, IsEndBy, IsRunOn, IsTriedBy, Plays, RunsOutBy}
-use Rattle.schedule_loop.specs.Ends.{RunsToStopBy, planned_in}
+use Rattle.schedule_loop.specs.Ends.{RunsToHarmBy, ending_by, planned_in}
 use Rattle.schedule_loop.specs.Plans.{seen_none, seen_on}
 use Rattle.schedule_loop.specs.Playing.{IsPlaying}
 use Rattle.schedule_loop.specs.Rules.{Rules}
 use Rattle.schedule_loop.specs.Seen.{Scheduled, event_in}
 use Rattle.schedule_loop.specs.declared.ran.Ending.{Ending}
-use Rattle.schedule_loop.specs.declared.ran.Ending.TheVariants.{Second}
 
 -- the plan for the next event, where the machine and the schedule stand
 abbrev pub Coming : {Wires : Type 0} → Rules Wires → Scheduled → State Wires → ℕ → Option Plan
@@ -104,26 +103,24 @@ runs_out rules course schedule s left n asked ending is_broken playing e few who
     ended rules course s left n asked ending is_broken playing.events (rules.is_idle s) refl
     (over rules course schedule s n playing e) playing.counted few whole end
 
-pub runs_to_stop : {Wires : Type 0} (rules : Rules Wires) (course : Course Wires) (before after : Scheduled)
-    (s next : State Wires) (n processor asked : ℕ) (event : Event) (ending : Ending) (is_broken : Bool)
+pub runs_to_harm : {Wires : Type 0} (rules : Rules Wires) (course : Course Wires) (before after : Scheduled)
+    (s next : State Wires) (n asked : ℕ) (event : Event) (ending : Ending) (is_broken : Bool)
     → IsPlaying rules course before s n → event_in (Coming rules before s n) ≡ Some event
     → IfSome (Coming rules before s n) (λ plan. after ≡ record before { agenda = plan.agenda })
-    → IsTriedBy rules s event next (Some processor) → is_broken ≡ false → n < 4294967295
-    → asked ≡ n + 1 → ending ≡ Second processor → IsRunOn rules course is_broken next asked ending
-runs_to_stop rules course before after s next n processor asked event ending is_broken playing e stands tried whole few
-    count is_so =
+    → IsTriedBy rules s event next (Some ending) → is_broken ≡ false → n < 4294967295
+    → asked ≡ n + 1 → IsRunOn rules course is_broken next asked ending
+runs_to_harm {Wires} rules course before after s next n asked event ending is_broken playing e stands tried whole few
+    count =
     let found : (plan : Plan) × (Coming rules before s n ≡ Some plan) × (plan.event ≡ event)
     × (after ≡ record before { agenda = plan.agenda }) =
     planned (Coming rules before s n) event before after e stands in
-    let would : rules.play s found.0.event ≡ WouldStop processor =
-    subst (λ one. rules.play s one ≡ WouldStop processor) (sym found.2) tried.0 in
-    let out : RunsToStopBy rules course playing.events s processor =
+    let out : RunsToHarmBy rules course playing.events s tried.harm =
     record {
       agenda = before.agenda;
       plan = found.0;
       played = playing.plays;
       comes = comes-after rules course before s n playing (Some found.0) found.1;
-      would = would;
+      would = subst (λ one. rules.play s one ≡ Would tried.harm) (sym found.2) tried.would;
     } in
     record {
       events = playing.events;
@@ -131,9 +128,15 @@ runs_to_stop rules course before after s next n processor asked event ending is_
       few = subst (λ m. m < 4294967295) (sym playing.counted) few;
       whole = whole;
       ends =
-          subst (λ one. EndsBy rules course playing.events s next asked one) (sym is_so)
-          (out, tried.1, count ∙ sym (ap (λ m. m + 1) playing.counted));
+          subst (λ one. EndsBy rules course playing.events s next asked one) (sym tried.ends)
+          (by tried.harm out tried.same (count ∙ sym (ap (λ m. m + 1) playing.counted)));
     }
+  where
+    by : {events : List Event} {s next : State Wires} {asked : ℕ} (harm : Harm)
+        → RunsToHarmBy rules course events s harm → next ≡ s → asked ≡ length events + 1
+        → EndsBy rules course events s next asked (ending_by harm)
+    by (SecondStop processor) out same counted = (out, same, counted)
+    by (DiscLoss process) out same counted = (out, same, counted)
 
 -- at the beginning nothing was played
 pub begins : {Wires : Type 0} (rules : Rules Wires) (course : Course Wires) (schedule : Scheduled)

@@ -5,11 +5,11 @@ use Rattle.schedule.specs.declared.line.Line.{Line}
 use Rattle.player.specs.declared.standing.Sizes.{Sizes}
 use Rattle.player.specs.declared.stop.ProcessorStop.{ProcessorStop}
 use Rattle.agendas.specs.Agendas.{Agenda, Plan}
-use Rattle.machine_states.specs.States.{State, WouldStop}
+use Rattle.machine_states.specs.States.{State, Would, Harm, SecondStop, DiscLoss}
 use Rattle.schedule_loop.specs.Plans.{upcoming_seen}
 use Rattle.schedule_loop.specs.Rules.{IsPlayBy, PlaysBy, Rules, sight_of}
 use Rattle.schedule_loop.specs.declared.ran.Ending.{Ending}
-use Rattle.schedule_loop.specs.declared.ran.Ending.TheVariants.{Idle, Cut, Second}
+use Rattle.schedule_loop.specs.declared.ran.Ending.TheVariants.{Idle, Cut, Second, Lost}
 
 -- a schedule with a stop, and where it is played: the sizes of the site, and the state at the beginning
 pub record Course (Wires : Type 0) : Type 0 where
@@ -41,17 +41,18 @@ pub record RunsOutBy {Wires : Type 0} (rules : Rules Wires) (course : Course Wir
   pub played : Plays rules course events agenda s
   pub over : planned_in rules course.sizes (length events) s agenda ≡ None
 
--- or it ends before an event that would stop a second processor
-pub record RunsToStopBy {Wires : Type 0} (rules : Rules Wires) (course : Course Wires) (events : List Event)
-    (s : State Wires) (processor : ℕ) : Type 0 where
+-- or it ends before an event that would do harm
+pub record RunsToHarmBy {Wires : Type 0} (rules : Rules Wires) (course : Course Wires) (events : List Event)
+    (s : State Wires) (harm : Harm) : Type 0 where
   pub agenda : Agenda
   pub plan : Plan
   pub played : Plays rules course events agenda s
   pub comes : planned_in rules course.sizes (length events) s agenda ≡ Some plan
-  pub would : rules.play s plan.event ≡ WouldStop processor
+  pub would : rules.play s plan.event ≡ Would harm
 
 -- the run ended so: idle, and then it was closed; or with something left to do; or before an event that would stop a
--- second processor. The events that it asked for are those that it played, and the one before which it ended
+-- second processor, or one that would lose a disc. The events that it asked for are those that it played, and the one
+-- before which it ended
 abbrev pub EndsBy : {Wires : Type 0} → Rules Wires → Course Wires → List Event → State Wires → State Wires → ℕ
     → Ending → Type 0
 EndsBy rules course events s left asked Idle =
@@ -59,7 +60,9 @@ EndsBy rules course events s left asked Idle =
 EndsBy rules course events s left asked Cut =
     RunsOutBy rules course events s × (rules.is_idle s ≡ false) × (left ≡ s) × (asked ≡ length events)
 EndsBy rules course events s left asked (Second processor) =
-    RunsToStopBy rules course events s processor × (left ≡ s) × (asked ≡ length events + 1)
+    RunsToHarmBy rules course events s (SecondStop processor) × (left ≡ s) × (asked ≡ length events + 1)
+EndsBy rules course events s left asked (Lost process) =
+    RunsToHarmBy rules course events s (DiscLoss process) × (left ≡ s) × (asked ≡ length events + 1)
 
 -- what is left is left of a run of the schedule: these events were played one after the other, fewer than 4,294,967,295
 -- of them, and led to a state, with which the run ended as it says
@@ -77,7 +80,20 @@ IsEndBy rules before played true left asked ending =
     (ending ≡ Idle) × (left ≡ rules.closed before) × (asked ≡ played)
 IsEndBy rules before played false left asked ending = (ending ≡ Cut) × (left ≡ before) × (asked ≡ played)
 
--- an event was played, or it would stop this second processor, and nothing changes
-abbrev pub IsTriedBy : {Wires : Type 0} → Rules Wires → State Wires → Event → State Wires → Option ℕ → Type 0
+-- how a run ends before an event that would do this harm
+abbrev pub ending_by : Harm → Ending
+ending_by (SecondStop processor) = Second processor
+ending_by (DiscLoss process) = Lost process
+
+-- an event would do harm, by which the run ends so, and nothing changes
+pub record IsHarmBy {Wires : Type 0} (rules : Rules Wires) (s : State Wires) (event : Event) (next : State Wires)
+    (ending : Ending) : Type 0 where
+  pub harm : Harm
+  pub would : rules.play s event ≡ Would harm
+  pub ends : ending ≡ ending_by harm
+  pub same : next ≡ s
+
+-- an event was played, or the run ends before it
+abbrev pub IsTriedBy : {Wires : Type 0} → Rules Wires → State Wires → Event → State Wires → Option Ending → Type 0
 IsTriedBy rules s event next None = IsPlayBy rules s event next
-IsTriedBy rules s event next (Some processor) = (rules.play s event ≡ WouldStop processor) × (next ≡ s)
+IsTriedBy rules s event next (Some ending) = IsHarmBy rules s event next ending

@@ -37,11 +37,11 @@ pub fn run<M: ScheduleMachine>(
         let next = played + 1;
         match tried(&mut machine, event)? {
             None => played = schedule.deliver_at_once(next, &mut machine),
-            Some(processor) => {
+            Some(ending) => {
                 return Ok(Ran {
                     machine,
                     asked: u64::from(next),
-                    ending: Ending::Second(processor),
+                    ending,
                 });
             }
         }
@@ -49,17 +49,18 @@ pub fn run<M: ScheduleMachine>(
     ended(machine, played)
 }
 
-/// Plays an event. Answers the second processor that it would stop, and then nothing changes.
-fn tried<M: ScheduleMachine>(machine: &mut M, event: Event) -> Result<Option<u8>, NoMemory>
+/// Plays an event. Answers how the run ends before it, where it would do harm, and then nothing changes.
+fn tried<M: ScheduleMachine>(machine: &mut M, event: Event) -> Result<Option<Ending>, NoMemory>
     requires { M.is_ready (M.state machine.old) }
-    ensures tried { IfOk result (λ second. IsTriedBy M.rules (M.state machine.old) event (M.state machine.new)
-        second) }
-    ensures whole { IfOk result (λ second. M.is_broken machine.new ≡ false) }
+    ensures tried { IfOk result (λ ending. IsTriedBy M.rules (M.state machine.old) event (M.state machine.new)
+        ending) }
+    ensures whole { IfOk result (λ ending. M.is_broken machine.new ≡ false) }
 {
     match machine.event(event)? {
         Effect::Done => Ok(None),
         Effect::Skipped => Ok(None),
-        Effect::WouldStopSecond(processor) => Ok(Some(processor)),
+        Effect::WouldStopSecond(processor) => Ok(Some(Ending::Second(processor))),
+        Effect::WouldLoseDisc(process) => Ok(Some(Ending::Lost(process))),
     }
 }
 

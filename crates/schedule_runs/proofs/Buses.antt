@@ -5,7 +5,7 @@ use Rattle.std.specs.List.{remove}
 use Rattle.std.proofs.lemmas.Bool.{ltb-true}
 use Rattle.tal_tree.specs.declared.site.Site.{Site}
 use Rattle.schedule.specs.declared.event.Event.{Event}
-use Rattle.schedule.specs.declared.event.Event.TheVariants.{Run, Enter, Deliver, Lose, Repeat, Tick, Fail}
+use Rattle.schedule.specs.declared.event.Event.TheVariants.{Run, Enter, Deliver, Lose, Repeat, Tick, Fail, Drive}
 use Rattle.world_semantics.specs.Running.{Done, run_done}
 use Rattle.world_semantics.specs.World.{is_running}
 use Rattle.computed_changes.specs.Entered.{enter_done}
@@ -13,7 +13,7 @@ use Rattle.computed_changes.specs.Handed.{handed_done}
 use Rattle.computed_changes.specs.Stopped.{stop_done, down_done}
 use Rattle.letters.specs.Routes.{Letter, letters_of}
 use Rattle.letters.specs.Again.{sent_again}
-use Rattle.machine_states.specs.States.{Played, Makes, Skips, WouldStop}
+use Rattle.machine_states.specs.States.{Played, Makes, Skips, Would, SecondStop}
 use Rattle.message_wires.specs.Wires.{Sent, Wires, has_room, put_on, wires_after_post, wires_after_posts, paid}
 use Rattle.message_wires.specs.Wires.{paid_between, without_packet, is_due, put_again}
 use Rattle.message_wires.specs.Play.{MachineState, after_done, made_by, after_any, state_after_handing, comes_in}
@@ -21,6 +21,7 @@ use Rattle.message_wires.specs.Play.{deliver_played, lose_played, repeat_played,
 use Rattle.message_wires.specs.Play.{notes_from, state_after_tick, tick_played, packet_at, play}
 use Rattle.message_wires.specs.Runs.{IsPlayed, played_none, played_more, skipped}
 use Rattle.schedule_runs.specs.Runs.{IsPlay}
+use Rattle.machine_states.proofs.Turning.{drive-cases}
 
 abbrev IsFew : List Sent → Type 0
 IsFew bus = length bus ≤ 4096
@@ -58,7 +59,7 @@ again-few stopped node (one ∷ rest) bus few = again-few stopped node rest _ (b
 abbrev IsFewPlayed : Played Wires → Type 0
 IsFewPlayed (Makes next) = IsFew next.wires.bus
 IsFewPlayed Skips = Unit {0}
-IsFewPlayed (WouldStop processor) = Unit {0}
+IsFewPlayed (Would harm) = Unit {0}
 
 made-few : (s : MachineState) (done : Option Done) → IsFew s.wires.bus → IsFewPlayed (made_by s done)
 made-few s None few = tt
@@ -118,7 +119,7 @@ fail-few : (processor : ℕ) (s : MachineState) (done : Option Done) → IsFew s
 fail-few processor s None few = tt
 fail-few processor s (Some done) few = by (has_stopped s.world.stopped)
   where
-    by : (test : Bool) → IsFewPlayed (if test then WouldStop processor else Makes (after_done s done))
+    by : (test : Bool) → IsFewPlayed (if test then Would (SecondStop processor) else Makes (after_done s done))
     by true = tt
     by false = posted-few (letters_of s.site done.world done.sendings) s.wires few
 
@@ -130,6 +131,7 @@ play-few s (Lose y k) few = lose-few k s (packet_at s y k) few
 play-few s (Repeat y k) few = repeat-few s (packet_at s y k) few
 play-few s (Tick node) few = tick-few node s few
 play-few s (Fail processor) few = fail-few processor s (stop_done processor s.world) few
+play-few s (Drive event) few = drive-cases event s IsFewPlayed (λ drives. few) tt (λ process. tt)
 
 -- an event leaves at most 4,096 packets on the bus
 pub bus-few : (s : MachineState) (event : Event) (next : MachineState) → IsPlay s event next

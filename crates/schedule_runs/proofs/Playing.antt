@@ -12,17 +12,18 @@ use Rattle.pair_machine.specs.number_laws.proofs.Played.{room-within}
 use Rattle.pair_machine.specs.number_laws.proofs.Requests.{openers-there}
 use Rattle.plain_semantics.specs.SiteLimits.{KeepsSiteLimits}
 use Rattle.pair_machine.specs.Seen.{MachineStanding}
-use Rattle.schedule_loop.specs.Ends.{CanBePlayed, Course, EndsBy, IsRunOn, Plays, RunsOutBy, RunsToStopBy}
+use Rattle.schedule_loop.specs.Ends.{CanBePlayed, Course, EndsBy, IsRunOn, Plays, RunsOutBy, RunsToHarmBy}
 use Rattle.schedule_loop.specs.declared.ran.Ending as loop
 use Rattle.schedule_loop.specs.declared.ran.Ending.TheVariants as ends
 use Rattle.schedule_loop.proofs.Plain.{plays-on, same-upcoming}
 use Rattle.schedule_runs.specs.Ends.{EndsAs, IsRunOf, ending_of}
 use Rattle.schedule_runs.specs.Lengths.{AsksForFewEvents}
 use Rattle.schedule_runs.specs.Rules.{CanGoOn, pair_rules}
-use Rattle.schedule_runs.specs.Runs.{Agenda, PlaysSchedule, RunsOut, RunsToStop, counts_of, sizes_of}
+use Rattle.schedule_runs.specs.Runs.{Agenda, PlaysSchedule, RunsOut, RunsToHarm, counts_of, sizes_of}
 use Rattle.schedule_runs.specs.declared.ran.Ending.{Ending}
 use Rattle.schedule_runs.proofs.Lengths.{so-many}
 use Rattle.schedule_runs.proofs.Played.{played}
+use Rattle.machine_states.specs.States.{Harm, SecondStop, DiscLoss}
 
 -- a schedule with a stop on a site
 abbrev pub course_on : Site → List Line → Option ProcessorStop → Course Wires
@@ -90,10 +91,10 @@ over site lines stop events s out = record {
   over = same-upcoming (sizes_of site) (length events) (counts_of s) out.agenda ∙ out.over;
 }
 
-at-stop : (site : Site) (lines : List Line) (stop : Option ProcessorStop) (events : List Event) (s : MachineState)
-    (processor : ℕ) → RunsToStopBy pair_rules (course_on site lines stop) events s processor
-    → RunsToStop site lines stop events s processor
-at-stop site lines stop events s processor out = record {
+at-harm : (site : Site) (lines : List Line) (stop : Option ProcessorStop) (events : List Event) (s : MachineState)
+    (harm : Harm) → RunsToHarmBy pair_rules (course_on site lines stop) events s harm
+    → RunsToHarm site lines stop events s harm
+at-harm site lines stop events s harm out = record {
   agenda = out.agenda;
   plan = out.plan;
   played = plays site lines stop events out.agenda s out.played;
@@ -110,7 +111,9 @@ ends-as site lines stop events s left asked ends.Idle end =
 ends-as site lines stop events s left asked ends.Cut end =
     (over site lines stop events s end.0, end.1, end.2, end.3)
 ends-as site lines stop events s left asked (ends.Second processor) end =
-    (at-stop site lines stop events s processor end.0, end.1, end.2)
+    (at-harm site lines stop events s (SecondStop processor) end.0, end.1, end.2)
+ends-as site lines stop events s left asked (ends.Lost process) end =
+    (at-harm site lines stop events s (DiscLoss process) end.0, end.1, end.2)
 
 -- what the loop answers is a run of the schedule
 pub is-run : (site : Site) (lines : List Line) (stop : Option ProcessorStop) (sizes : Sizes) (start : MachineState)

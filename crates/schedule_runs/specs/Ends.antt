@@ -9,13 +9,15 @@ use Rattle.message_wires.specs.Play.{MachineState}
 use Rattle.pair_machine.specs.Seen.{closed_state}
 use Rattle.schedule_loop.specs.declared.ran.Ending as loop
 use Rattle.schedule_loop.specs.declared.ran.Ending.TheVariants as ends
-use Rattle.schedule_runs.specs.Runs.{RunsOut, RunsToStop}
+use Rattle.schedule_runs.specs.Runs.{RunsOut, RunsToHarm}
 use Rattle.schedule_runs.specs.declared.ran.Ending.{Ending}
-use Rattle.schedule_runs.specs.declared.ran.Ending.TheVariants.{Idle, Cut, Second}
+use Rattle.schedule_runs.specs.declared.ran.Ending.TheVariants.{Idle, Cut, Second, Lost}
 use Rattle.schedule_runs.specs.declared.ran.Ran.{Ran}
+use Rattle.machine_states.specs.States.{SecondStop, DiscLoss}
 
 -- the run ended so: idle, and then it was closed; or with something left to do; or before an event that would stop a
--- second processor. The events that it asked for are those that it played, and the one before which it ended
+-- second processor, or one that would lose a disc. The events that it asked for are those that it played, and the one
+-- before which it ended
 abbrev pub EndsAs : Site → List Line → Option ProcessorStop → List Event → MachineState → MachineState → ℕ → Ending
     → Type 0
 EndsAs site lines stop events s left asked Idle =
@@ -23,7 +25,9 @@ EndsAs site lines stop events s left asked Idle =
 EndsAs site lines stop events s left asked Cut =
     RunsOut site lines stop events s × (is_idle s ≡ false) × (left ≡ s) × (asked ≡ length events)
 EndsAs site lines stop events s left asked (Second processor) =
-    RunsToStop site lines stop events s processor × (left ≡ s) × (asked ≡ length events + 1)
+    RunsToHarm site lines stop events s (SecondStop processor) × (left ≡ s) × (asked ≡ length events + 1)
+EndsAs site lines stop events s left asked (Lost process) =
+    RunsToHarm site lines stop events s (DiscLoss process) × (left ≡ s) × (asked ≡ length events + 1)
 
 -- what ran is a run of the schedule with the stop on the site: these events were played one after the other, fewer than
 -- 4,294,967,295 of them, and led to a state, with which the run ended as it says
@@ -39,3 +43,4 @@ abbrev pub ending_of : loop.Ending → Ending
 ending_of ends.Idle = Idle
 ending_of ends.Cut = Cut
 ending_of (ends.Second processor) = Second processor
+ending_of (ends.Lost process) = Lost process

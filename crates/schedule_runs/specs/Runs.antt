@@ -1,6 +1,6 @@
 -- The run of a schedule on the machine over whole messages: which event comes next, and how a run ends. The lines are
 -- our own.
-use Rattle.std.specs.Prelude.{◌≡◌, ◌⊎◌, ℕ, false, List, length, Option, Some, None}
+use Rattle.std.specs.Prelude.{◌≡◌, ◌⊎◌, false, List, length, Option, Some, None}
 use Rattle.tal_tree.specs.declared.site.Site.{Site}
 use Rattle.schedule.specs.declared.event.Counts.{Counts}
 use Rattle.schedule.specs.declared.event.Event.{Event}
@@ -9,7 +9,7 @@ use Rattle.player.specs.declared.standing.Sizes.{Sizes}
 use Rattle.player.specs.declared.stop.ProcessorStop.{ProcessorStop}
 pub use Rattle.agendas.specs.Agendas.{Agenda, Plan, PlaysOn, plays_none, plays_on}
 pub use Rattle.agendas.specs.Agendas.{agenda_of, coming, planned_by, stopped_by, upcoming, upcoming_after}
-use Rattle.machine_states.specs.States.{Makes, Skips, WouldStop}
+use Rattle.machine_states.specs.States.{Makes, Skips, Would, Harm}
 use Rattle.message_wires.specs.Idle.{is_idle}
 use Rattle.message_wires.specs.Play.{MachineState, play, machine_at_boot}
 use Rattle.pair_machine.specs.node_copies.specs.ShownCounts.{replies_in, writes_in}
@@ -50,11 +50,11 @@ pub record RunsOut (site : Site) (lines : List Line) (stop : Option ProcessorSto
   pub played : PlaysSchedule site lines stop events agenda s
   pub over : upcoming (sizes_of site) (length events) (counts_of s) agenda ≡ None
 
--- or it ends before an event that would stop a second processor
-pub record RunsToStop (site : Site) (lines : List Line) (stop : Option ProcessorStop) (events : List Event)
-    (s : MachineState) (processor : ℕ) : Type 0 where
+-- or it ends before an event that would do harm
+pub record RunsToHarm (site : Site) (lines : List Line) (stop : Option ProcessorStop) (events : List Event)
+    (s : MachineState) (harm : Harm) : Type 0 where
   pub agenda : Agenda
   pub plan : Plan
   pub played : PlaysSchedule site lines stop events agenda s
   pub comes : upcoming (sizes_of site) (length events) (counts_of s) agenda ≡ Some plan
-  pub would : play s plan.event ≡ WouldStop processor
+  pub would : play s plan.event ≡ Would harm

@@ -52,5 +52,6 @@ fn ending_of(ending: schedule_loop::Ending) -> Ending
         schedule_loop::Ending::Idle => Ending::Idle,
         schedule_loop::Ending::Cut => Ending::Cut,
         schedule_loop::Ending::Second(processor) => Ending::Second(processor),
+        schedule_loop::Ending::Lost(process) => Ending::Lost(process),
     }
 }

@@ -10,7 +10,7 @@ use Rattle.run_table.specs.declared.rows.RunKind.TheVariants as kind
 use Rattle.run_table.specs.declared.table.ProcessorRow.{ProcessorRow}
 use Rattle.schedule.specs.declared.line.Line.{Line}
 use Rattle.schedule_loop.specs.declared.ran.Ending.{Ending}
-use Rattle.schedule_loop.specs.declared.ran.Ending.TheVariants.{Idle, Cut, Second}
+use Rattle.schedule_loop.specs.declared.ran.Ending.TheVariants.{Idle, Cut, Lost, Second}
 use Rattle.tal_tree.specs.declared.site.Site.{Site}
 
 -- the kind of a run that ended so
@@ -18,6 +18,7 @@ abbrev pub kind_of : Ending → RunKind
 kind_of Idle = kind.Idle
 kind_of Cut = kind.Cut
 kind_of (Second processor) = kind.Second
+kind_of (Lost process) = kind.Cut
 
 -- a run of the schedule with this stop is of this kind
 abbrev pub IsKindOf : Site → List Line → ProcessorStop → RunKind → Type 0

@@ -81,5 +81,6 @@ fn kind_of(ending: Ending) -> RunKind
         Ending::Idle => RunKind::Idle,
         Ending::Cut => RunKind::Cut,
         Ending::Second(_) => RunKind::Second,
+        Ending::Lost(_) => RunKind::Cut,
     }
 }

@@ -11,7 +11,7 @@ use Rattle.takeover_laws.proofs.Kept.{IsGood, change-good}
 use Rattle.letters.specs.Idle.{OneStops}
 use Rattle.letters.specs.Posts.{Post, post_at_boot, after_change, post_after_down, NotesLetters, no_mark, one_mark}
 use Rattle.letters.specs.Posts.{PlaysEvent, plays_run, plays_no_run, plays_enter, plays_no_enter, plays_nothing}
-use Rattle.letters.specs.Posts.{plays_hand, plays_drop, plays_again, plays_mark, plays_loss, plays_repeat}
+use Rattle.letters.specs.Posts.{plays_hand, plays_drop, plays_again, plays_mark, plays_loss, plays_repeat, plays_drive}
 use Rattle.letters.specs.Posts.{plays_no_tick, plays_tick, plays_tick_stop, plays_fail, plays_no_fail}
 use Rattle.letters.proofs.Owed.{taken-there}
 use Rattle.awaited_requests.specs.Awaited.{IsAwaited, by_copy, by_terminal}
@@ -113,6 +113,7 @@ module _ (site : Site) (fit : IsFit site) (out : IsLaidOut site) where
           (change-good site fit events post.world w (NotingDown node processor) sendings few good change)
       of plays_loss one = served
       of plays_repeat one = served
+      of plays_drive one = served
       of plays_no_tick one = served
       of (plays_tick {node = node} {next = last} runs marks) one =
           marks-served node events post last few good seated one known served marks

@@ -47,12 +47,12 @@ pub record IsRunning (program : Program) (s : ProgramState) : Type 0 where
 
 -- a state of a process of this kind
 abbrev pub IsKept : Kind → ProcessState → Type 0
-IsKept (kind.Disc sectors) (Serves count s) = (count ≡ sectors) × IfMessage s.request × IfMessage s.reply
+IsKept (kind.Disc sectors mirrored) (Serves count s) = (count ≡ sectors) × IfMessage s.request × IfMessage s.reply
 IsKept (kind.Pair code) (Runs program s) = IsRunning program s
 IsKept _ _ = ⊥
 
 pub start-kept : (what : Kind) → IsTellableKind what → IsKept what (process.start_of what)
-start-kept (kind.Disc sectors) is = (refl, tt, tt)
+start-kept (kind.Disc sectors mirrored) is = (refl, tt, tt)
 start-kept (kind.Pair program) is = record {
   regular = is.0;
   numbers = is.1;
@@ -61,14 +61,14 @@ start-kept (kind.Pair program) is = record {
 }
 
 pub inner-kept : (what : Kind) (s : ProcessState) → IsKept what s → IsKept what (process.after_inner s)
-inner-kept (kind.Disc sectors) (Serves count s) is = is
+inner-kept (kind.Disc sectors mirrored) (Serves count s) is = is
 inner-kept (kind.Pair code) (Runs program s) is = record {
   regular = is.regular;
   numbers = is.numbers;
   whole = awake-whole (inner-awake program s is.regular is.whole);
   words = inner-words program is.numbers s is.whole.frames is.words;
 }
-inner-kept (kind.Disc sectors) (Runs program s) is = absurd is
+inner-kept (kind.Disc sectors mirrored) (Runs program s) is = absurd is
 inner-kept (kind.Pair code) (Serves count s) is = absurd is
 
 -- what a step makes of the statement that comes next
@@ -94,7 +94,7 @@ got-words program s words is has _ = has
 
 pub took-kept : (what : Kind) (s : ProcessState) (words : List ℤ) → process.point s ≡ point.Take → IsMessage words
     → IsKept what s → IsKept what (process.after_took s words)
-took-kept (kind.Disc sectors) (Serves count s) words at message is = (is.0, message, is.2)
+took-kept (kind.Disc sectors mirrored) (Serves count s) words at message is = (is.0, message, is.2)
 took-kept (kind.Pair code) (Runs program s) words at message is = record {
   regular = is.regular;
   numbers = is.numbers;
@@ -102,24 +102,24 @@ took-kept (kind.Pair code) (Runs program s) words at message is = record {
   words = next-words (took_in program s words) s is.words (took-words program s words message is.words)
       (next_of s.frames);
 }
-took-kept (kind.Disc sectors) (Runs program s) words at message is = absurd is
+took-kept (kind.Disc sectors mirrored) (Runs program s) words at message is = absurd is
 took-kept (kind.Pair code) (Serves count s) words at message is = absurd is
 
 pub asked-kept : (what : Kind) (s : ProcessState) → process.point s ≡ point.Ask → IsKept what s
     → IsKept what (process.after_asked s)
-asked-kept (kind.Disc sectors) (Serves count s) at is = is
+asked-kept (kind.Disc sectors mirrored) (Serves count s) at is = is
 asked-kept (kind.Pair code) (Runs program s) at is = record {
   regular = is.regular;
   numbers = is.numbers;
   whole = asked-whole program s at is.whole;
   words = is.words;
 }
-asked-kept (kind.Disc sectors) (Runs program s) at is = absurd is
+asked-kept (kind.Disc sectors mirrored) (Runs program s) at is = absurd is
 asked-kept (kind.Pair code) (Serves count s) at is = absurd is
 
 pub got-kept : (what : Kind) (s : ProcessState) (words : List ℤ) → process.point s ≡ point.Await → IsMessage words
     → IsKept what s → IsKept what (process.after_got s words)
-got-kept (kind.Disc sectors) (Serves count s) words at message is = is
+got-kept (kind.Disc sectors mirrored) (Serves count s) words at message is = is
 got-kept (kind.Pair code) (Runs program s) words at message is = record {
   regular = is.regular;
   numbers = is.numbers;
@@ -127,39 +127,39 @@ got-kept (kind.Pair code) (Runs program s) words at message is = record {
   words = next-words (got_in program s words) s is.words (got-words program s words message is.words)
       (next_of s.frames);
 }
-got-kept (kind.Disc sectors) (Runs program s) words at message is = absurd is
+got-kept (kind.Disc sectors mirrored) (Runs program s) words at message is = absurd is
 got-kept (kind.Pair code) (Serves count s) words at message is = absurd is
 
 pub answered-kept : (what : Kind) (s : ProcessState) → process.point s ≡ point.Answer → IsKept what s
     → IsKept what (process.after_answered s)
-answered-kept (kind.Disc sectors) (Serves count s) at is = (is.0, tt, tt)
+answered-kept (kind.Disc sectors mirrored) (Serves count s) at is = (is.0, tt, tt)
 answered-kept (kind.Pair code) (Runs program s) at is = record {
   regular = is.regular;
   numbers = is.numbers;
   whole = awake-whole (answered-awake program s at is.whole);
   words = done-words s is.words;
 }
-answered-kept (kind.Disc sectors) (Runs program s) at is = absurd is
+answered-kept (kind.Disc sectors mirrored) (Runs program s) at is = absurd is
 answered-kept (kind.Pair code) (Serves count s) at is = absurd is
 
 pub marked-kept : (what : Kind) (s : ProcessState) → process.point s ≡ point.AtCheckpoint → IsKept what s
     → IsKept what (process.after_checkpoint s)
-marked-kept (kind.Disc sectors) (Serves count s) at is = is
+marked-kept (kind.Disc sectors mirrored) (Serves count s) at is = is
 marked-kept (kind.Pair code) (Runs program s) at is = record {
   regular = is.regular;
   numbers = is.numbers;
   whole = awake-whole (marked-awake program s at is.whole);
   words = done-words s is.words;
 }
-marked-kept (kind.Disc sectors) (Runs program s) at is = absurd is
+marked-kept (kind.Disc sectors mirrored) (Runs program s) at is = absurd is
 marked-kept (kind.Pair code) (Serves count s) at is = absurd is
 
 pub device-kept : (what : Kind) (s : ProcessState) (found : List ℤ) → IsSectorWords found → IsKept what s
     → IsKept what (process.after_device s found)
-device-kept (kind.Disc sectors) (Serves count s) found sector is =
+device-kept (kind.Disc sectors mirrored) (Serves count s) found sector is =
     (is.0, is.1, reply-message (process.call_of (Serves count s)) found sector)
 device-kept (kind.Pair code) (Runs program s) found sector is = is
-device-kept (kind.Disc sectors) (Runs program s) found sector is = absurd is
+device-kept (kind.Disc sectors mirrored) (Runs program s) found sector is = absurd is
 device-kept (kind.Pair code) (Serves count s) found sector is = absurd is
 
 -- Requests and replies
@@ -211,17 +211,17 @@ asking-message program s has (What-F.WriteRead file buffer send room got) =
 asking-message program s has _ = (tt, omega arith)
 
 pub answer-kept : (what : Kind) (s : ProcessState) → IsKept what s → IsMessage (process.answer_of s)
-answer-kept (kind.Disc sectors) (Serves count s) is = given-words s.reply is.2
+answer-kept (kind.Disc sectors mirrored) (Serves count s) is = given-words s.reply is.2
 answer-kept (kind.Pair code) (Runs program s) is =
     next-message (answer_in program s) (answer-message program s is.words) (next_of s.frames)
-answer-kept (kind.Disc sectors) (Runs program s) is = absurd is
+answer-kept (kind.Disc sectors mirrored) (Runs program s) is = absurd is
 answer-kept (kind.Pair code) (Serves count s) is = absurd is
 
 pub asked-message : (what : Kind) (s : ProcessState) → IsKept what s → IsMessage (process.asked_words s)
-asked-message (kind.Disc sectors) (Serves count s) is = (tt, omega arith)
+asked-message (kind.Disc sectors mirrored) (Serves count s) is = (tt, omega arith)
 asked-message (kind.Pair code) (Runs program s) is =
     next-message (asked_in program s) (asking-message program s is.words) (next_of s.frames)
-asked-message (kind.Disc sectors) (Runs program s) is = absurd is
+asked-message (kind.Disc sectors mirrored) (Runs program s) is = absurd is
 asked-message (kind.Pair code) (Serves count s) is = absurd is
 
 -- a write is of a sector that is there
@@ -229,16 +229,17 @@ abbrev pub IsCallOf : Kind → DeviceCall → Type 0
 IsCallOf what (Write sector words number) = (has_sectors what sector ≡ true) × IsSectorWords words
 IsCallOf what _ = Unit {0}
 
-same-call : (sectors : ℕ) (call : DeviceCall) → IsCallOn sectors call → IsCallOf (kind.Disc sectors) call
-same-call sectors Nothing is = tt
-same-call sectors (Read sector) is = tt
-same-call sectors (Write sector words number) is = is
+same-call : (sectors : ℕ) (mirrored : Bool) (call : DeviceCall) → IsCallOn sectors call
+    → IsCallOf (kind.Disc sectors mirrored) call
+same-call sectors mirrored Nothing is = tt
+same-call sectors mirrored (Read sector) is = tt
+same-call sectors mirrored (Write sector words number) is = is
 
 pub call-kept : (what : Kind) (s : ProcessState) → IsKept what s → IsCallOf what (process.call_of s)
-call-kept (kind.Disc sectors) (Serves count s) is =
-    subst (λ (n : ℕ). IsCallOf (kind.Disc n) (process.call_of (Serves count s))) is.0
-    (same-call count (process.call_of (Serves count s))
+call-kept (kind.Disc sectors mirrored) (Serves count s) is =
+    subst (λ (n : ℕ). IsCallOf (kind.Disc n mirrored) (process.call_of (Serves count s))) is.0
+    (same-call count mirrored (process.call_of (Serves count s))
     (call-on count (s.last_write + 1) (unwrap_or s.request []) (given-words s.request is.1).0))
 call-kept (kind.Pair code) (Runs program s) is = tt
-call-kept (kind.Disc sectors) (Runs program s) is = absurd is
+call-kept (kind.Disc sectors mirrored) (Runs program s) is = absurd is
 call-kept (kind.Pair code) (Serves count s) is = absurd is

@@ -186,7 +186,7 @@ module _ (site : Site) where
 
     sector-below : (what : Kind) (sector : ℕ) → IsTellableKind what → has_sectors what sector ≡ true
         → sector < 4294967296
-    sector-below (kind.Disc sectors) sector tells has =
+    sector-below (kind.Disc sectors mirrored) sector tells has =
         let low = ltb-true sector sectors has in omega (arith, low, tells)
     sector-below (kind.Pair program) sector tells has = absurd (cc has)
 
@@ -402,7 +402,7 @@ module _ (site : Site) where
   zero-sectors (suc count) = ((zero-words 8, length-replicate 8 (pos 0)), zero-sectors count)
 
   first-sectors : (what : Kind) → AreEach IsSectorWords (sectors_at_first what)
-  first-sectors (kind.Disc sectors) = zero-sectors sectors
+  first-sectors (kind.Disc sectors mirrored) = zero-sectors sectors
   first-sectors (kind.Pair program) = tt
 
   first-at : (number : ℕ) (specs : List ProcessSpec) (n : ℕ) (one : PlainProcess)

@@ -10,7 +10,7 @@ use Rattle.shown_forms.specs.Numbers.{HasWordNumbers, IsMessage}
 
 -- the sectors of a disc have numbers of 32 bits; a program is regular, and its numbers are words
 abbrev pub IsTellableKind : Kind → Type 0
-IsTellableKind (kind.Disc sectors) = sectors ≤ 4294967296
+IsTellableKind (kind.Disc sectors mirrored) = sectors ≤ 4294967296
 IsTellableKind (kind.Pair program) = IsRegular program × HasWordNumbers program
 
 -- so is each process, and the requests of a terminal are words and few

@@ -36,7 +36,7 @@ sectors_from process shown sector (suc left) =
 
 -- how many sectors a process has: those of a disc
 abbrev pub sector_count : Kind → ℕ
-sector_count (kind.Disc sectors) = sectors
+sector_count (kind.Disc sectors mirrored) = sectors
 sector_count (kind.Pair program) = 0
 
 -- those of processes, from a place in the deck on

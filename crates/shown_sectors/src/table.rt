@@ -131,7 +131,7 @@ fn sector_count(kind: &Kind) -> u8
     ensures { result ≡ sector_count kind.now }
 {
     match kind {
-        Kind::Disc { sectors } => *sectors,
+        Kind::Disc { sectors, .. } => *sectors,
         Kind::Pair(_) => 0,
     }
 }

@@ -7,12 +7,12 @@ use Rattle.schedule.specs.declared.event.Event.{Event}
 use Rattle.schedule.specs.declared.line.Line.{Line}
 use Rattle.player.specs.declared.stop.ProcessorStop.{ProcessorStop}
 use Rattle.agendas.specs.Agendas.{Agenda, Plan}
-use Rattle.machine_states.specs.States.{Played, State, WouldStop}
+use Rattle.machine_states.specs.States.{Played, State, Would, Harm, SecondStop, DiscLoss}
 use Rattle.packet_wires.specs.Play.{Packeted}
-use Rattle.schedule_loop.specs.Ends.{Course, EndsBy, IsRunOn, Plays, RunsOutBy, RunsToStopBy}
+use Rattle.schedule_loop.specs.Ends.{Course, EndsBy, IsRunOn, Plays, RunsOutBy, RunsToHarmBy, ending_by}
 use Rattle.schedule_loop.specs.Rules.{IsPlayBy, Rules}
 use Rattle.schedule_loop.specs.declared.ran.Ending.{Ending}
-use Rattle.schedule_loop.specs.declared.ran.Ending.TheVariants.{Idle, Cut, Second}
+use Rattle.schedule_loop.specs.declared.ran.Ending.TheVariants.{Idle, Cut, Second, Lost}
 use Rattle.packet_runs.specs.Ends.{IsRunOf}
 use Rattle.packet_runs.specs.Runs.{course_on, packet_rules}
 use Rattle.packet_runs.specs.declared.ran.Ran.{Ran}
@@ -24,33 +24,33 @@ none-not-some found same x is none some = absurd (cc)
 not-both : (test : Bool) → test ≡ true → test ≡ false → ⊥
 not-both test is isnt = absurd (cc)
 
-one-stops : {Wires : Type 0} → (made same : Played Wires) (processor other : ℕ) → made ≡ same
-    → made ≡ WouldStop processor → same ≡ WouldStop other → processor ≡ other
-one-stops made same processor other is one two = cc
+one-harm : {Wires : Type 0} → (made same : Played Wires) (harm other : Harm) → made ≡ same
+    → made ≡ Would harm → same ≡ Would other → harm ≡ other
+one-harm made same harm other is one two = cc
 
 -- two ends after the same events in the same state
 abbrev pub EndSame : {Wires : Type 0} → State Wires → State Wires → ℕ → ℕ → Ending → Ending → Type 0
 EndSame left that asked other how way = (left ≡ that) × (asked ≡ other) × (how ≡ way)
 
 module _ {Wires : Type 0} (rules : Rules Wires) where
-  stops-no-play : (s t : State Wires) (event that : Event) (next : State Wires) (processor : ℕ) → s ≡ t
-      → event ≡ that → IsPlayBy rules s event next → rules.play t that ≡ WouldStop processor → ⊥
-  stops-no-play s t event that next processor same is (inl makes) would =
+  harm-no-play : (s t : State Wires) (event that : Event) (next : State Wires) (harm : Harm) → s ≡ t
+      → event ≡ that → IsPlayBy rules s event next → rules.play t that ≡ Would harm → ⊥
+  harm-no-play s t event that next harm same is (inl makes) would =
       let is = ap₂ rules.play same is in absurd (cc)
-  stops-no-play s t event that next processor same is (inr skips) would =
+  harm-no-play s t event that next harm same is (inr skips) would =
       let is = ap₂ rules.play same is in let skip = skips.0 in absurd (cc)
 
 module _ {Wires : Type 0} (rules : Rules Wires) (course : Course Wires) where
-  -- the next event would stop a second processor
-  record WouldStopNext (events : List Event) (agenda : Agenda) (s : State Wires) : Type 0 where
+  -- the next event would do harm
+  record WouldHarmNext (events : List Event) (agenda : Agenda) (s : State Wires) : Type 0 where
     plan : Plan
-    processor : ℕ
+    harm : Harm
     comes : plan_after rules course events s agenda ≡ Some plan
-    would : rules.play s plan.event ≡ WouldStop processor
+    would : rules.play s plan.event ≡ Would harm
 
-  -- no event comes, or one that would stop a second processor
+  -- no event comes, or one that would do harm
   abbrev Stands : List Event → Agenda → State Wires → Type 0
-  Stands events agenda s = (plan_after rules course events s agenda ≡ None) ⊎ WouldStopNext events agenda s
+  Stands events agenda s = (plan_after rules course events s agenda ≡ None) ⊎ WouldHarmNext events agenda s
 
   -- these events were played, and then the run ended
   record HasEnded (events : List Event) (s : State Wires) : Type 0 where
@@ -61,20 +61,21 @@ module _ {Wires : Type 0} (rules : Rules Wires) (course : Course Wires) where
   out-ended : (events : List Event) (s : State Wires) → RunsOutBy rules course events s → HasEnded events s
   out-ended events s out = record { agenda = out.agenda; played = out.played; stands = inl out.over }
 
-  stop-ended : (events : List Event) (s : State Wires) (processor : ℕ) → RunsToStopBy rules course events s processor
+  harm-ended : (events : List Event) (s : State Wires) (harm : Harm) → RunsToHarmBy rules course events s harm
       → HasEnded events s
-  stop-ended events s processor runs =
+  harm-ended events s harm runs =
       record {
         agenda = runs.agenda;
         played = runs.played;
-        stands = inr (record { plan = runs.plan; processor = processor; comes = runs.comes; would = runs.would });
+        stands = inr (record { plan = runs.plan; harm = harm; comes = runs.comes; would = runs.would });
       }
 
   ended-as : (events : List Event) (s left : State Wires) (asked : ℕ) (how : Ending)
       → EndsBy rules course events s left asked how → HasEnded events s
   ended-as events s left asked Idle ends = out-ended events s ends.0
   ended-as events s left asked Cut ends = out-ended events s ends.0
-  ended-as events s left asked (Second processor) ends = stop-ended events s processor ends.0
+  ended-as events s left asked (Second processor) ends = harm-ended events s (SecondStop processor) ends.0
+  ended-as events s left asked (Lost process) ends = harm-ended events s (DiscLoss process) ends.0
 
   same-plan : (events others : List Event) (agenda other : Agenda) (s t : State Wires)
       → AreSame events others agenda other s t
@@ -93,7 +94,7 @@ module _ {Wires : Type 0} (rules : Rules Wires) (course : Course Wires) where
       none-not-some (plan_after rules course others t other) (plan_after rules course events s agenda) plan
       (sym (same-plan events others agenda other s t same)) over comes
   no-event events others agenda other s t next plan same (inr stops) comes playing =
-      stops-no-play rules s t plan.event stops.plan.event next stops.processor same.same_state
+      harm-no-play rules s t plan.event stops.plan.event next stops.harm same.same_state
       (ap (λ (one : Plan). one.event) (one-plan rules course events others agenda other s t plan stops.plan same
       comes stops.comes)) playing stops.would
 
@@ -125,23 +126,23 @@ module _ {Wires : Type 0} (rules : Rules Wires) (course : Course Wires) where
 
   -- How they end
 
-  out-or-stop : (events : List Event) (s : State Wires) (processor : ℕ) → RunsOutBy rules course events s
-      → RunsToStopBy rules course events s processor → ⊥
-  out-or-stop events s processor out runs =
+  out-or-harm : (events : List Event) (s : State Wires) (harm : Harm) → RunsOutBy rules course events s
+      → RunsToHarmBy rules course events s harm → ⊥
+  out-or-harm events s harm out runs =
       none-not-some (plan_after rules course events s out.agenda) (plan_after rules course events s runs.agenda)
       runs.plan
       (same-plan events events out.agenda runs.agenda s s
       (same-as-long rules course events events out.agenda runs.agenda s s out.played runs.played refl)) out.over
       runs.comes
 
-  same-stop : (events : List Event) (s : State Wires) (processor other : ℕ)
-      → RunsToStopBy rules course events s processor → RunsToStopBy rules course events s other
-      → processor ≡ other
-  same-stop events s processor other one two =
+  same-harm : (events : List Event) (s : State Wires) (harm other : Harm)
+      → RunsToHarmBy rules course events s harm → RunsToHarmBy rules course events s other
+      → harm ≡ other
+  same-harm events s harm other one two =
       let same = same-as-long rules course events events one.agenda two.agenda s s one.played two.played refl in
       let plan = one-plan rules course events events one.agenda two.agenda s s one.plan two.plan same one.comes
       two.comes in
-      one-stops (rules.play s one.plan.event) (rules.play s two.plan.event) processor other
+      one-harm (rules.play s one.plan.event) (rules.play s two.plan.event) harm other
       (ap (λ (one : Plan). rules.play s one.event) plan) one.would two.would
 
   same-end : (events : List Event) (s left that : State Wires) (asked other : ℕ) (how way : Ending)
@@ -149,18 +150,40 @@ module _ {Wires : Type 0} (rules : Rules Wires) (course : Course Wires) where
       → EndsBy rules course events s that other way → EndSame left that asked other how way
   same-end events s left that asked other Idle Idle one two = (one.2 ∙ sym two.2, one.3 ∙ sym two.3, refl)
   same-end events s left that asked other Cut Cut one two = (one.2 ∙ sym two.2, one.3 ∙ sym two.3, refl)
-  same-end events s left that asked other (Second processor) (Second second) one two =
-      (one.1 ∙ sym two.1, one.2 ∙ sym two.2, ap Second (same-stop events s processor second one.0 two.0))
+  same-end events s left that asked other (Second processor) (Second second) one two = (
+    one.1 ∙ sym two.1,
+    one.2 ∙ sym two.2,
+    ap ending_by
+        (same-harm events s (SecondStop processor) (SecondStop second) one.0 two.0),
+  )
+  same-end events s left that asked other (Lost process) (Lost another) one two = (
+    one.1 ∙ sym two.1,
+    one.2 ∙ sym two.2,
+    ap ending_by
+        (same-harm events s (DiscLoss process) (DiscLoss another) one.0 two.0),
+  )
+  same-end events s left that asked other (Second processor) (Lost process) one two =
+      absurd (let same = same-harm events s (SecondStop processor) (DiscLoss process) one.0 two.0 in cc)
+  same-end events s left that asked other (Lost process) (Second processor) one two =
+      absurd (let same = same-harm events s (DiscLoss process) (SecondStop processor) one.0 two.0 in cc)
   same-end events s left that asked other Idle Cut one two = absurd (not-both (rules.is_idle s) one.1 two.1)
   same-end events s left that asked other Cut Idle one two = absurd (not-both (rules.is_idle s) two.1 one.1)
   same-end events s left that asked other Idle (Second processor) one two =
-      absurd (out-or-stop events s processor one.0 two.0)
+      absurd (out-or-harm events s (SecondStop processor) one.0 two.0)
   same-end events s left that asked other Cut (Second processor) one two =
-      absurd (out-or-stop events s processor one.0 two.0)
+      absurd (out-or-harm events s (SecondStop processor) one.0 two.0)
   same-end events s left that asked other (Second processor) Idle one two =
-      absurd (out-or-stop events s processor two.0 one.0)
+      absurd (out-or-harm events s (SecondStop processor) two.0 one.0)
   same-end events s left that asked other (Second processor) Cut one two =
-      absurd (out-or-stop events s processor two.0 one.0)
+      absurd (out-or-harm events s (SecondStop processor) two.0 one.0)
+  same-end events s left that asked other Idle (Lost process) one two =
+      absurd (out-or-harm events s (DiscLoss process) one.0 two.0)
+  same-end events s left that asked other Cut (Lost process) one two =
+      absurd (out-or-harm events s (DiscLoss process) one.0 two.0)
+  same-end events s left that asked other (Lost process) Idle one two =
+      absurd (out-or-harm events s (DiscLoss process) two.0 one.0)
+  same-end events s left that asked other (Lost process) Cut one two =
+      absurd (out-or-harm events s (DiscLoss process) two.0 one.0)
 
   same-end-on : (events others : List Event) (s t left that : State Wires) (asked other : ℕ) (how way : Ending)
       → (events ≡ others) × (s ≡ t)

@@ -2,12 +2,12 @@
 use Rattle.std.proofs.Common.{◌≡◌, inl, inr, ℕ, Bool, true, false, if◌then◌else◌, length, Option, Some, None, refl, ap}
 use Rattle.std.proofs.Common.{subst}
 use Rattle.schedule.specs.declared.event.Event.{Event}
-use Rattle.schedule.specs.declared.event.Event.TheVariants.{Run, Enter, Deliver, Lose, Repeat, Tick, Fail}
+use Rattle.schedule.specs.declared.event.Event.TheVariants.{Run, Enter, Deliver, Lose, Repeat, Tick, Fail, Drive}
 use Rattle.world_semantics.specs.Running.{Done, run_done}
 use Rattle.world_semantics.specs.World.{is_running}
 use Rattle.computed_changes.specs.Entered.{enter_done}
 use Rattle.computed_changes.specs.Stopped.{stop_done}
-use Rattle.machine_states.specs.States.{Played, Makes, Skips, WouldStop}
+use Rattle.machine_states.specs.States.{Played, Makes, Skips, Would, SecondStop, DiscLoss}
 use Rattle.message_wires.specs.Wires.{Sent, Wires, paid, without_packet}
 use Rattle.message_wires.specs.Play.{MachineState, after_done, made_by, after_any, state_after_handing, comes_in}
 use Rattle.message_wires.specs.Play.{deliver_played, lose_played, repeat_played, has_stopped, fail_played, notes_from}
@@ -16,12 +16,14 @@ use Rattle.schedule_runs.specs.Runs.{IsPlay}
 use Rattle.message_wires_laws.proofs.Going.{marks-none}
 use Rattle.message_wires_laws.proofs.Stopping.{StopsNone, run-none, enter-none, handed-none}
 use Rattle.single_stops.specs.StopsAsked.{stops_in}
+use Rattle.machine_states.proofs.Turning.{drive-cases}
 
 -- the processors that have stopped stay those, and none would
 abbrev IsCalmFrom : MachineState → Played Wires → Type 0
 IsCalmFrom s (Makes next) = next.world.stopped ≡ s.world.stopped
 IsCalmFrom s Skips = Unit {0}
-IsCalmFrom s (WouldStop processor) = ⊥
+IsCalmFrom s (Would (SecondStop processor)) = ⊥
+IsCalmFrom s (Would (DiscLoss process)) = Unit {0}
 
 made-calm : (s : MachineState) (done : Option Done) → StopsNone s.world done → IsCalmFrom s (made_by s done)
 made-calm s None none = tt
@@ -67,6 +69,7 @@ calm-played s (Lose y k) calm = lose-calm k s (packet_at s y k)
 calm-played s (Repeat y k) calm = repeat-calm s (packet_at s y k)
 calm-played s (Tick node) calm = tick-calm node s
 calm-played s (Fail processor) calm = absurd (cc)
+calm-played s (Drive event) calm = drive-cases event s (IsCalmFrom s) (λ drives. refl) tt (λ process. tt)
 
 pub calm-kept : (s : MachineState) (event : Event) (next : MachineState) → stops_in event 1 ≡ 0 → IsPlay s event next
     → next.world.stopped ≡ s.world.stopped
@@ -74,18 +77,18 @@ calm-kept s event next calm (inl made) = subst (IsCalmFrom s) made (calm-played 
 calm-kept s event next calm (inr skipped) = ap (λ (w : MachineState). w.world.stopped) skipped.1
 
 second-stopped : (processor one : ℕ) (s : MachineState) (done : Option Done)
-    → fail_played processor s done ≡ WouldStop one → has_stopped s.world.stopped ≡ true
+    → fail_played processor s done ≡ Would (SecondStop one) → has_stopped s.world.stopped ≡ true
 second-stopped processor one s None would = absurd (cc)
 second-stopped processor one s (Some done) would = by (has_stopped s.world.stopped) refl would
   where
     by : (test : Bool) → has_stopped s.world.stopped ≡ test
-        → (if test then WouldStop processor else Makes (after_done s done)) ≡ WouldStop one
+        → (if test then Would (SecondStop processor) else Makes (after_done s done)) ≡ Would (SecondStop one)
         → has_stopped s.world.stopped ≡ true
     by true is would = is
     by false is would = absurd (cc)
 
 -- what would stop a second processor is a stop where one has stopped
-pub would-stop : (s : MachineState) (event : Event) (one : ℕ) → play s event ≡ WouldStop one
+pub would-stop : (s : MachineState) (event : Event) (one : ℕ) → play s event ≡ Would (SecondStop one)
     → (stops_in event 1 ≡ 1) × (has_stopped s.world.stopped ≡ true)
 would-stop s (Fail processor) one would = (refl, second-stopped processor one s (stop_done processor s.world) would)
 would-stop s (Run number) one would = absurd (subst (IsCalmFrom s) would (calm-played s (Run number) refl))
@@ -94,3 +97,4 @@ would-stop s (Deliver y k) one would = absurd (subst (IsCalmFrom s) would (calm-
 would-stop s (Lose y k) one would = absurd (subst (IsCalmFrom s) would (calm-played s (Lose y k) refl))
 would-stop s (Repeat y k) one would = absurd (subst (IsCalmFrom s) would (calm-played s (Repeat y k) refl))
 would-stop s (Tick node) one would = absurd (subst (IsCalmFrom s) would (calm-played s (Tick node) refl))
+would-stop s (Drive event) one would = absurd (subst (IsCalmFrom s) would (calm-played s (Drive event) refl))

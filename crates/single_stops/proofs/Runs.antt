@@ -8,7 +8,7 @@ use Rattle.schedule.specs.declared.line.Line.{Line}
 use Rattle.player.specs.declared.stop.ProcessorStop.{ProcessorStop}
 use Rattle.message_wires.specs.Play.{MachineState, has_stopped}
 use Rattle.schedule_runs.specs.Ends.{EndsAs, IsRunOf}
-use Rattle.schedule_runs.specs.Runs.{Agenda, IsPlay, Plan, PlaysSchedule, RunsToStop, counts_of, plays_none, plays_on}
+use Rattle.schedule_runs.specs.Runs.{Agenda, IsPlay, Plan, PlaysSchedule, RunsToHarm, counts_of, plays_none, plays_on}
 use Rattle.schedule_runs.specs.Runs.{sizes_of}
 use Rattle.schedule_runs.specs.declared.ran.Ending.{Ending}
 use Rattle.schedule_runs.specs.declared.ran.Ending.TheVariants.{Second}
@@ -16,6 +16,7 @@ use Rattle.schedule_runs.specs.declared.ran.Ran.{Ran}
 use Rattle.single_stops.specs.StopsAsked.{stops_asked, stops_in}
 use Rattle.single_stops.proofs.Calm.{calm-kept, would-stop}
 use Rattle.single_stops.proofs.Costs.{IsPaid, to_come, upcoming-paid}
+use Rattle.machine_states.specs.States.{SecondStop}
 
 -- at most one stop is still to come, and none where a processor has stopped
 record IsSingle (agenda : Agenda) (s : MachineState) : Type 0 where
@@ -37,6 +38,7 @@ stop-or-calm (event.Deliver y k) = inl refl
 stop-or-calm (event.Lose y k) = inl refl
 stop-or-calm (event.Repeat y k) = inl refl
 stop-or-calm (event.Tick node) = inl refl
+stop-or-calm (event.Drive turn) = inl refl
 
 -- after an event that is paid
 single-on : (agenda : Agenda) (s next : MachineState) (plan : Plan) → IsSingle agenda s
@@ -69,7 +71,7 @@ played-single site lines stop few _ _ _
 
 no-second : (site : Site) (lines : List Line) (stop : Option ProcessorStop) → stops_asked lines stop ≤ 1
     → (events : List Event) (s : MachineState) (processor : ℕ)
-    → RunsToStop site lines stop events s processor → ⊥
+    → RunsToHarm site lines stop events s (SecondStop processor) → ⊥
 no-second site lines stop few events s processor runs =
     let single = played-single site lines stop few events runs.agenda s runs.played in
     let would = would-stop s runs.plan.event processor runs.would in

@@ -60,12 +60,12 @@ none-gathered specs = record {
 }
 
 no-pair : (place : ℕ) (what : Kind) → program_of what ≡ None → pair_at place what ≡ []
-no-pair place (kind.Disc sectors) none = refl
+no-pair place (kind.Disc sectors mirrored) none = refl
 no-pair place (kind.Pair program) none = absurd (let wrong : Some program ≡ None = none in cc)
 
 one-pair : (place : ℕ) (what : Kind) (program : Program) → program_of what ≡ Some program
     → pair_at place what ≡ place ∷ []
-one-pair place (kind.Disc sectors) program there = absurd (let wrong : None ≡ Some program = there in cc)
+one-pair place (kind.Disc sectors mirrored) program there = absurd (let wrong : None ≡ Some program = there in cc)
 one-pair place (kind.Pair own) program there = refl
 
 less-or-same : (n m : ℕ) → n < m + 1 → (n < m) ⊎ (n ≡ m)

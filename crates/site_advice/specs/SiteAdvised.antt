@@ -26,7 +26,7 @@ IsUnadvised program (NoMemory _) = ⊥
 
 -- the place of a pair; a disc counts none
 abbrev pub pair_at : ℕ → Kind → List ℕ
-pair_at place (kind.Disc sectors) = []
+pair_at place (kind.Disc sectors mirrored) = []
 pair_at place (kind.Pair program) = place ∷ []
 
 -- the places of the pairs among processes, of which the first has this place

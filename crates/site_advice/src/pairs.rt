@@ -63,7 +63,7 @@ fn push_advice(
     ensures { IfOk result (λ found. IsPushed process what.now pairs.old pairs.new found) }
 {
     match what {
-        Kind::Disc { sectors: _ } => Ok(None),
+        Kind::Disc { .. } => Ok(None),
         Kind::Pair(program) => push_program(alloc, process, program, pairs),
     }
 }

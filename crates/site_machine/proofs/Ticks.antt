@@ -8,7 +8,7 @@ use Rattle.world_semantics.specs.Rules.{stopped_copy, stopped_pair}
 use Rattle.world_semantics.specs.World.{Copy, Pair, is_running}
 use Rattle.world_semantics.proofs.Lists.{map-all}
 use Rattle.computed_changes.specs.Stopped.{stopped_world}
-use Rattle.machine_states.specs.States.{Makes, Settles, Skips, WouldStop}
+use Rattle.machine_states.specs.States.{Makes, Settles, Skips, Would, SecondStop}
 use Rattle.machine_states.specs.declared.effect.Effect.{Effect}
 use Rattle.machine_states.specs.declared.effect.Effect.TheVariants as effect
 use Rattle.packet_wires.specs.message_wires.specs.Play.{has_stopped}
@@ -105,6 +105,6 @@ pub first-settles : (s after : Packeted) (node processor : ℕ) → has_stopped 
     (record (in_tick node s) { world = stopped_world processor s.world }))
     → Settles (ended s.wires (pulled node processor (in_tick node s) (Some false))) s effect.Done after
 first-settles s after node processor first same =
-    subst (λ (b : Bool). Settles (ended s.wires (if b then WouldStop processor else Makes
+    subst (λ (b : Bool). Settles (ended s.wires (if b then Would (SecondStop processor) else Makes
     (marks_and_declares node processor (record (in_tick node s) { world = stopped_world processor s.world })))) s
     effect.Done after) (sym first) (refl, same)

@@ -20,16 +20,18 @@ use Rattle.event_parts.proofs.Numbers.{can-all-posted, can-cut-off}
 use Rattle.event_parts.specs.Numbers.{CanPush}
 use Rattle.event_parts.proofs.Turns.{carried-then}
 use Rattle.site_machine.specs.Told.{after_part}
+use Rattle.machine_states.specs.disc_device.specs.mirror.specs.declared.state.DriveState.{DriveState}
 
-record IsPart (does : Underway → Underway) (site : Site) (w : World) : Type 0 where
+record IsPart (does : Underway → Underway) (site : Site) (w : World) (drives : List (List DriveState)) :
+    Type 0 where
   world : World
   part : Midst → Midst
   adds : OnlyAdds part
-  same : (midst : Midst) → does (record { site = site; world = w; wires = midst })
-      ≡ record { site = site; world = world; wires = part midst }
+  same : (midst : Midst) → does (record { site = site; world = w; wires = midst; drives = drives })
+      ≡ record { site = site; world = world; wires = part midst; drives = drives }
 
-module _ (site : Site) (w : World) (node : ℕ) where
-  any-part : (done : Option Done) → IsPart (λ u. after_any u done) site w
+module _ (site : Site) (w : World) (drives : List (List DriveState)) (node : ℕ) where
+  any-part : (done : Option Done) → IsPart (λ u. after_any u done) site w drives
   any-part None = record { world = w; part = λ midst. midst; adds = adds-nothing; same = λ midst. refl }
   any-part (Some done) = record {
     world = done.world;
@@ -38,7 +40,7 @@ module _ (site : Site) (w : World) (node : ℕ) where
     same = λ midst. refl;
   }
 
-  mark-part : (processor : ℕ) (done : Option Done) → IsPart (λ u. marked_by node processor u done) site w
+  mark-part : (processor : ℕ) (done : Option Done) → IsPart (λ u. marked_by node processor u done) site w drives
   mark-part processor None = record { world = w; part = λ midst. midst; adds = adds-nothing; same = λ midst. refl }
   mark-part processor (Some done) =
       let posts : Midst → Midst = all_posted done.world.stopped
@@ -51,7 +53,7 @@ module _ (site : Site) (w : World) (node : ℕ) where
         same = λ midst. refl;
       }
 
-  handed-part : (message : NodeMessage) → IsPart (handed node message) site w
+  handed-part : (message : NodeMessage) → IsPart (handed node message) site w drives
   handed-part (Carrying message) =
       let one = any-part (handed_done site node message w) in
       record { world = one.world; part = one.part; adds = one.adds; same = one.same }
@@ -65,19 +67,19 @@ module _ (site : Site) (w : World) (node : ℕ) where
       let one = mark-part processor (down_done node processor w) in
       record { world = one.world; part = one.part; adds = one.adds; same = one.same }
 
-  read-part : (message : Option NodeMessage) → IsPart (handed_any node message) site w
+  read-part : (message : Option NodeMessage) → IsPart (handed_any node message) site w drives
   read-part None = record { world = w; part = λ midst. midst; adds = adds-nothing; same = λ midst. refl }
   read-part (Some message) =
       let one = handed-part message in
       record { world = one.world; part = one.part; adds = one.adds; same = one.same }
 
-  words-part : (words : Option (List ℤ)) → IsPart (handed_words node words) site w
+  words-part : (words : Option (List ℤ)) → IsPart (handed_words node words) site w drives
   words-part None = record { world = w; part = λ midst. midst; adds = adds-nothing; same = λ midst. refl }
   words-part (Some words) =
       let one = read-part (understood site words) in
       record { world = one.world; part = one.part; adds = one.adds; same = one.same }
 
-  declared-part : (processor : ℕ) → IsPart (marks_and_declares node processor) site w
+  declared-part : (processor : ℕ) → IsPart (marks_and_declares node processor) site w drives
   declared-part processor =
       let one = mark-part processor (down_done node processor w) in record {
         world = one.world;
@@ -88,27 +90,28 @@ module _ (site : Site) (w : World) (node : ℕ) where
       }
 
 -- the same as a part of its own, after another part was carried out
-in-turn : (does : Underway → Underway) (first : Midst → Midst) (s : Packeted) → IsPart does s.site s.world
+in-turn : (does : Underway → Underway) (first : Midst → Midst) (s : Packeted) → IsPart does s.site s.world s.drives
     → over s.wires (does (record (begun s) { wires = first (nothing_sent s.wires.nodes) }))
     ≡ after_part does (record s { wires = carried_out first s.wires })
 in-turn does first s one =
     let then : Wires = carried_out first s.wires in
     ap (over s.wires) (one.same (first (nothing_sent s.wires.nodes)))
-    ∙ ap (λ (wires : Wires). record { site = s.site; world = one.world; wires = wires })
+    ∙ ap (λ (wires : Wires). record { site = s.site; world = one.world; wires = wires; drives = s.drives })
     (sym (carried-then first one.part s.wires one.adds))
     ∙ sym (ap (over then) (one.same (nothing_sent then.nodes)))
 
 pub handed-in-turn : (first : Midst → Midst) (node : ℕ) (words : Option (List ℤ)) (s : Packeted)
     → over s.wires (handed_words node words (record (begun s) { wires = first (nothing_sent s.wires.nodes) }))
     ≡ after_part (handed_words node words) (record s { wires = carried_out first s.wires })
-handed-in-turn first node words s = in-turn (handed_words node words) first s (words-part s.site s.world node words)
+handed-in-turn first node words s = in-turn (handed_words node words) first s (words-part s.site s.world s.drives
+    node words)
 
 pub declared-in-turn : (first : Midst → Midst) (node processor : ℕ) (s : Packeted)
     → over s.wires (marks_and_declares node processor (record (begun s)
     { wires = first (nothing_sent s.wires.nodes) }))
     ≡ after_part (marks_and_declares node processor) (record s { wires = carried_out first s.wires })
 declared-in-turn first node processor s =
-    in-turn (marks_and_declares node processor) first s (declared-part s.site s.world node processor)
+    in-turn (marks_and_declares node processor) first s (declared-part s.site s.world s.drives node processor)
 
 -- what is told after a mark is a part of its own
 pub declared-after : (node processor : ℕ) (s : Packeted) (u : Underway)
@@ -117,7 +120,7 @@ pub declared-after : (node processor : ℕ) (s : Packeted) (u : Underway)
           (over s.wires u).wires;
     } ≡ over s.wires (declared node processor u)
 declared-after node processor s u =
-    ap (λ (wires : Wires). record { site = u.site; world = u.world; wires = wires })
+    ap (λ (wires : Wires). record { site = u.site; world = u.world; wires = wires; drives = u.drives })
     (carried-then (λ midst. u.wires) (declares u.site.processors node processor) s.wires
     (adds-declares u.site.processors node processor))
 

@@ -16,6 +16,7 @@ mod marking;
 mod posting;
 mod running;
 mod ticking;
+mod turning;
 mod whole;
 mod wording;
 

@@ -1,6 +1,6 @@
-ghost use Rattle.std.specs.Prelude.{◌≡◌, ◌≤◌, false, true, is_some, length, reverse, IfOk, OnOk, OnErr};
+ghost use Rattle.std.specs.Prelude.{◌≡◌, ◌≤◌, [], false, true, is_some, length, reverse, slice_get, IfOk, OnOk, OnErr};
 ghost use Rattle.std.specs.Bool.{OnFalse, OnTrue};
-ghost use Rattle.std.specs.Option.{option_copied};
+ghost use Rattle.std.specs.Option.{option_copied, unwrap_or};
 ghost use Rattle.schedule.specs.declared.event.Event.TheVariants as events;
 ghost use Rattle.machine_states.specs.States.{Settles};
 ghost use Rattle.machine_states.specs.declared.effect.Effect.TheVariants as effects;
@@ -10,7 +10,9 @@ ghost use Rattle.packet_wires.specs.Idle.{is_idle};
 ghost use Rattle.packet_wires.specs.Play.{count_on, kind_at, packet_at, packeted_at_boot, play, sender_at};
 ghost use Rattle.packet_wires.specs.Wires.{bus_named};
 ghost use Rattle.world_copies.specs.process_copies.specs.Starting.{IsStartable};
-ghost use Rattle.world_copies.specs.Seen.{ArePlaced, pairs_in};
+ghost use Rattle.world_copies.specs.process_copies.specs.disc_device.specs.mirror.specs.States.{standing};
+ghost use Rattle.world_copies.specs.node_copies.specs.Seen.{drives_on, sectors_on};
+ghost use Rattle.world_copies.specs.Seen.{ArePlaced, drives_in, pairs_in, sectors_of};
 ghost use Rattle.world_semantics.specs.Kept.{acts_of};
 ghost use Rattle.site_machine.specs.Needs.{IsReady};
 ghost use Rattle.site_machine.specs.Seen.{closed_state};
@@ -28,6 +30,8 @@ use tal_tree::{Act, Shown, Site};
 use world_copies::Terminal;
 use world_copies::node_copies::Downs;
 use world_copies::process_copies::ProcessCopies;
+use world_copies::process_copies::disc_device::Disc;
+use world_copies::process_copies::disc_device::mirror::DriveState;
 
 /// The machine over packets. Once an allocation was refused to it, it answers so for good.
 #[derive(Drop)]
@@ -188,9 +192,26 @@ impl Machine {
     /// The processes in their places, both copies of each.
     pub fn processes(&self) -> &[ProcessCopies]
         ensures processes { pairs_in result.now ≡ self.now.state.world.processes }
+        ensures drives { drives_in result.now ≡ self.now.state.drives }
         ensures placed { ArePlaced self.now.state.site result.now }
     {
         self.whole.world.processes()
+    }
+
+    /// How a drive of a process stands; one that isn't there has failed.
+    pub fn standing(&self, process: u8, drive: u8) -> DriveState
+        ensures { result ≡ standing (unwrap_or (slice_get self.now.state.drives process) []) drive }
+    {
+        self.whole.world.standing(process, drive)
+    }
+
+    /// The device of a process, if it is a disc: its sectors, and its drives.
+    pub fn disc(&self, process: u8) -> Option<&Disc>
+        ensures sectors { sectors_on (option_copied result)
+            ≡ sectors_of (slice_get self.now.state.world.processes process) }
+        ensures drives { drives_on (option_copied result) ≡ unwrap_or (slice_get self.now.state.drives process) [] }
+    {
+        self.whole.world.disc(process)
     }
 
     pub fn terminals(&self) -> &[Terminal]
@@ -227,6 +248,7 @@ impl MachineParts {
             Event::Repeat { y, k } => Ok(self.repeat(y, k)),
             Event::Tick(node) => self.tick(node),
             Event::Fail(processor) => Ok(self.fail(processor)),
+            Event::Drive(turn) => Ok(self.turn(turn)),
         }
     }
 }

@@ -28,7 +28,12 @@ impl Model for MachineParts {
 
     ghost coded = { Prim.hlevel (codes, statement.the_row.coded) };
 
-    ghost view = { λ m. record { site = m.world.site; world = m.world.world; wires = m.wires } };
+    ghost view = { λ m. record {
+      site = m.world.site;
+      world = m.world.world;
+      wires = m.wires;
+      drives = m.world.drives;
+    } };
 }
 
 impl MachineParts {

@@ -5,6 +5,7 @@ use Rattle.schedule.specs.declared.event.Event.{Event}
 use Rattle.plain_semantics.specs.Machine.{IsPossible, shown_by}
 use Rattle.world_semantics.specs.Follows.{Follows, runs, cannot_run, enters, cannot_enter, delivers_none, delivers}
 use Rattle.world_semantics.specs.Follows.{delivers_mark, loses, doubles, ticks_none, ticks, ticks_stop, fails}
+use Rattle.world_semantics.specs.Follows.{turns_drive}
 use Rattle.world_semantics.specs.Follows.{cannot_fail, NotesDowns, marks_none, marks_one, Leads, stays, goes_on, IsRun}
 use Rattle.world_semantics.specs.Kept.{acts_of}
 use Rattle.world_semantics.specs.Messages.{Sending, Cause}
@@ -80,6 +81,7 @@ module _ (site : Site) (fit : IsFit site) where
       more-good (events + 1) (omega arith) (change-good events w next _ _ few good change)
   follows-good events w next sendings few good loses = more-good (events + 1) (omega arith) good
   follows-good events w next sendings few good doubles = more-good (events + 1) (omega arith) good
+  follows-good events w next sendings few good turns_drive = more-good (events + 1) (omega arith) good
   follows-good events w next sendings few good ticks_none = more-good (events + 1) (omega arith) good
   follows-good events w next sendings few good (ticks running marked) =
       more-good (events + 1) (omega arith) (marks-good events few good marked)

@@ -18,10 +18,10 @@ pub struct ProcessSpec {
     pub what: Kind,
 }
 
-/// What a process is: a disc with 1 to 64 sectors, or a pair that runs a program.
+/// What a process is: a disc with 1 to 64 sectors on one drive or, mirrored, on two; or a pair that runs a program.
 #[derive(Drop)]
 pub enum Kind {
-    Disc { sectors: u8 },
+    Disc { sectors: u8, mirrored: bool },
     Pair(Program),
 }
 

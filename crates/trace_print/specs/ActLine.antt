@@ -13,7 +13,7 @@ use Rattle.trace_print.specs.ShownLine.{process_name, terminal_name}
 
 -- the name of the variable of a program's file; nothing where it isn't there
 abbrev pub variable_in : Kind → ℕ → List ℕ
-variable_in (kind.Disc sectors) file = []
+variable_in (kind.Disc sectors mirrored) file = []
 variable_in (kind.Pair program) file =
     unwrap_or (option_and_then (λ used. option_map (λ item. item.name) (slice_get program.items used.item))
     (slice_get program.files file)) []

@@ -52,7 +52,7 @@ file_line program None depth = []
 file_line program (Some used) depth = opened_line (item_name program used.item) used.target depth
 
 abbrev pub depth_in : Kind → ℕ → ℕ → List ℕ
-depth_in (kind.Disc sectors) file depth = []
+depth_in (kind.Disc sectors mirrored) file depth = []
 depth_in (kind.Pair program) file depth = file_line program (slice_get program.files file) depth
 
 abbrev pub depth_line : Site → ℕ → ℕ → ℕ → List ℕ

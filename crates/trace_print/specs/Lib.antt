@@ -3,6 +3,7 @@ pub mod AdviceText
 pub mod EndLine
 pub mod FaultLine
 pub mod LoadLines
+pub mod MirrorLine
 pub mod NumbersText
 pub mod ReportText
 pub mod RowLine
@@ -12,4 +13,5 @@ pub mod StopLine
 pub mod TalNumbers
 pub mod VerdictLine
 pub mod VerdictText
+pub use Rattle.mirror
 pub use Rattle.site_advice

@@ -20,7 +20,7 @@ use Rattle.trace_print.specs.declared.closing.End.TheVariants as end
 
 -- `ACCEPTED NAME` of a pair; a disc has no line
 abbrev pub accepted_by : List ℕ → Kind → List ℕ
-accepted_by name (kind.Disc sectors) = []
+accepted_by name (kind.Disc sectors mirrored) = []
 accepted_by name (kind.Pair program) = codes "ACCEPTED " ++ name ++ 10 ∷ []
 
 abbrev pub accepted_line : ProcessSpec → List ℕ
@@ -38,7 +38,7 @@ accepted_text site = accepted_lines site.processes ++ end_line end.Checked
 
 -- the name of a program's global; nothing where it isn't there
 abbrev pub global_in : Kind → ℕ → List ℕ
-global_in (kind.Disc sectors) item = []
+global_in (kind.Disc sectors mirrored) item = []
 global_in (kind.Pair program) item = unwrap_or (option_map (λ found. found.name) (slice_get program.items item)) []
 
 abbrev pub global_name : Site → ℕ → ℕ → List ℕ

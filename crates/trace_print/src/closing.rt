@@ -1,9 +1,11 @@
 ghost use Rattle.std.specs.Prelude.{◌≡◌};
 ghost use Rattle.gd_io.specs.Puts.{Puts};
-ghost use Rattle.trace_print.specs.EndLine.{end_line, usage_line};
+ghost use Rattle.trace_print.specs.EndLine.{closing_line, end_line, usage_line};
 
 use crate::line::Line;
+use crate::shown::process_name;
 use gd_io::{Sink, WriteFault, put_all};
+use tal_tree::Site;
 
 /// How a report ends: nothing more could happen, the run was cut short, a second processor would have stopped, all
 /// programs were accepted, one was refused, all stops were tried, or all programs have advice.
@@ -16,6 +18,41 @@ pub enum End {
     Refused,
     Swept,
     Advised,
+}
+
+/// How the report of a run ends: as others may, or since a disc would have been lost, the process at this place in the
+/// deck.
+#[derive(Clone, Copy, PartialEq, Eq)]
+pub enum Closing {
+    Ended(End),
+    Lost(u8),
+}
+
+/// Writes the line with which the report of a run ends. It takes no memory.
+pub fn write_closing<K: Sink>(sink: &mut K, site: &Site, closing: Closing) -> Result<(), WriteFault>
+    ensures { Puts K.held K.faults K.sure sink.old sink.new (closing_line site.now closing) result }
+{
+    match closing {
+        Closing::Ended(end) => write_end(sink, end),
+        Closing::Lost(process) => write_lost(sink, site, process),
+    }
+}
+
+fn write_lost<K: Sink>(sink: &mut K, site: &Site, process: u8) -> Result<(), WriteFault>
+    ensures { Puts K.held K.faults K.sure sink.old sink.new (closing_line site.now (Closing.Lost process)) result }
+{
+    let line = lost_text(site, process);
+    put_all(sink, line.bytes())
+}
+
+fn lost_text(site: &Site, process: u8) -> Line
+    ensures { result ≡ closing_line site.now (Closing.Lost process) }
+{
+    let mut line = Line::new();
+    line.push(b"END lost ");
+    line.push(process_name(site, process));
+    line.push(b"\n");
+    line
 }
 
 /// Writes the line of a run's end. It takes no memory.

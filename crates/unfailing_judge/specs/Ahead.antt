@@ -12,7 +12,7 @@ use Rattle.unfailing_judge.specs.declared.turns.Ahead.{Ahead}
 use Rattle.unfailing_judge.specs.declared.turns.Ahead.TheVariants.{Any, Programs}
 
 abbrev pub is_program : Kind → Bool
-is_program (kind.Disc sectors) = false
+is_program (kind.Disc sectors mirrored) = false
 is_program (kind.Pair program) = true
 
 abbrev pub runs_program : Site → ℕ → Bool

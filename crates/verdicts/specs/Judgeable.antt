@@ -17,7 +17,7 @@ pub record IsJudgeable (program : Program) : Type 0 where
   pub regular : IsRegular program
 
 abbrev pub IsJudgeableKind : Kind → Type 0
-IsJudgeableKind (kind.Disc sectors) = Unit {0}
+IsJudgeableKind (kind.Disc sectors mirrored) = Unit {0}
 IsJudgeableKind (kind.Pair program) = IsJudgeable program
 
 abbrev pub AreJudgeable : List ProcessSpec → Type 0

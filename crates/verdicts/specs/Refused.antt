@@ -14,7 +14,7 @@ use Rattle.verdicts.specs.declared.refused.RefusedProgram.{RefusedProgram}
 
 -- the program of a pair; a disc has none
 abbrev pub program_of : Kind → Option Program
-program_of (kind.Disc sectors) = None
+program_of (kind.Disc sectors mirrored) = None
 program_of (kind.Pair program) = Some program
 
 -- the program of the process at a place

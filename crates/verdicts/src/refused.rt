@@ -57,7 +57,7 @@ fn cause_of(alloc: Global, what: &Kind) -> Result<Option<Cause>, NoMemory>
     ensures { IfOk result (λ found. MatchOption found (IsAcceptedKind what.now) (λ cause. IsCauseOf what.now cause)) }
 {
     match what {
-        Kind::Disc { sectors: _ } => Ok(None),
+        Kind::Disc { .. } => Ok(None),
         Kind::Pair(program) => cause_of_program(alloc, program),
     }
 }

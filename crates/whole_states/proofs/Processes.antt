@@ -33,7 +33,7 @@ stays-away (Runs program s) is = awake-away program s is.1
 stays-away (Serves sectors s) is = λ at. disc-at point.Await at is
 
 pub start-process : (what : Kind) → IsRegularKind what → IsAwakeProcess (process.start_of what)
-start-process (kind.Disc sectors) regular = start-disc
+start-process (kind.Disc sectors mirrored) regular = start-disc
 start-process (kind.Pair program) regular = (regular, start-awake program regular)
 
 pub inner-process : (s : ProcessState) → IsWholeProcess s → IsAwakeProcess (process.after_inner s)

@@ -30,5 +30,5 @@ IsWholeProcess (Serves sectors s) = IsWholeDisc s
 
 -- a process as a site has it, whose program, if it has one, is regular
 abbrev pub IsRegularKind : Kind → Type 0
-IsRegularKind (kind.Disc sectors) = Unit {0}
+IsRegularKind (kind.Disc sectors mirrored) = Unit {0}
 IsRegularKind (kind.Pair program) = IsRegular program

@@ -9,8 +9,8 @@ use Rattle.world_copies.specs.SiteWorld.{SiteWorld}
 use Rattle.process_copies.specs.Seen.{Placed}
 use Rattle.world_semantics.specs.Records.{Records, records_of}
 use Rattle.world_copies.specs.Closing.{closed_at, closed_from, closed_with}
-use Rattle.world_copies.specs.Seen.{pairs_in}
-use Rattle.world_copies.proofs.Places.{pair-at, pairs-set}
+use Rattle.world_copies.specs.Seen.{drives_in, pairs_in}
+use Rattle.world_copies.proofs.Places.{drives-same, pair-at, pairs-set}
 use Rattle.world_copies.proofs.Steps.{put_back}
 use Rattle.std.specs.Option.{option_map}
 
@@ -74,26 +74,28 @@ pub closes-count : (w : World) (k : ℕ) → length (closed_at k w).processes �
 closes-count w k = count-with w k (slice_get w.processes k)
 
 closes-there : (s : SiteWorld) (places : List Placed) (k : ℕ) (before : Placed) → s.world.processes ≡ pairs_in places
-    → slice_get places k ≡ Some before
+    → s.drives ≡ drives_in places → slice_get places k ≡ Some before
     → put_back s places k (record before { pair = let_go before.pair })
     (record (records_of s.world) { kept = closed_by s.world.kept before.pair })
     ≡ record s { world = closed_at k s.world }
-closes-there s places k before pairs there =
-    ap (λ processes. record s {
+closes-there s places k before pairs drives there =
+    ap₂ (λ processes drives. record s {
       world = record s.world
           { kept = closed_by s.world.kept before.pair; processes = processes };
+      drives = drives;
     })
     (pairs-set places k (record before { pair = let_go before.pair })
     ∙ ap (λ all. slice_set all k (let_go before.pair)) (sym pairs))
+    (drives-same places k before (record before { pair = let_go before.pair }) there refl ∙ sym drives)
     ∙ ap (λ found. record s { world = closed_with k s.world found })
     (sym (ap (λ all. slice_get all k) pairs ∙ pair-at places k
     ∙ ap (option_map (λ (placed : Placed). placed.pair)) there))
 
 -- a process that is found in its place, closed and put back, with the records after it
 pub closes-put : (s : SiteWorld) (places : List Placed) (k : ℕ) (before after : Placed) (records : Records)
-    → s.world.processes ≡ pairs_in places
+    → s.world.processes ≡ pairs_in places → s.drives ≡ drives_in places
     → slice_get places k ≡ Some before → after ≡ record before { pair = let_go before.pair }
     → records ≡ record (records_of s.world) { kept = closed_by s.world.kept before.pair }
     → put_back s places k after records ≡ record s { world = closed_at k s.world }
-closes-put s places k before after records pairs there closed recorded =
-    ap₂ (put_back s places k) closed recorded ∙ closes-there s places k before pairs there
+closes-put s places k before after records pairs drives there closed recorded =
+    ap₂ (put_back s places k) closed recorded ∙ closes-there s places k before pairs drives there

@@ -11,3 +11,4 @@ pub mod Room
 pub mod Steps
 pub mod Sweeps
 pub mod Terminals
+pub mod Turned

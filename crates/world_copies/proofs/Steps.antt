@@ -7,10 +7,10 @@ use Rattle.world_semantics.specs.Running.{Done, Stepped, in_world, run_done, run
 use Rattle.computed_changes.specs.Handed.{brought, brought_to, step_on}
 use Rattle.process_copies.specs.Seen.{Placed, placed_after, records_after, sent_by}
 use Rattle.world_semantics.specs.Records.{Records, records_of}
-use Rattle.world_copies.specs.Seen.{pairs_in}
+use Rattle.world_copies.specs.Seen.{drives_in, pairs_in}
 use Rattle.world_copies.specs.SiteWorld.{SiteWorld, changed_by}
 use Rattle.world_copies.specs.Told.{sent_in}
-use Rattle.world_copies.proofs.Places.{pair-at, pairs-set, set-same}
+use Rattle.world_copies.proofs.Places.{drives-same, pair-at, pairs-set, set-same}
 
 -- a process that is found in its place in a state
 pub record IsFound (s : SiteWorld) (places : List Placed) (k : ℕ) (before : Placed) : Type 0 where
@@ -18,6 +18,7 @@ pub record IsFound (s : SiteWorld) (places : List Placed) (k : ℕ) (before : Pl
   pub there : slice_get places k ≡ Some before
   pub site : before.site ≡ s.site
   pub number : before.number ≡ k
+  pub drives : s.drives ≡ drives_in places
 
 pair-there : {s : SiteWorld} {places : List Placed} {k : ℕ} {before : Placed} → IsFound s places k before
     → slice_get s.world.processes k ≡ Some before.pair
@@ -64,13 +65,15 @@ put_back s places k after records = record s {
     shown = records.shown;
     kept = records.kept;
   };
+  drives = drives_in (slice_set places k after);
 }
 
 put-same : (s : SiteWorld) (places : List Placed) (k : ℕ) (before : Placed) → IsFound s places k before
     → put_back s places k before (records_of s.world) ≡ s
 put-same s places k before found =
-    ap (λ processes. record s { world = record s.world { processes = processes } })
+    ap₂ (λ processes drives. record s { world = record s.world { processes = processes }; drives = drives })
     (ap pairs_in (set-same places k before found.there) ∙ sym found.pairs)
+    (ap drives_in (set-same places k before found.there) ∙ sym found.drives)
 
 put-step : (s : SiteWorld) (places : List Placed) (k : ℕ) (before : Placed) (step : Option Stepped)
     → IsFound s places k before
@@ -78,7 +81,7 @@ put-step : (s : SiteWorld) (places : List Placed) (k : ℕ) (before : Placed) (s
     ≡ changed_by s (option_map (in_world k s.world) step)
 put-step s places k before None found = put-same s places k before found
 put-step s places k before (Some step) found =
-    ap (λ processes. record s {
+    ap₂ (λ processes drives. record s {
       world = record s.world {
         requests = step.records.requests;
         replies = step.records.replies;
@@ -86,9 +89,11 @@ put-step s places k before (Some step) found =
         shown = step.records.shown;
         kept = step.records.kept;
       };
+      drives = drives;
     })
     (pairs-set places k (record before { pair = step.pair })
     ∙ ap (λ pairs. slice_set pairs k step.pair) (sym found.pairs))
+    (drives-same places k before (record before { pair = step.pair }) found.there refl ∙ sym found.drives)
 
 pub put-found : {s : SiteWorld} {places : List Placed} {k : ℕ} {before after : Placed} {records : Records}
     (step : Option Stepped) → IsFound s places k before

@@ -2,7 +2,7 @@ ghost use Rattle.std.specs.Prelude.{◌≡◌, length, reverse};
 ghost use Rattle.process_copies.specs.node_copies.specs.ShownCounts.{replies_in, writes_in};
 ghost use Rattle.world_semantics.specs.Kept.{acts_of};
 ghost use Rattle.world_semantics.specs.World.{has_noted, is_running};
-ghost use Rattle.world_copies.specs.Seen.{ArePlaced, pairs_in};
+ghost use Rattle.world_copies.specs.Seen.{ArePlaced, drives_in, pairs_in};
 
 use crate::processors::Processors;
 use crate::terminal::Terminal;
@@ -34,7 +34,7 @@ impl Model for WorldCopies {
     ghost use Rattle.std.specs.Coded.{codes};
     ghost use Rattle.tal_tree.specs.contracts.statement.Statement as statement;
     ghost use Rattle.world_copies.specs.SiteWorld.{SiteWorld};
-    ghost use Rattle.world_copies.specs.Seen.{ArePlaced, pairs_in, terminal_row};
+    ghost use Rattle.world_copies.specs.Seen.{ArePlaced, drives_in, pairs_in, terminal_row};
 
     ghost Value = { SiteWorld };
 
@@ -52,6 +52,7 @@ impl Model for WorldCopies {
         shown = m.records.shown;
         kept = m.records.kept;
       };
+      drives = drives_in m.processes.items;
     } };
 
     ghost invariant = { λ m. ArePlaced m.site m.processes.items
@@ -105,6 +106,7 @@ impl WorldCopies {
     /// The processes in their places, both copies of each.
     pub fn processes(&self) -> &[ProcessCopies]
         ensures processes { pairs_in result.now ≡ self.now.world.processes }
+        ensures drives { drives_in result.now ≡ self.now.drives }
         ensures placed { ArePlaced self.now.site result.now }
     {
         self.processes.as_slice()

@@ -25,6 +25,7 @@ mod starting;
 mod stopping;
 mod telling_again;
 pub mod terminal;
+mod turning;
 
 pub use copies::WorldCopies;
 pub use process_copies;

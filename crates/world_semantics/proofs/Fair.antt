@@ -11,7 +11,7 @@ use Rattle.tal_tree.specs.declared.site.ProcessSpec.{ProcessSpec}
 use Rattle.tal_tree.specs.declared.site.OpenerSpec.{OpenerSpec}
 use Rattle.plain_semantics.specs.process_semantics.specs.Image.{restored}
 use Rattle.plain_semantics.specs.Openers.{openers_of}
-use Rattle.disc_device.specs.declared.stored.Stored.{Stored}
+use Rattle.disc_device.specs.Sectors.{Stored}
 use Rattle.checkpoint_image.specs.declared.message.ImageMessage.{ImageMessage}
 use Rattle.checkpoint_image.specs.declared.message.Image.{Image}
 use Rattle.checkpoint_image.specs.declared.receive.OpenerBlock.{OpenerBlock}

@@ -4,7 +4,7 @@ use Rattle.gd_words.specs.declared.message.Request.{Request}
 use Rattle.tal_tree.specs.declared.act.Act.{Act}
 use Rattle.tal_tree.specs.declared.act.Act.TheVariants.{Step, Enter, Print}
 use Rattle.tal_tree.specs.declared.site.Site.{Site}
-use Rattle.disc_device.specs.declared.stored.Stored.{Stored}
+use Rattle.disc_device.specs.Sectors.{Stored}
 use Rattle.world_semantics.specs.Core.{Core, Deed}
 use Rattle.world_semantics.specs.World.{Copy, Pair, Down, World, Which, First, Second, copy_of, with_copy, boot}
 use Rattle.world_semantics.specs.Kept.{is_own, own_acts, Enters, holds_on, repeats, begins, keeps}

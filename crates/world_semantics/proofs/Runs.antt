@@ -7,6 +7,7 @@ use Rattle.world_semantics.specs.Messages.{Sending, Cause}
 use Rattle.world_semantics.specs.Rules.{Change}
 use Rattle.world_semantics.specs.Follows.{NotesDowns, marks_none, marks_one, Follows, runs, cannot_run, enters}
 use Rattle.world_semantics.specs.Follows.{cannot_enter, delivers_none, delivers, delivers_mark, loses, doubles}
+use Rattle.world_semantics.specs.Follows.{turns_drive}
 use Rattle.world_semantics.specs.Follows.{ticks_none, ticks, ticks_stop, fails, cannot_fail, Leads, stays, goes_on}
 
 -- a relation between worlds that holds of a world and itself, goes from one to the next, and holds of each change
@@ -33,6 +34,7 @@ follows-keeps k {w = w} {next = next} (delivers node message c) = k.change w nex
 follows-keeps k {w = w} {next = next} (delivers_mark node processor c) = k.change w next _ _ c
 follows-keeps k {w = w} loses = k.same w
 follows-keeps k {w = w} doubles = k.same w
+follows-keeps k {w = w} turns_drive = k.same w
 follows-keeps k {w = w} ticks_none = k.same w
 follows-keeps k (ticks r m) = marks-keep k m
 follows-keeps k {w = w} {next = next} (ticks_stop {between = between} processor r d c m) =

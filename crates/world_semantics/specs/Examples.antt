@@ -149,7 +149,7 @@ lost_take_shown = reply 1 (pos 7) ∷ []
 abbrev pub disc_site : Site
 disc_site = record {
   processors = 2;
-  processes = record { name = codes "$DATA"; primary = 0; backup = 1; what = kind.Disc 4 } ∷ [];
+  processes = record { name = codes "$DATA"; primary = 0; backup = 1; what = kind.Disc 4 false } ∷ [];
   terminals = record { name = codes "$T"; target = 0; requests = (pos 2 ∷ pos 0 ∷ pos 5 ∷ []) ∷ [] } ∷ [];
 }
 
@@ -218,7 +218,7 @@ abbrev pub bank_site : Site
 bank_site = record {
   processors = 4;
   processes =
-      record { name = codes "$DATA"; primary = 2; backup = 3; what = kind.Disc 4 }
+      record { name = codes "$DATA"; primary = 2; backup = 3; what = kind.Disc 4 false }
       ∷ record { name = codes "$BANK"; primary = 0; backup = 1; what = kind.Pair bank }
       ∷ [];
   terminals = record { name = codes "$T"; target = 1; requests = (pos 5 ∷ []) ∷ [] } ∷ [];

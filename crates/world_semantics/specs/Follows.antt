@@ -1,8 +1,9 @@
 -- What each event of a schedule permits in the world, and runs.
 use Rattle.std.specs.Prelude.{◌≡◌, ◌≢◌, ℕ, Bool, true, List, [], ◌∷◌, ◌++◌}
 use Rattle.tal_tree.specs.declared.site.Site.{Site}
+use Rattle.schedule.specs.declared.event.DriveEvent.{DriveEvent}
 use Rattle.schedule.specs.declared.event.Event.{Event}
-use Rattle.schedule.specs.declared.event.Event.TheVariants.{Run, Enter, Deliver, Lose, Repeat, Tick, Fail}
+use Rattle.schedule.specs.declared.event.Event.TheVariants.{Run, Enter, Deliver, Lose, Repeat, Tick, Fail, Drive}
 use Rattle.world_semantics.specs.World.{World, boot, is_running}
 use Rattle.world_semantics.specs.Messages.{Message, Sending, Cause, Running, Entering, Handing, Stopping, NotingDown}
 use Rattle.world_semantics.specs.Rules.{Change}
@@ -20,8 +21,8 @@ pub data NotesDowns (site : Site) (node : ℕ) : World → List Sending → Worl
 
 -- what an event permits: `Run` makes the change for which its process can run, `Enter` that of its terminal, and `Fail`
 -- the stop, each where one is possible, and else nothing; `Deliver` does nothing, hands over one message, or makes one
--- mark; `Lose` and `Repeat` do nothing; and the `Tick` of a node that runs stops at most one other processor, and then
--- makes marks at that node
+-- mark; `Lose`, `Repeat` and `Drive` do nothing; and the `Tick` of a node that runs stops at most one other processor,
+-- and then makes marks at that node
 pub data Follows (site : Site) (w : World) : Event → List Sending → World → Type 0 where
   runs : {number : ℕ} {sendings : List Sending} {next : World} → Change site w (Running number) sendings next
       → Follows site w (Run number) sendings next
@@ -48,6 +49,7 @@ pub data Follows (site : Site) (w : World) : Event → List Sending → World �
   fails : {processor : ℕ} {next : World} → Change site w (Stopping processor) [] next
       → Follows site w (Fail processor) [] next
   cannot_fail : {processor : ℕ} → IsIdleFor site w (Stopping processor) → Follows site w (Fail processor) [] w
+  turns_drive : {event : DriveEvent} → Follows site w (Drive event) [] w
 
 -- events, one after the other, lead from one world to another
 pub data Leads (site : Site) : World → List Event → World → Type 0 where

@@ -13,8 +13,7 @@ use Rattle.tal_tree.specs.declared.site.Site.{Site}
 use Rattle.tal_tree.specs.declared.site.ProcessSpec.{ProcessSpec}
 use Rattle.tal_tree.specs.declared.site.Kind.{Kind}
 use Rattle.tal_tree.specs.declared.site.Kind.TheVariants as kind
-use Rattle.disc_device.specs.declared.stored.Stored.{Stored}
-use Rattle.disc_device.specs.Sectors.{blank}
+use Rattle.disc_device.specs.Sectors.{Stored, blank}
 use Rattle.checkpoint_image.specs.declared.message.ImageMessage.{ImageMessage}
 use Rattle.checkpoint_image.specs.declared.message.TakenMessage.{TakenMessage}
 use Rattle.world_semantics.specs.declared.role.Role.{Role}
@@ -88,7 +87,7 @@ copy_at_boot role processor core = record {
 }
 
 abbrev pub device_at_boot : Kind → List Stored
-device_at_boot (kind.Disc sectors) = replicate sectors blank
+device_at_boot (kind.Disc sectors mirrored) = replicate sectors blank
 device_at_boot (kind.Pair program) = []
 
 -- a process at the beginning: the copy in its first-named processor acts, the other one watches, and both are at the

@@ -9,4 +9,5 @@ returns c = record {
   run = none_spelt _ (λ processes. refl);
   run_often = none_spelt _ (λ processes. refl);
   enter = none_spelt _ (λ processes. refl);
+  drive = none_spelt _ (λ processes. refl);
 }

@@ -1,4 +1,4 @@
-use Rattle.std.proofs.Common.{◌≡◌, ◌≢◌, ◌<◌, ℕ, zero, suc, Some, None, slice_get, refl, sym, subst, arith}
+use Rattle.std.proofs.Common.{◌≡◌, ◌≢◌, ◌<◌, ℕ, false, zero, suc, Some, None, slice_get, refl, sym, subst, arith}
 use Rattle.tal_tree.specs.declared.site.ProcessSpec.{ProcessSpec}
 use Rattle.tal_tree.specs.declared.site.Who.{Who}
 use Rattle.process_semantics.specs.declared.point.Point.TheVariants as point
@@ -45,7 +45,7 @@ returns-clause-quiet c = record {
   fit = record {
     regular = each (λ spec. IsRegularKind spec.what) tt;
     disciplined =
-        λ number. each (IsDisciplined quiet_site number) (disc-disciplined quiet_site number 2 disc refl) number;
+        λ number. each (IsDisciplined quiet_site number) (disc-disciplined quiet_site number 2 false disc refl) number;
     requests = λ terminal entered words next. absurd (cc);
   };
   laid_out = record {

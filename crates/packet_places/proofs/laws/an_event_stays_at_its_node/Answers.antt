@@ -1,5 +1,5 @@
 use Rattle.packet_places.proofs.Played.{deliver-stays, enter-stays, fail-stays, lose-stays, repeat-stays, run-stays}
-use Rattle.packet_places.proofs.Played.{tick-stays}
+use Rattle.packet_places.proofs.Played.{drive-stays, tick-stays}
 use Rattle.packet_places.proofs.laws.an_event_stays_at_its_node.Goals as goal
 
 pub returns : goal.returns
@@ -11,4 +11,5 @@ returns c = record {
   repeat = repeat-stays;
   tick = tick-stays;
   fail = fail-stays;
+  drive = drive-stays;
 }

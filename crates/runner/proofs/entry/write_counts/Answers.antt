@@ -9,5 +9,5 @@ returns g c =
     c.write_load_report.result)
     (counts_are c.args.report.now c.args.requests _ _ _ _ _ c.get-site.ensures c.counts-counts.ensures
     c.as_slice-sectors.ensures c.as_slice-stopped.ensures
-    c.end_of-end.ensures)
+    c.closing_of-closing.ensures)
     c.write_load_report.ensures

@@ -1,6 +1,7 @@
-use Rattle.std.proofs.Common.{◌<◌, ◌∙◌, ℕ, IfOk, Option, Result, Ok, Err, arith, refl, subst, sym}
+use Rattle.std.proofs.Common.{◌<◌, ◌∙◌, ℕ, IfOk, Option, Result, Ok, Err, arith, subst, sym}
 use Rattle.schedule_loop.specs.Ends.{IsTriedBy}
-use Rattle.schedule_loop.proofs.Playing.{begins, few_played, goes_on, runs_out, runs_to_stop}
+use Rattle.schedule_loop.specs.declared.ran.Ending.{Ending}
+use Rattle.schedule_loop.proofs.Playing.{begins, few_played, goes_on, runs_out, runs_to_harm}
 use Rattle.schedule_loop.proofs.running.run.Goals as goal
 
 last : (n : ℕ) → n < 4294967294 → n < 4294967295
@@ -20,7 +21,7 @@ loop-event-preserved g c =
     (g.M.ScheduleMachine.state c.loop-event.machine) (g.M.ScheduleMachine.state c.tried.new.machine)
     c.loop-event.played c.in-Some.event c.loop-event.invariant.0 (sym c.in-Some.ensures.event)
     c.in-Some.ensures.agenda
-    (subst (λ (one : Option ℕ). IsTriedBy g.M.ScheduleMachine.rules
+    (subst (λ (one : Option Ending). IsTriedBy g.M.ScheduleMachine.rules
     (g.M.ScheduleMachine.state c.loop-event.machine) c.in-Some.event
     (g.M.ScheduleMachine.state c.tried.new.machine) one) c.in-None.is c.in_ok-tried.ensures.tried) in
     let later = c.deliver_at_once-played.ensures.plays _ on in (
@@ -32,14 +33,14 @@ loop-event-preserved g c =
 
 pub returns-in-Some-2 : goal.returns-in-Some-2
 returns-in-Some-2 g c =
-    runs_to_stop g.M.ScheduleMachine.rules _ c.loop-event.schedule c.next.new.self
+    runs_to_harm g.M.ScheduleMachine.rules _ c.loop-event.schedule c.next.new.self
     (g.M.ScheduleMachine.state c.loop-event.machine) (g.M.ScheduleMachine.state c.tried.new.machine)
-    c.loop-event.played c.in-Some-2.processor c.from.result c.in-Some.event _ _ c.loop-event.invariant.0
+    c.loop-event.played c.from.result c.in-Some.event c.in-Some-2.ending _ c.loop-event.invariant.0
     (sym c.in-Some.ensures.event) c.in-Some.ensures.agenda
-    (subst (λ (one : Option ℕ). IsTriedBy g.M.ScheduleMachine.rules
+    (subst (λ (one : Option Ending). IsTriedBy g.M.ScheduleMachine.rules
     (g.M.ScheduleMachine.state c.loop-event.machine) c.in-Some.event
     (g.M.ScheduleMachine.state c.tried.new.machine) one) c.in-Some-2.is c.in_ok-tried.ensures.tried)
-    c.in_ok-tried.ensures.whole (last c.loop-event.played c.loop-event.invariant.1) c.from.ensures refl
+    c.in_ok-tried.ensures.whole (last c.loop-event.played c.loop-event.invariant.1) c.from.ensures
 
 pub returns : goal.returns
 returns g c =

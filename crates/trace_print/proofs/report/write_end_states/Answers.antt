@@ -1,21 +1,24 @@
 use Rattle.std.specs.Prelude.{◌++◌}
 use Rattle.gd_io.specs.Joining.{puts_both, puts_part, puts_passed_on}
+use Rattle.trace_print.specs.MirrorLine.{mirror_lines}
 use Rattle.trace_print.specs.SectorLine.{sector_lines}
 use Rattle.trace_print.specs.ShownLine.{shown_lines}
 use Rattle.trace_print.specs.StopLine.{stop_lines}
 use Rattle.trace_print.proofs.report.write_end_states.Goals as goal
 
-pub returns-in_err-write_outside : goal.returns-in_err-write_outside
-returns-in_err-write_outside g c =
+pub returns-in_err-write_discs : goal.returns-in_err-write_discs
+returns-in_err-write_discs g c =
     puts_passed_on g.K.Sink.held g.K.Sink.faults g.K.Sink.sure _ _ _ _ c.from_residual.result c.from_residual.ensures.0
     (puts_part g.K.Sink.held g.K.Sink.faults g.K.Sink.sure _ _
-    (shown_lines c.args.site.now c.args.shown.now ++ sector_lines c.args.site.now c.args.sectors.now)
+    (shown_lines c.args.site.now c.args.shown.now ++ sector_lines c.args.site.now c.args.sectors.now
+    ++ mirror_lines c.args.site.now c.args.mirrors.now)
     (stop_lines c.args.stopped.now) _
-    c.in_err-write_outside.ensures)
+    c.in_err-write_discs.ensures)
 
 pub returns : goal.returns
 returns g c =
     puts_both g.K.Sink.held g.K.Sink.faults g.K.Sink.sure _ _ _
-    (shown_lines c.args.site.now c.args.shown.now ++ sector_lines c.args.site.now c.args.sectors.now)
+    (shown_lines c.args.site.now c.args.shown.now ++ sector_lines c.args.site.now c.args.sectors.now
+    ++ mirror_lines c.args.site.now c.args.mirrors.now)
     (stop_lines c.args.stopped.now) _
-    c.in_ok-write_outside.ensures c.write_all_stops.ensures
+    c.in_ok-write_discs.ensures c.write_all_stops.ensures

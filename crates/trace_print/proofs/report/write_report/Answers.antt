@@ -1,7 +1,8 @@
 use Rattle.std.specs.Prelude.{◌++◌}
 use Rattle.gd_io.specs.Joining.{puts_both, puts_part, puts_passed_on}
 use Rattle.trace_print.specs.ActLine.{act_lines}
-use Rattle.trace_print.specs.EndLine.{end_line}
+use Rattle.trace_print.specs.EndLine.{closing_line}
+use Rattle.trace_print.specs.MirrorLine.{mirror_lines}
 use Rattle.trace_print.specs.SectorLine.{sector_lines}
 use Rattle.trace_print.specs.ShownLine.{shown_lines}
 use Rattle.trace_print.specs.StopLine.{stop_lines}
@@ -12,12 +13,14 @@ returns-in_err-write_run g c =
     puts_passed_on g.K.Sink.held g.K.Sink.faults g.K.Sink.sure _ _ _ _ c.from_residual.result c.from_residual.ensures.0
     (puts_part g.K.Sink.held g.K.Sink.faults g.K.Sink.sure _ _
     (shown_lines c.args.site.now c.args.shown.now ++ sector_lines c.args.site.now c.args.sectors.now
-    ++ stop_lines c.args.stopped.now ++ act_lines c.args.site.now c.args.acts.now) (end_line c.args.end) _
+    ++ mirror_lines c.args.site.now c.args.mirrors.now ++ stop_lines c.args.stopped.now
+    ++ act_lines c.args.site.now c.args.acts.now) (closing_line c.args.site.now c.args.closing) _
     c.in_err-write_run.ensures)
 
 pub returns : goal.returns
 returns g c =
     puts_both g.K.Sink.held g.K.Sink.faults g.K.Sink.sure _ _ _
     (shown_lines c.args.site.now c.args.shown.now ++ sector_lines c.args.site.now c.args.sectors.now
-    ++ stop_lines c.args.stopped.now ++ act_lines c.args.site.now c.args.acts.now) (end_line c.args.end) _
-    c.in_ok-write_run.ensures c.write_end.ensures
+    ++ mirror_lines c.args.site.now c.args.mirrors.now ++ stop_lines c.args.stopped.now
+    ++ act_lines c.args.site.now c.args.acts.now) (closing_line c.args.site.now c.args.closing) _
+    c.in_ok-write_run.ensures c.write_closing.ensures

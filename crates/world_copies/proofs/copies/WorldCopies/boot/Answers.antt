@@ -1,7 +1,7 @@
 use Rattle.std.proofs.Common.{◌∙◌, ap, sym, arith}
 use Rattle.world_copies.specs.Seen.{terminal_row}
 use Rattle.world_copies.specs.Starting.{placed_from}
-use Rattle.world_copies.proofs.Beginning.{stands-first, pairs-of-first}
+use Rattle.world_copies.proofs.Beginning.{drives-of-first, stands-first, pairs-of-first}
 use Rattle.world_copies.proofs.copies.WorldCopies.boot.Goals as goal
 
 pub invariant_of-result : goal.invariant_of-result
@@ -15,4 +15,5 @@ invariant_of-result c =
 pub returns : goal.returns
 returns c =
     let pairs = pairs-of-first c.get-3.result.now c.in_ok-processes.processes.items c.in_ok-processes.ensures in
-    grind (arith, pairs)
+    let drives = drives-of-first c.get-3.result.now c.in_ok-processes.processes.items c.in_ok-processes.ensures in
+    grind (arith, pairs, drives)

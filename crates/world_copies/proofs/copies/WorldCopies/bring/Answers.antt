@@ -24,6 +24,7 @@ found c = record {
   there = there c;
   site = (c.self.invariant.0 _ _ (there c)).0;
   number = (c.self.invariant.0 _ _ (there c)).1;
+  drives = refl;
 }
 
 abbrev does : goal.In_ok-step → SiteWorld → ℕ → Option Done

@@ -24,7 +24,7 @@ invariant_of-self-2 c =
 pub returns : goal.returns
 returns c =
     closes-put (the_view c.self.inside) c.self.inside.processes.items c.args.place c.index_mut.result.now
-    c.close.new.self c.close.new.records refl
+    c.close.new.self c.close.new.records refl refl
     (slice_get_read c.self.inside.processes.items _ _ _ refl (omega (arith, c.self.inside.processes.ok.0))
     c.index_mut.ensures.value)
     c.in_ok-close.ensures.process c.in_ok-close.ensures.records

@@ -5,7 +5,7 @@ use Rattle.world_copies.specs.Changes.{changed}
 use Rattle.world_copies.specs.SiteWorld.{SiteWorld}
 use Rattle.world_copies.specs.Room.{AllWatchersHaveRoom}
 use Rattle.world_copies.specs.Seen.{ArePlaced, pairs_in}
-use Rattle.world_copies.proofs.Changed.{pairs-changed}
+use Rattle.world_copies.proofs.Changed.{drives-changed, pairs-changed}
 use Rattle.world_copies.proofs.copies.WorldCopies.mark_processes.Goals as goal
 
 pub mark_all-requires : goal.mark_all-requires
@@ -38,4 +38,4 @@ returns-clause-state c =
     let after =
     with_items_is before c.mark_all.new.processes (search (rules, places)) ∙ c.in_ok-mark_all.ensures.processes
     ∙ ap (map (changed f)) c.as_mut_slice.ensures.value in
-    rw (after, pairs-changed f before.items, ← c.self.view_is) refl
+    rw (after, pairs-changed f before.items, drives-changed f before.items, ← c.self.view_is) refl

@@ -21,6 +21,7 @@ found c = record {
   there = there c;
   site = (c.self.invariant.0 _ _ (there c)).0;
   number = (c.self.invariant.0 _ _ (there c)).1;
+  drives = refl;
 }
 
 pub run-requires-clause-room : goal.run-requires-clause-room

@@ -1,0 +1,18 @@
+use Rattle.std.proofs.Common.{length, subst}
+use Rattle.machine_states.specs.Drives.{turned}
+use Rattle.node_copies.specs.Seen.{drives_on, sectors_on}
+use Rattle.process_copies.specs.Seen.{Placed}
+use Rattle.process_copies.specs.Turning.{TurnsPlaced}
+use Rattle.process_copies.specs.contracts.copies.ProcessCopies.{the_view}
+use Rattle.process_copies.proofs.Turned.{Standing, turns-placed}
+use Rattle.process_copies.proofs.copies.ProcessCopies.turn.Goals as goal
+
+pub returns-clause-process : goal.returns-clause-process
+returns-clause-process c =
+    let before = the_view c.self.inside in
+    let sectors = sectors_on c.turn_on.new.device in
+    let states = drives_on c.turn_on.new.device in
+    subst (λ (p : Placed). TurnsPlaced (turned c.args.change (length p.pair.sectors) c.args.drive p.drives) p
+    c.turn_on.result (Standing before sectors states)) c.self.view_is
+    (turns-placed (turned c.args.change (length before.pair.sectors) c.args.drive before.drives) before
+    c.turn_on.result sectors states c.turn_on.ensures.sectors c.turn_on.ensures.drives)
