@@ -92,7 +92,7 @@ fn frame_of<'a>(
 }
 
 /// A number that isn't below 0.
-fn number_in(words: &[i16]) -> Option<(u16, &[i16])>
+pub(crate) fn number_in(words: &[i16]) -> Option<(u16, &[i16])>
     ensures { Gives (λ r. (r.0, r.1.now)) result (count_in words.now) }
 {
     match words {
@@ -102,7 +102,7 @@ fn number_in(words: &[i16]) -> Option<(u16, &[i16])>
 }
 
 /// The first `count` words, and those behind them. None if there are fewer.
-fn words_in(count: usize, words: &[i16]) -> Option<(&[i16], &[i16])>
+pub(crate) fn words_in(count: usize, words: &[i16]) -> Option<(&[i16], &[i16])>
     ensures { Gives (λ r. (r.0.now, r.1.now)) result (words_in count words.now) }
 {
     if count <= words.len() {
