@@ -1,0 +1,3 @@
+pub mod Lacks
+mod TruthSteps
+mod ValueSteps

@@ -1,0 +1,22 @@
+use Rattle.std.proofs.Common.{refl}
+use Rattle.std.specs.Int.{int_wrap}
+use Rattle.tal_tree.specs.declared.expression.Expr.TheBlock.{shape-the_row-Spot-0, hidden-the_row-Spot-0}
+use Rattle.tal_tree.specs.declared.expression.Expr.TheBlock.{shape-the_row-Expr-1, hidden-the_row-Expr-1}
+use Rattle.tal_tree.specs.declared.expression.Cond.TheBlock.{shape-the_row-Cond-0, hidden-the_row-Cond-0}
+use denote.Hole.Carrier.{hidden}
+use Rattle.value_traps.proofs.guards.a_zero_divisor_is_told.Goals as goal
+
+pub returns-clause-alone : goal.returns-clause-alone
+unfolding int_wrap shape-the_row-Spot-0 hidden-the_row-Spot-0 shape-the_row-Expr-1 hidden-the_row-Expr-1
+    shape-the_row-Cond-0 hidden-the_row-Cond-0 hidden
+returns-clause-alone c = refl
+
+pub returns-clause-inside : goal.returns-clause-inside
+unfolding int_wrap shape-the_row-Spot-0 hidden-the_row-Spot-0 shape-the_row-Expr-1 hidden-the_row-Expr-1
+    shape-the_row-Cond-0 hidden-the_row-Cond-0 hidden
+returns-clause-inside c = refl
+
+pub returns-clause-zero : goal.returns-clause-zero
+unfolding int_wrap shape-the_row-Spot-0 hidden-the_row-Spot-0 shape-the_row-Expr-1 hidden-the_row-Expr-1
+    shape-the_row-Cond-0 hidden-the_row-Cond-0 hidden
+returns-clause-zero c = refl
