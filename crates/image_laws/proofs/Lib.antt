@@ -1,1 +1,2 @@
+mod Globals
 mod Read

@@ -1,16 +1,19 @@
 -- The frames of a state are read off their words, and the last is the one that runs.
 use Rattle.std.proofs.Common.{◌≡◌, inl, inr, ℕ, suc, ℤ, List, [], ◌∷◌, ◌++◌, length, reverse, flat_map}
 use Rattle.std.proofs.Common.{Option, Some, None}
-use Rattle.std.proofs.Common.{refl, ap, sym, ◌∙◌, append_assoc, option_and_then}
+use Rattle.std.proofs.Common.{refl, ap, ap₂, sym, ◌∙◌, append_assoc, option_and_then}
 use Rattle.std.proofs.lemmas.Grind.{reverse_onto}
 use Rattle.std.proofs.lemmas.List.{length-reverse}
 use Rattle.std.specs.Option.{option_map}
+use Rattle.image_places.specs.Memories.{locals_of, memory_in}
 use Rattle.image_places.specs.Running.{Running, frame_in, frame_where, last_of, next_of, with_words}
 use Rattle.process_images.proofs.Frames.{AllFrames}
 use Rattle.process_images.proofs.Fronts.{words-read}
 use Rattle.process_images.proofs.Stacks.{all-from-main}
+use Rattle.process_images.specs.Images.{listable_from}
 use Rattle.gd_words.specs.Members.{IsAmong}
 use Rattle.gd_words.proofs.Among.{among-at}
+use Rattle.process_semantics.specs.Changes.{ends}
 use Rattle.process_semantics.specs.Image.{frame_words, program_words}
 use Rattle.process_semantics.specs.Remains.{Remains}
 use Rattle.process_semantics.specs.Rests.{entry_number, next_number, rests_of}
@@ -21,7 +24,9 @@ use Rattle.program_entries.specs.Entries.{entry_at}
 use Rattle.tal_tree.specs.Ordered.{IsNumbered}
 use Rattle.tal_tree.specs.declared.program.Procedure.{Procedure}
 use Rattle.tal_tree.specs.declared.program.Program.{Program}
+use Rattle.process_semantics.specs.tal_values.specs.Value.{Memory}
 use Rattle.whole_states.specs.Whole.{AreFrames, IsFrame, IsWhole}
+use Rattle.image_laws.proofs.Globals.{globals-read}
 
 abbrev running_of : Frame → Running
 running_of frame =
@@ -77,6 +82,28 @@ next_read program (frame ∷ callers) left are =
     (reverse_onto callers frame [])
     ∙ ap (λ (last : Option Running). next_of (with_words left last)) (last_is (reverse callers) frame None)
 
+pub locals_read : (program : Program) (frames : List Frame) (left : List ℤ) → AreFrames program frames
+    → locals_of (last_of program (length frames) (flat_map frame_words (reverse frames) ++ left) None)
+    ≡ state.locals_of frames
+locals_read program [] left are = refl
+locals_read program (frame ∷ callers) left are =
+    ap (λ (n : ℕ). locals_of (last_of program n (flat_map frame_words (reverse (frame ∷ callers)) ++ left) None))
+    (sym (length-reverse (frame ∷ callers)))
+    ∙ ap locals_of
+    (last_read program (reverse (frame ∷ callers)) left None (all-from-main program (frame ∷ callers) are))
+    ∙ ap (λ (frames : List Frame). locals_of (with_words left (last_running frames None)))
+    (reverse_onto callers frame [])
+    ∙ ap (λ (last : Option Running). locals_of (with_words left last)) (last_is (reverse callers) frame None)
+
+abbrev memory_with : Program → List (List ℤ) → List ℤ → Memory
+memory_with program globals locals = record { items = program.items; globals = globals; locals = locals }
+
+pub memory-read : (program : Program) (s : ProgramState) (items : List ℕ) → IsWhole program s
+    → memory_in program (program_words items s) (program_words (listable_from 0 program.items) (ends s))
+    ≡ state.memory_of program s
+memory-read program s items whole =
+    ap₂ (memory_with program) (globals-read program s whole) (locals_read program s.frames _ whole.frames)
+
 -- What comes next by its number
 
 -- numbers tell what comes next
@@ -106,6 +133,8 @@ module _ (told : Told) (program : Program) where
 
   pub end-read : (s : ProgramState) (items : List ℕ) → IsNumbered program → IsWhole program s
       → end_of_program program (program_words items s) s.in_hand
-      ≡ at_entry (length s.frames) s.in_hand (state.next_of s.frames)
+      (program_words (listable_from 0 program.items) (ends s))
+      ≡ at_entry (state.memory_of program s) (length s.frames) s.in_hand (state.next_of s.frames)
   end-read s items numbered whole =
-      ap (at_entry (length s.frames) s.in_hand) (entry-read s items numbered whole)
+      ap₂ (λ (memory : Memory) (next : Option Entry). at_entry memory (length s.frames) s.in_hand next)
+      (memory-read program s items whole) (entry-read s items numbered whole)

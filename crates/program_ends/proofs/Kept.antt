@@ -1,11 +1,12 @@
 -- A step of which something comes ends a program only at STOP, at the end of MAIN and at its RETURN.
 use Rattle.std.proofs.Common.{◌≡◌, ℕ, ℤ, pos, Bool, true, false, if◌then◌else◌, nat_le, List, [], ◌∷◌, drop, length}
-use Rattle.std.proofs.Common.{Option, Some, None, refl, ap, sym, ◌∙◌}
+use Rattle.std.proofs.Common.{Option, Some, None, refl, ap, subst, sym, ◌∙◌}
 use Rattle.process_semantics.specs.Changes.{done, left, with_word}
 use Rattle.process_semantics.specs.State.{Entry, Frame, ProgramState, Run, Test, Last, first_of, memory_of, next_of}
 use Rattle.process_semantics.specs.Steps.{assigned, counted, entered, entered_by, for_begun, given, given_in, given_to}
 use Rattle.process_semantics.specs.Steps.{counted_in, inner, inner_entry, inner_in, or_ends, result_of}
 use Rattle.process_semantics.specs.Steps.{returned, tested, tested_in}
+use Rattle.tal_tree.specs.declared.expression.Expr.{Expr}
 use Rattle.tal_tree.specs.declared.expression.Variable.{Variable}
 use Rattle.tal_tree.specs.declared.expression.Variable.TheVariants as variable
 use Rattle.tal_tree.specs.declared.program.Procedure.{Procedure}
@@ -15,9 +16,12 @@ use Rattle.tal_tree.specs.declared.statement.What.{What, What-F, out-What}
 use Rattle.tal_values.specs.Value.{cell_of}
 use Rattle.tal_values.specs.declared.memory.Cell.{Cell}
 use Rattle.tal_values.specs.declared.memory.Cell.TheVariants as cell
-use Rattle.program_ends.specs.Ends.{at_entry, at_statement, is_trap}
+use Rattle.value_traps.specs.declared.trap.ValueTrap.{ValueTrap}
+use Rattle.program_ends.specs.Ends.{at_entry, at_return, at_statement, is_trap}
+use Rattle.program_ends.specs.Traps.{trap_of_result}
 use Rattle.program_ends.specs.declared.ending.LastStep.TheVariants.{MainEnded, Returned, Trapped, TrappedAtEnd}
 use Rattle.program_ends.specs.declared.ending.Trap.TheVariants as trap
+use Rattle.program_ends.proofs.Told.{result-lacks}
 
 -- what comes of a step, if anything does, has ended exactly where this says
 abbrev Keeps : Bool → Option ProgramState → Type 0
@@ -100,14 +104,26 @@ main-only : (here : Bool) → is_trap (if here then MainEnded else TrappedAtEnd)
 main-only true is = absurd (cc)
 main-only false is = refl
 
-return-only : (here : Bool) (line : ℕ) → is_trap (if here then Returned line else Trapped line trap.Value) ≡ true
+return-only : (here : Bool) (line : ℕ) → is_trap (if here then Returned line else Trapped line trap.Target) ≡ true
     → here ≡ false
 return-only true line is = absurd (cc)
 return-only false line is = refl
 
+-- RETURN, whose word meets this trap or none
+return-keeps : (program : Program) (s : ProgramState) (line : ℕ) (value : Option Expr) (trap : Option ValueTrap)
+    → trap_of_result (memory_of program s) value ≡ trap
+    → is_trap (at_return (length s.frames) line trap) ≡ true
+    → Keeps s.ended (returned program s (result_of (memory_of program s) value))
+return-keeps program s line value (Some trap) told is =
+    subst (λ (word : Option ℤ). Keeps s.ended (returned program s word))
+    (sym (result-lacks (memory_of program s) value trap told)) (none-keeps s.ended)
+return-keeps program s line value None told is =
+    returned-keeps program s (result_of (memory_of program s) value)
+    (return-only (nat_le (length s.frames) 1) line is)
+
 inner-keeps : (program : Program) (s : ProgramState) (in_hand : Bool) (statement : Statement)
     (layer : What-F What Statement)
-    → is_trap (at_statement (length s.frames) in_hand statement.line layer) ≡ true
+    → is_trap (at_statement (memory_of program s) (length s.frames) in_hand statement.line layer) ≡ true
     → Keeps s.ended (inner_in program s statement layer)
 inner-keeps program s in_hand statement (What-F.Assign to value) is = assigned-keeps s _ _
 inner-keeps program s in_hand statement (What-F.AssignCall to procedure arguments) is =
@@ -119,8 +135,7 @@ inner-keeps program s in_hand statement (What-F.For variable from to down step b
 inner-keeps program s in_hand statement (What-F.DoUntil body test) is = tested-keeps s _ _ _
 inner-keeps program s in_hand statement (What-F.Call procedure arguments) is = entered-keeps program s procedure _
 inner-keeps program s in_hand statement (What-F.Return value) is =
-    returned-keeps program s (result_of (memory_of program s) value)
-    (return-only (nat_le (length s.frames) 1) statement.line is)
+    return-keeps program s statement.line value (trap_of_result (memory_of program s) value) refl is
 inner-keeps program s in_hand statement What-F.CheckMonitor is = some-keeps s.ended (done s) refl
 inner-keeps program s in_hand statement (What-F.Open file) is = some-keeps s.ended (done s) refl
 inner-keeps program s in_hand statement What-F.Stop is = absurd (cc)
@@ -140,7 +155,8 @@ last-keeps program s (What-F.For variable from to down step body last) = counted
 last-keeps program s _ = none-keeps s.ended
 
 entry-keeps : (program : Program) (s : ProgramState) (in_hand : Bool) (entry : Option Entry)
-    → is_trap (at_entry (length s.frames) in_hand entry) ≡ true → Keeps s.ended (inner_entry program s entry)
+    → is_trap (at_entry (memory_of program s) (length s.frames) in_hand entry) ≡ true
+    → Keeps s.ended (inner_entry program s entry)
 entry-keeps program s in_hand None is =
     returned-keeps program s (Some (pos 0)) (main-only (nat_le (length s.frames) 1) is)
 entry-keeps program s in_hand (Some (Run statement)) is =
@@ -154,7 +170,8 @@ nothing-came s None keeps ended = refl
 nothing-came s (Some t) keeps ended = let kept : t.ended ≡ false = keeps t refl in absurd (cc)
 
 pub traps-by : (program : Program) (s : ProgramState) (in_hand : Bool) → s.ended ≡ false
-    → (inner program s).ended ≡ true → is_trap (at_entry (length s.frames) in_hand (next_of s.frames)) ≡ true
+    → (inner program s).ended ≡ true
+    → is_trap (at_entry (memory_of program s) (length s.frames) in_hand (next_of s.frames)) ≡ true
     → inner_entry program s (next_of s.frames) ≡ None
 traps-by program s in_hand runs ended is =
     nothing-came s (inner_entry program s (next_of s.frames))

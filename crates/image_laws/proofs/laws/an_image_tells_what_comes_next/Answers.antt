@@ -1,5 +1,5 @@
 use Rattle.std.proofs.Common.{refl}
-use Rattle.image_laws.proofs.Read.{end-read, entry-read, next_read}
+use Rattle.image_laws.proofs.Read.{end-read, entry-read, memory-read, next_read}
 use Rattle.image_laws.proofs.laws.an_image_tells_what_comes_next.Goals as goal
 
 pub returns-clause-depth : goal.returns-clause-depth
@@ -10,6 +10,9 @@ returns-clause-number c = λ program s items whole. next_read program s.frames _
 
 pub returns-clause-next : goal.returns-clause-next
 returns-clause-next c = λ program. entry-read c.numbers_tell_what_comes_next.ensures.next program
+
+pub returns-clause-memory : goal.returns-clause-memory
+returns-clause-memory c = memory-read
 
 pub returns-clause-end : goal.returns-clause-end
 returns-clause-end c = λ program. end-read c.numbers_tell_what_comes_next.ensures.next program
