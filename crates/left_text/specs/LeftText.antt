@@ -1,7 +1,7 @@
 -- What is left at the end of a run, as text. Our own wording.
-use Rattle.std.specs.Prelude.{ℕ, zero, suc, ◌+◌, Bool, true, false, List, [], ◌∷◌, ◌++◌, codes, flat_map, slice_get}
+use Rattle.std.specs.Prelude.{ℕ, zero, suc, ◌+◌, ℤ, Bool, true, false, List, [], ◌∷◌, ◌++◌, codes, flat_map, slice_get}
 use Rattle.std.specs.Prelude.{Option, Some, None}
-use Rattle.std.specs.Fmt.{decimal}
+use Rattle.std.specs.Fmt.{decimal, signed_decimal}
 use Rattle.tal_tree.specs.declared.site.ProcessSpec.{ProcessSpec}
 use Rattle.tal_tree.specs.declared.site.Site.{Site}
 use Rattle.tal_tree.specs.declared.site.TerminalSpec.{TerminalSpec}
@@ -18,6 +18,8 @@ use Rattle.program_ends.specs.declared.ending.LastStep.TheVariants.{MainEnded, S
 use Rattle.program_ends.specs.declared.ending.LastStep.TheVariants.{TrappedAtEnd}
 use Rattle.program_ends.specs.declared.ending.Trap.{Trap}
 use Rattle.program_ends.specs.declared.ending.Trap.TheVariants as trap
+use Rattle.value_traps.specs.declared.trap.ValueTrap.{ValueTrap}
+use Rattle.value_traps.specs.declared.trap.ValueTrap.TheVariants as why
 
 -- Terminals
 
@@ -118,13 +120,28 @@ abbrev pub place_text : List ℕ → List ℕ → Option ℕ → List ℕ
 place_text bytes name None = []
 place_text bytes name (Some line) = place_line bytes (pair_line bytes name + line)
 
+-- the bounds out of which an index is
+abbrev pub bounds_text : ℤ → ℤ → List ℕ
+bounds_text low high =
+    codes " is out of the bounds " ++ signed_decimal low ++ codes " to " ++ signed_decimal high ++ 10 ∷ []
+
+abbrev pub index_text : ℤ → ℤ → ℤ → List ℕ
+index_text index low high = codes "         index " ++ signed_decimal index ++ bounds_text low high
+
+-- why a value isn't there
+abbrev pub value_text : ValueTrap → List ℕ
+value_text why.ZeroDivisor = codes "         it divides by 0" ++ 10 ∷ []
+value_text (why.Index index low high) = index_text index low high
+value_text why.NotThere = codes "         what it names isn't there" ++ 10 ∷ []
+
 -- why a statement trapped
 abbrev pub trap_text : Trap → List ℕ
 trap_text trap.NothingInHand = codes "         no request is in hand" ++ 10 ∷ []
 trap_text trap.RequestInHand = codes "         a request is in hand already" ++ 10 ∷ []
-trap_text trap.Value = codes "         a divisor is 0, or an index is out of its bounds" ++ 10 ∷ []
+trap_text (trap.Value met) = value_text met
 trap_text trap.Count =
     codes "         a count is below 0, above 16 or above its array, or it has no value" ++ 10 ∷ []
+trap_text trap.Target = codes "         its word goes to an element that isn't there" ++ 10 ∷ []
 
 abbrev pub why_text : LastStep → List ℕ
 why_text MainEnded = []

@@ -1,10 +1,13 @@
+ghost use Rattle.std.specs.Fmt.{signed_decimal};
 ghost use Rattle.std.specs.Prelude.{◌≡◌, ◌++◌, OnOk};
-ghost use Rattle.left_text.specs.LeftText.{after_text, end_text, lost_text, reason_text, trap_text, why_text};
+ghost use Rattle.left_text.specs.LeftText.{after_text, bounds_text, end_text, index_text, lost_text, reason_text};
+ghost use Rattle.left_text.specs.LeftText.{trap_text, value_text, why_text};
 
-use gd_words::{List, NoMemory};
+use gd_words::{List, NoMemory, decimal_of};
 use left_findings::Stand;
 use program_ends::{LastStep, Trap};
 use text_pieces::put;
+use value_traps::ValueTrap;
 
 /// Puts behind the text why a process has ended, if it has, and that the request which it has in hand gets no reply.
 pub(crate) fn put_after(
@@ -28,7 +31,7 @@ pub(crate) fn put_after(
 fn put_end(text: &mut List<u8>, step: Option<LastStep>, in_hand: bool) -> Result<(), NoMemory>
     ensures { OnOk result (text.new ≡ text.old ++ end_text step in_hand) }
 {
-    put(text, reason_text(step))?;
+    put_reason(text, step)?;
     put(text, lost_text(in_hand))
 }
 
@@ -42,37 +45,77 @@ fn lost_text(in_hand: bool) -> &'static [u8]
     }
 }
 
-/// Why a process has ended, if that isn't told yet.
-fn reason_text(step: Option<LastStep>) -> &'static [u8]
-    ensures { result.now ≡ reason_text step }
+/// Puts behind the text why a process has ended, if that isn't told yet.
+fn put_reason(text: &mut List<u8>, step: Option<LastStep>) -> Result<(), NoMemory>
+    ensures { OnOk result (text.new ≡ text.old ++ reason_text step) }
 {
     match step {
-        None => b"",
-        Some(step) => why_text(step),
+        None => Ok(()),
+        Some(step) => put_why(text, step),
     }
 }
 
-fn why_text(step: LastStep) -> &'static [u8]
-    ensures { result.now ≡ why_text step }
+fn put_why(text: &mut List<u8>, step: LastStep) -> Result<(), NoMemory>
+    ensures { OnOk result (text.new ≡ text.old ++ why_text step) }
 {
     match step {
-        LastStep::MainEnded => b"",
-        LastStep::Stopped(_) => b"",
-        LastStep::Returned(_) => b"",
-        LastStep::Trapped { line: _, trap } => trap_text(trap),
-        LastStep::TrappedAtEnd => b"",
+        LastStep::MainEnded => Ok(()),
+        LastStep::Stopped(_) => Ok(()),
+        LastStep::Returned(_) => Ok(()),
+        LastStep::Trapped { line: _, trap } => put_trap(text, trap),
+        LastStep::TrappedAtEnd => Ok(()),
     }
 }
 
-fn trap_text(trap: Trap) -> &'static [u8]
-    ensures { result.now ≡ trap_text trap }
+fn put_trap(text: &mut List<u8>, trap: Trap) -> Result<(), NoMemory>
+    ensures { OnOk result (text.new ≡ text.old ++ trap_text trap) }
 {
     match trap {
-        Trap::NothingInHand => b"         no request is in hand\n",
-        Trap::RequestInHand => b"         a request is in hand already\n",
-        Trap::Value => b"         a divisor is 0, or an index is out of its bounds\n",
-        Trap::Count => {
-            b"         a count is below 0, above 16 or above its array, or it has no value\n"
-        }
+        Trap::NothingInHand => put(text, b"         no request is in hand\n"),
+        Trap::RequestInHand => put(text, b"         a request is in hand already\n"),
+        Trap::Value(trap) => put_value(text, trap),
+        Trap::Count => put(
+            text,
+            b"         a count is below 0, above 16 or above its array, or it has no value\n",
+        ),
+        Trap::Target => put(
+            text,
+            b"         its word goes to an element that isn't there\n",
+        ),
     }
+}
+
+fn put_value(text: &mut List<u8>, trap: ValueTrap) -> Result<(), NoMemory>
+    ensures { OnOk result (text.new ≡ text.old ++ value_text trap) }
+{
+    match trap {
+        ValueTrap::ZeroDivisor => put(text, b"         it divides by 0\n"),
+        ValueTrap::Index { index, low, high } => put_index(text, index, low, high),
+        ValueTrap::NotThere => put(text, b"         what it names isn't there\n"),
+    }
+}
+
+fn put_index(text: &mut List<u8>, index: i16, low: i16, high: i16) -> Result<(), NoMemory>
+    ensures { OnOk result (text.new ≡ text.old ++ index_text index low high) }
+{
+    put(text, b"         index ")?;
+    put_word(text, index)?;
+    put_bounds(text, low, high)
+}
+
+fn put_bounds(text: &mut List<u8>, low: i16, high: i16) -> Result<(), NoMemory>
+    ensures { OnOk result (text.new ≡ text.old ++ bounds_text low high) }
+{
+    put(text, b" is out of the bounds ")?;
+    put_word(text, low)?;
+    put(text, b" to ")?;
+    put_word(text, high)?;
+    put(text, b"\n")
+}
+
+/// Puts a word in decimal digits behind the text, with its sign if it is below 0.
+fn put_word(text: &mut List<u8>, word: i16) -> Result<(), NoMemory>
+    ensures { OnOk result (text.new ≡ text.old ++ signed_decimal word) }
+{
+    put(text, decimal_of(i64::from(word)).bytes())
 }

@@ -8,7 +8,8 @@ use Rattle.noted_rules.specs.packet_runs.specs.site_machine.specs.packet_wires.s
 use Rattle.program_ends.specs.declared.ending.LastStep.{LastStep}
 use Rattle.schedule.specs.declared.event.Event.{Event}
 use Rattle.tal_tree.specs.declared.site.Site.{Site}
-use Rattle.noted_runs.specs.Steps.{Ends, ended_at, ends_after, ends_of_step, noting_ends, state_in, stepped, stood_by}
+use Rattle.noted_runs.specs.Steps.{Ends, ends_after, ends_of_step, everything_at_end, noting_ends, state_in, stepped}
+use Rattle.noted_runs.specs.Steps.{stood_by}
 use Rattle.noted_runs.specs.declared.steps.Stood.{Stood}
 use Rattle.noted_runs.proofs.Booted.{ends_with}
 
@@ -30,9 +31,9 @@ done-settled before after left notes new event (Would (DiscLoss process)) settle
 pub step-noted : (process : ℕ) (event : Event) (before after : Packeted) (site other : Site)
     (steps ended : List (Option LastStep)) (stood : Option Stood) → stepped event ≡ Some process
     → stood ≡ stood_by (state_in before.world process) → other ≡ site
-    → ended ≡ ends_after site process stood (ended_at (state_in after.world process)) steps
+    → ended ≡ ends_after site process stood (everything_at_end (state_in after.world process)) steps
     → ends_with other ended ≡ noting_ends event before after (ends_with site steps)
 step-noted process event before after site other steps ended stood step stands same is =
     ap₂ ends_with same (is ∙ ap (λ (one : Option Stood). ends_after site process one
-    (ended_at (state_in after.world process)) steps) stands)
+    (everything_at_end (state_in after.world process)) steps) stands)
     ∙ ap (λ (one : Option ℕ). ends_of_step one before.world after.world (ends_with site steps)) (sym step)

@@ -1,6 +1,8 @@
 -- With which step each process ended, as it is noted over the steps of a run. Our own.
 use Rattle.std.specs.Option.{option_map, option_and_then}
-use Rattle.std.specs.Prelude.{ℕ, Bool, true, false, if◌then◌else◌, List, [], slice_get, slice_set, Option, Some, None}
+use Rattle.std.specs.Prelude.{ℕ, ℤ, Bool, true, false, if◌then◌else◌, List, [], slice_get, slice_set, Option, Some}
+use Rattle.std.specs.Prelude.{None}
+use Rattle.machine_views.specs.Views.{image_of_everything}
 use Rattle.noted_rules.specs.Noted.{Noting}
 use Rattle.process_semantics.specs.Image.{image_of}
 use Rattle.process_semantics.specs.Process.{ProcessState, in_hand, point}
@@ -65,31 +67,35 @@ stood_at s =
 abbrev pub stood_by : Option ProcessState → Option Stood
 stood_by s = option_and_then stood_at s
 
-abbrev pub ended_at : Option ProcessState → Bool
-ended_at None = false
-ended_at (Some s) = has_ended (point s)
+-- the image with everything of a process that has ended. A step that traps changes no item
+abbrev pub everything_at_end : Option ProcessState → Option (List ℤ)
+everything_at_end None = None
+everything_at_end (Some s) = if has_ended (point s) then Some (image_of_everything s) else None
 
 -- Ends
 
--- the step with which a process of a kind ended that stood so; a disc never ends
-abbrev pub end_of_kind : Kind → Stood → Option LastStep
-end_of_kind (kind.Disc sectors mirrored) stood = None
-end_of_kind (kind.Pair program) stood = Some (end_of_program program stood.words stood.in_hand)
+-- the step with which a process of a kind ended that stood so, by its image with everything at that end; a disc never
+-- ends
+abbrev pub end_of_kind : Kind → Stood → List ℤ → Option LastStep
+end_of_kind (kind.Disc sectors mirrored) stood everything = None
+end_of_kind (kind.Pair program) stood everything =
+    Some (end_of_program program stood.words stood.in_hand everything)
 
-abbrev pub end_of_spec : Option ProcessSpec → Option Stood → Option LastStep
-end_of_spec None stood = None
-end_of_spec (Some spec) None = None
-end_of_spec (Some spec) (Some stood) = end_of_kind spec.what stood
+abbrev pub end_of_spec : Option ProcessSpec → Option Stood → List ℤ → Option LastStep
+end_of_spec None stood everything = None
+end_of_spec (Some spec) None everything = None
+end_of_spec (Some spec) (Some stood) everything = end_of_kind spec.what stood everything
 
 -- the steps with which the processes of a site ended, each in its place, once one more has
 abbrev pub with_end : ℕ → Option LastStep → List (Option LastStep) → List (Option LastStep)
 with_end process None steps = steps
 with_end process (Some step) steps = slice_set steps process (Some step)
 
--- after a step of a process that stood so before it, and has ended by it or hasn't
-abbrev pub ends_after : Site → ℕ → Option Stood → Bool → List (Option LastStep) → List (Option LastStep)
-ends_after site process stood ended steps =
-    if ended then with_end process (end_of_spec (slice_get site.processes process) stood) steps else steps
+-- after a step of a process that stood so before it, and has ended by it with this image or hasn't
+abbrev pub ends_after : Site → ℕ → Option Stood → Option (List ℤ) → List (Option LastStep) → List (Option LastStep)
+ends_after site process stood None steps = steps
+ends_after site process stood (Some everything) steps =
+    with_end process (end_of_spec (slice_get site.processes process) stood everything) steps
 
 -- Notes
 
@@ -100,8 +106,8 @@ pub record Ends : Type 0 where
 
 abbrev pub ends_of_run : ℕ → World → World → Ends → Ends
 ends_of_run process before after ends = record ends {
-  steps = ends_after ends.site process (stood_by (state_in before process)) (ended_at (state_in after process))
-      ends.steps;
+  steps = ends_after ends.site process (stood_by (state_in before process))
+      (everything_at_end (state_in after process)) ends.steps;
 }
 
 -- the process of which an event is a step

@@ -6,9 +6,9 @@ ghost use Rattle.noted_rules.specs.packet_runs.specs.Runs.{concerned, is_alive, 
 ghost use Rattle.processes.specs.Seen.{state_of};
 ghost use Rattle.noted_rules.specs.packet_runs.specs.site_machine.specs.Needs.{IsReady};
 ghost use Rattle.noted_runs.specs.Steps as ends;
-ghost use Rattle.noted_runs.specs.Steps.{ends_after, noting_ends, state_in, stepped, stood_by};
+ghost use Rattle.noted_runs.specs.Steps.{ends_after, everything_at_end, noting_ends, state_in, stepped, stood_by};
 
-use crate::steps::{Stood, acting_of, end_of_spec, ended_at, put_end, stood_at};
+use crate::steps::{Stood, acting_of, end_of_spec, everything_at_end, put_end, stood_at};
 use gd_words::{List, NoMemory};
 use machine_states::Effect;
 use packet_runs::site_machine::Machine;
@@ -73,14 +73,15 @@ impl<'a> NotedPackets<'a> {
     /// Notes the step with which a process ended that stood so before it, if it has.
     fn note(&mut self, process: usize, stood: Option<Stood>) -> Result<(), NoMemory>
         ensures steps { OnOk result (self.new.steps ≡ ends_after self.old.site.now process stood
-            (ends.ended_at (state_in self.old.machine.state.world process)) self.old.steps) }
+            (everything_at_end (state_in self.old.machine.state.world process)) self.old.steps) }
         ensures machine { self.new.machine ≡ self.old.machine }
         ensures site { self.new.site ≡ self.old.site }
     {
-        if !ended_at(self.acting(process)) {
+        let Some(everything) = everything_at_end(self.alloc, self.acting(process))? else {
             return Ok(());
-        }
-        let step = end_of_spec(self.alloc, self.site.processes.get(process), stood)?;
+        };
+        let spec = self.site.processes.get(process);
+        let step = end_of_spec(self.alloc, spec, stood, everything.as_slice())?;
         put_end(&mut self.steps, process, step);
         Ok(())
     }

@@ -2,11 +2,12 @@ ghost use Rattle.std.specs.Prelude.{◌≡◌, Some, IfOk};
 ghost use Rattle.std.specs.Option.{option_copied, option_map};
 ghost use Rattle.processes.specs.Seen.{state_of};
 ghost use Rattle.program_ends.specs.Ends.{end_of_program};
-ghost use Rattle.noted_runs.specs.Steps.{acting_of, end_of_kind, end_of_spec, ended_at, has_ended, is_acting};
-ghost use Rattle.noted_runs.specs.Steps.{is_inner, stood_at, stood_by, with_end};
+ghost use Rattle.noted_runs.specs.Steps.{acting_of, end_of_kind, end_of_spec, everything_at_end, has_ended};
+ghost use Rattle.noted_runs.specs.Steps.{is_acting, is_inner, stood_at, stood_by, with_end};
 
 use checkpoint_image::{Behaviour, Listed};
 use gd_words::{List, NoMemory};
+use machine_views::image_of_everything;
 use packet_runs::site_machine::process_copies::ProcessCopies;
 use process_semantics::Point;
 use processes::Process;
@@ -89,14 +90,28 @@ fn is_inner(point: Point) -> bool
     }
 }
 
-/// Whether a process has ended.
-pub(crate) fn ended_at(process: Option<&Process>) -> bool
-    ensures { result ≡ ended_at (option_map state_of (option_copied process.entry)) }
+/// The image with everything of a process, if it has ended.
+pub(crate) fn everything_at_end(
+    alloc: Global,
+    process: Option<&Process>,
+) -> Result<Option<List<i16>>, NoMemory>
+    ensures { IfOk result (λ words. words
+        ≡ everything_at_end (option_map state_of (option_copied process.entry))) }
 {
     match process {
-        None => false,
-        Some(process) => has_ended(process.at()),
+        None => Ok(None),
+        Some(process) => everything_if_ended(alloc, process),
     }
+}
+
+fn everything_if_ended(alloc: Global, process: &Process) -> Result<Option<List<i16>>, NoMemory>
+    ensures { IfOk result (λ words. words ≡ everything_at_end (Some (state_of process.now))) }
+{
+    if !has_ended(process.at()) {
+        return Ok(None);
+    }
+    let words = image_of_everything(alloc, process)?;
+    Ok(Some(words))
 }
 
 fn has_ended(point: Point) -> bool
@@ -114,27 +129,33 @@ fn has_ended(point: Point) -> bool
     }
 }
 
-/// The step with which a process ended that stood so.
+/// The step with which a process ended that stood so, by its image with everything at that end.
 pub(crate) fn end_of_spec(
     alloc: Global,
     spec: Option<&ProcessSpec>,
     stood: Option<Stood>,
+    everything: &[i16],
 ) -> Result<Option<LastStep>, NoMemory>
-    ensures { IfOk result (λ step. step ≡ end_of_spec (option_copied spec.entry) stood) }
+    ensures { IfOk result (λ step. step ≡ end_of_spec (option_copied spec.entry) stood everything.now) }
 {
     match (spec, stood) {
-        (Some(spec), Some(stood)) => end_of_kind(alloc, &spec.what, &stood),
+        (Some(spec), Some(stood)) => end_of_kind(alloc, &spec.what, &stood, everything),
         (Some(_), None) => Ok(None),
         (None, _) => Ok(None),
     }
 }
 
-fn end_of_kind(alloc: Global, what: &Kind, stood: &Stood) -> Result<Option<LastStep>, NoMemory>
-    ensures { IfOk result (λ step. step ≡ end_of_kind what.now stood.now) }
+fn end_of_kind(
+    alloc: Global,
+    what: &Kind,
+    stood: &Stood,
+    everything: &[i16],
+) -> Result<Option<LastStep>, NoMemory>
+    ensures { IfOk result (λ step. step ≡ end_of_kind what.now stood.now everything.now) }
 {
     match what {
         Kind::Disc { .. } => Ok(None),
-        Kind::Pair(program) => end_of_stood(alloc, program, stood),
+        Kind::Pair(program) => end_of_stood(alloc, program, stood, everything),
     }
 }
 
@@ -142,11 +163,13 @@ fn end_of_stood(
     alloc: Global,
     program: &Program,
     stood: &Stood,
+    everything: &[i16],
 ) -> Result<Option<LastStep>, NoMemory>
     ensures { IfOk result (λ step. step
-        ≡ Some (end_of_program program.now stood.now.words stood.now.in_hand)) }
+        ≡ Some (end_of_program program.now stood.now.words stood.now.in_hand everything.now)) }
 {
-    let step = end_of_program(alloc, program, stood.words.as_slice(), stood.in_hand)?;
+    let words = stood.words.as_slice();
+    let step = end_of_program(alloc, program, words, stood.in_hand, everything)?;
     Ok(Some(step))
 }
 
