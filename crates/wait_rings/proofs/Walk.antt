@@ -185,6 +185,7 @@ ring-is awaited first ring is =
 pub ring-found : (awaited : List (Option ℕ)) (first : ℕ) (rest : List ℕ) → IsRing awaited (first ∷ rest)
     → BeginsLowest (first ∷ rest) → (first < length awaited) × (ring_of awaited first ≡ Some (first ∷ rest))
 ring-found awaited first rest ring lowest =
-    let there : (n : ℕ) → IsAmong n (first ∷ rest) → n < length awaited = await-there awaited first (first ∷ rest) ring.1 in
+    let there : (n : ℕ) → IsAmong n (first ∷ rest) → n < length awaited =
+    await-there awaited first (first ∷ rest) ring.1 in
     let few : length (first ∷ rest) ≤ length awaited = distinct-few (first ∷ rest) (length awaited) ring.0 there in
     (there first (inl refl), walk-finds awaited (length awaited) first first [] rest (omega arith) ring.1 lowest)
