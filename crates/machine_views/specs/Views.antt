@@ -9,6 +9,7 @@ use Rattle.process_semantics.specs.declared.point.Point.{Point}
 use Rattle.process_semantics.specs.declared.point.Point.TheVariants.{Await}
 use Rattle.process_semantics.specs.Image.{image_of}
 use Rattle.process_semantics.specs.Process.{ProcessState, asked_file, point}
+use Rattle.processes.specs.Seen.{next_number_of}
 use Rattle.world_semantics.specs.Core.{Core, next_on}
 use Rattle.world_semantics.specs.World as world
 use Rattle.world_semantics.specs.World.{Copy, Pair, World, has_noted, terminal_node}
@@ -84,6 +85,7 @@ copy_view process copy = record {
   sent = copy.sent;
   awaited = awaited_by copy.core;
   point = point copy.core.state;
+  next = next_number_of copy.core.state;
   state = image_of_everything copy.core.state;
   files = each_at file_number 0 copy.core.next;
   receive = copy.core.receive;

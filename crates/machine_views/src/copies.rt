@@ -67,6 +67,7 @@ fn view_of(alloc: Global, process: u8, copy: &NodeCopy) -> Result<CopyView, NoMe
         sent: control.sent(),
         awaited: awaited(control),
         point: control.point(),
+        next: control.behaviour().next_number(),
         state,
         files,
         receive,

@@ -24,8 +24,9 @@ pub struct DownView {
 
 /// A copy of a process in its processor. `number` is that of the last checkpoint sent or applied in its era, and `sent`
 /// says whether that of the CHECKPOINT at which it stands was sent. `awaited` is the request whose reply it awaits.
-/// `state` is the image of its process with everything that may be listed: at a checkpoint that of the state after it.
-/// `files` has the number of the next request on each file.
+/// `next` is the number of what its program does next, in the program's text: at a checkpoint that of the CHECKPOINT
+/// itself. `state` is the image of its process with everything that may be listed: at a checkpoint that of the state
+/// after it. `files` has the number of the next request on each file.
 #[derive(Drop)]
 pub struct CopyView {
     pub process: u8,
@@ -36,6 +37,7 @@ pub struct CopyView {
     pub sent: bool,
     pub awaited: Option<Awaited>,
     pub point: Point,
+    pub next: u16,
     pub state: List<i16>,
     pub files: List<FileNumber>,
     pub receive: ReceiveBlock,

@@ -1,7 +1,7 @@
 ghost use Rattle.std.specs.Prelude.{◌≡◌, IfOk};
 ghost use Rattle.checkpoint_image.specs.Behaving.{last_write_of};
 ghost use Rattle.process_semantics.specs.Process.{asked_file, asked_words, start_of};
-ghost use Rattle.processes.specs.Seen.{IsLoadableKind, state_of};
+ghost use Rattle.processes.specs.Seen.{IsLoadableKind, next_number_of, state_of};
 
 use checkpoint_image::{Behaviour, Listed};
 use disc_process::DiscProcess;
@@ -50,6 +50,17 @@ impl Process {
         match self {
             Process::Program(program) => program.asked_words(),
             Process::Disc(_) => Words::new(),
+        }
+    }
+
+    /// The number of what it does next: at a CHECKPOINT that of the CHECKPOINT itself. 0 at a procedure's end, where it
+    /// has ended, and for a disc.
+    pub fn next_number(&self) -> u16
+        ensures { result ≡ next_number_of (state_of self.now) }
+    {
+        match self {
+            Process::Program(program) => program.next_number(),
+            Process::Disc(_) => 0,
         }
     }
 

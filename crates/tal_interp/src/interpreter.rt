@@ -1,6 +1,7 @@
 ghost use Rattle.std.specs.Prelude.{◌≡◌, ◌≤◌, [], false, length, drop, IfOk, IfSome, IfNone};
 ghost use Rattle.tal_values.specs.Seen.{seen};
 ghost use Rattle.process_semantics.specs.Changes.{done, ends, with_hand, with_waiting, with_word, with_words};
+ghost use Rattle.process_semantics.specs.Rests.{next_number};
 ghost use Rattle.process_semantics.specs.State.{memory_of, rest_of, start, words_of};
 ghost use Rattle.program_deeds.specs.Doing.{going_on};
 ghost use Rattle.tal_table.specs.Places.{places, rest_at};
@@ -106,6 +107,16 @@ impl Interpreter {
         match &self.running {
             None => None,
             Some(frame) => self.table.node(frame.at),
+        }
+    }
+
+    /// The number of the entry that comes next: 0 at a procedure's end, and where the program has ended.
+    pub(crate) fn next_number(&self) -> u16
+        ensures { result ≡ next_number (rest_of self.now.state.frames) }
+    {
+        match &self.running {
+            None => 0,
+            Some(frame) => self.table.next_number(frame.at),
         }
     }
 

@@ -2,6 +2,8 @@ ghost use Rattle.std.specs.Prelude.{◌≡◌, ◌≤◌, length, IfOk};
 ghost use Rattle.tal_tree.specs.declared.site.Kind.TheVariants.{Pair};
 ghost use Rattle.process_semantics.specs.Calls.{asked_file, asked_words};
 ghost use Rattle.process_semantics.specs.Process.{start_of};
+ghost use Rattle.process_semantics.specs.Rests.{next_number};
+ghost use Rattle.process_semantics.specs.State.{rest_of};
 ghost use Rattle.tal_interp.specs.Sound.{IsLoadable};
 
 use crate::interpreter::Interpreter;
@@ -63,6 +65,14 @@ impl TalProcess {
         ensures { result ≡ asked_words self.now.program self.now.state }
     {
         self.interpreter.asked_words()
+    }
+
+    /// The number of what it does next: at a CHECKPOINT that of the CHECKPOINT itself. 0 at a procedure's end, and
+    /// where it has ended.
+    pub fn next_number(&self) -> u16
+        ensures { result ≡ next_number (rest_of self.now.state.frames) }
+    {
+        self.interpreter.next_number()
     }
 }
 
