@@ -3,9 +3,14 @@ use Rattle.std.specs.Prelude.{true, false, List, [], ◌∷◌}
 use Rattle.gd_words.specs.declared.message.Request.{Request}
 use Rattle.checkpoint_image.specs.declared.receive.ReceiveBlock.{ReceiveBlock}
 use Rattle.process_semantics.specs.Process.{ProcessState}
+use Rattle.process_semantics.specs.State.{Entry, Frame}
 use Rattle.world_semantics.specs.declared.role.Role.TheVariants.{Acting, Watching}
 use Rattle.world_semantics.specs.Core.{Core}
 use Rattle.world_semantics.specs.World.{Copy}
+
+-- a frame in which this remains
+abbrev pub framed : List Entry → Frame
+framed rest = record { procedure = 2; locals = []; rest = rest }
 
 -- a core with two files
 abbrev pub core_of : ProcessState → ReceiveBlock → Core

@@ -1,14 +1,18 @@
 ghost use Rattle.std.specs.Prelude.{◌≡◌, [], ◌∷◌, ◌-◌, true, false, Some, None};
 ghost use Rattle.gd_words.specs.declared.message.Request.{Request};
 ghost use Rattle.checkpoint_image.specs.declared.receive.ReceiveBlock.{ReceiveBlock};
-ghost use Rattle.process_semantics.specs.Process.{ProcessState, asked_file, point};
+ghost use Rattle.process_semantics.specs.Process.{ProcessState, Runs, Serves, asked_file, point};
+ghost use Rattle.process_semantics.specs.State.{Execution, Frame, Run};
+ghost use Rattle.process_semantics.specs.declared.disc.DiscState.{DiscState};
 ghost use Rattle.process_semantics.specs.declared.point.Point.TheVariants.{Await, Take};
+ghost use Rattle.processes.specs.Seen.{next_number_of};
+ghost use Rattle.tal_tree.specs.declared.statement.Statement.{Statement};
 ghost use Rattle.world_semantics.specs.declared.role.Role.TheVariants.{Acting, Watching};
 ghost use Rattle.world_semantics.specs.World.{World};
 ghost use Rattle.world_semantics.specs.Core.{Core, next_on};
 ghost use Rattle.machine_views.specs.Views.{awaited_at, awaited_by, copy_view, image_of_everything, marks_in};
 ghost use Rattle.machine_views.specs.Views.{sector_views, stopped_in, terminal_view, view_of};
-ghost use Rattle.view_guards.specs.Copies.{acting, core_of, watching};
+ghost use Rattle.view_guards.specs.Copies.{acting, core_of, framed, watching};
 
 /// Each field of a copy is told in its own place: of two copies that differ in all of them.
 pub fn a_copy_is_told_field_by_field()
@@ -22,6 +26,7 @@ pub fn a_copy_is_told_field_by_field()
           sent = true;
           awaited = awaited_by (core_of state table);
           point = point state;
+          next = next_number_of state;
           state = image_of_everything state;
           files = record { file = 0; next = 5 } ∷ record { file = 1; next = 6 } ∷ [];
           receive = table;
@@ -37,11 +42,24 @@ pub fn a_copy_is_told_field_by_field()
           sent = false;
           awaited = awaited_by (core_of state table);
           point = point state;
+          next = next_number_of state;
           state = image_of_everything state;
           files = record { file = 0; next = 5 } ∷ record { file = 1; next = 6 } ∷ [];
           receive = table;
           waiting = b ∷ [];
         } }
+{}
+
+/// A program does next what stands first in the procedure that runs, whatever comes behind it and in its callers:
+/// nothing has the number 0. A disc has none.
+pub fn a_copy_tells_what_it_does_next()
+    ensures first { (it : Execution) (first second : Statement) (caller : Frame)
+        → next_number_of (Runs it.program
+        (record it.state { frames = framed (Run first ∷ Run second ∷ []) ∷ caller ∷ [] })) ≡ first.number }
+    ensures at_end { (it : Execution) (caller : Frame)
+        → next_number_of (Runs it.program (record it.state { frames = framed [] ∷ caller ∷ [] })) ≡ 0 }
+    ensures ended { (it : Execution) → next_number_of (Runs it.program (record it.state { frames = [] })) ≡ 0 }
+    ensures disc { (disc : DiscState) → next_number_of (Serves 4 disc) ≡ 0 }
 {}
 
 /// A reply is awaited at Await alone: that to the last request on the file on which the process asked.
