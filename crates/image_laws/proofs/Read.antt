@@ -113,7 +113,7 @@ Told = (program : Program) (procedure : Procedure) (entry : Entry) (rest : List 
     → entry_at program (entry_number entry) ≡ Some entry
 
 module _ (told : Told) (program : Program) where
-  coming : (frames : List Frame) → IsNumbered program → AreFrames program frames
+  pub coming : (frames : List Frame) → IsNumbered program → AreFrames program frames
       → entry_at program (next_number (rest_of frames)) ≡ state.next_of frames
   coming [] numbered are = refl
   coming (frame ∷ callers) numbered are = by_rest frame.rest are.0.rest

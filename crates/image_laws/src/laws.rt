@@ -1,4 +1,5 @@
 ghost use Rattle.std.specs.Prelude.{◌≡◌, ℕ, List, length};
+ghost use Rattle.std.specs.Option.{option_map};
 ghost use Rattle.image_places.specs.Memories.{memory_in};
 ghost use Rattle.image_places.specs.Running.{depth_in, next_in};
 ghost use Rattle.process_images.specs.Images.{listable_from};
@@ -6,7 +7,7 @@ ghost use Rattle.process_semantics.specs.Changes.{ends};
 ghost use Rattle.process_semantics.specs.Image.{program_words};
 ghost use Rattle.process_semantics.specs.Rests.{next_number};
 ghost use Rattle.process_semantics.specs.State.{ProgramState, memory_of, next_of, rest_of};
-ghost use Rattle.program_ends.specs.Ends.{at_entry, coming_in, end_of_program};
+ghost use Rattle.program_ends.specs.Ends.{at_entry, coming_in, end_of_program, line_of_entry, line_of_number};
 ghost use Rattle.tal_tree.specs.Ordered.{IsNumbered};
 ghost use Rattle.tal_tree.specs.declared.program.Program.{Program};
 ghost use Rattle.whole_states.specs.Whole.{IsWhole};
@@ -31,6 +32,14 @@ pub fn an_image_tells_what_comes_next()
         → end_of_program program (program_words items s) s.in_hand
         (program_words (listable_from 0 program.items) (ends s))
         ≡ at_entry (memory_of program s) (length s.frames) s.in_hand (next_of s.frames) }
+{
+    numbers_tell_what_comes_next();
+}
+
+/// The line of the number of what comes next in a state that a program may be in is the line of what comes next.
+pub fn a_number_tells_the_line_of_what_comes_next()
+    ensures { (program : Program) (s : ProgramState) → IsNumbered program → IsWhole program s
+        → line_of_number program (next_number (rest_of s.frames)) ≡ option_map line_of_entry (next_of s.frames) }
 {
     numbers_tell_what_comes_next();
 }

@@ -1,15 +1,16 @@
-ghost use Rattle.std.specs.Prelude.{◌≡◌, ℤ, List, [], true, false, Some, None};
+ghost use Rattle.std.specs.Prelude.{◌≡◌, ℕ, [], true, false, Some, None};
 ghost use Rattle.left_findings.specs.machine_views.specs.declared.views.Awaited.{Awaited};
 ghost use Rattle.left_findings.specs.machine_views.specs.declared.views.CopyView.{CopyView};
 ghost use Rattle.process_semantics.specs.declared.point.Point.TheVariants as point;
+ghost use Rattle.tal_tree.specs.declared.site.Kind.TheVariants as kind;
 ghost use Rattle.tal_tree.specs.declared.site.ProcessSpec.{ProcessSpec};
 ghost use Rattle.tal_tree.specs.declared.site.Site.{Site};
 ghost use Rattle.world_semantics.specs.declared.role.Role.TheVariants as role;
-ghost use Rattle.program_ends.specs.Ends.{line_of_program};
+ghost use Rattle.program_ends.specs.Ends.{line_of_number};
 ghost use Rattle.tal_tree.specs.declared.program.Program.{Program};
 ghost use Rattle.left_findings.specs.Left.{acting_among, is_acting_as, left_by, server_of_stand};
 ghost use Rattle.left_findings.specs.Left.{stand_at_point, stand_awaiting, stand_checked, terminal_left};
-ghost use Rattle.left_findings.specs.Places.{line_at_point};
+ghost use Rattle.left_findings.specs.Places.{line_of_copy};
 ghost use Rattle.left_findings.specs.declared.finding.Stand.TheVariants as stand;
 ghost use Rattle.left_findings.specs.declared.finding.TerminalLeft.TheVariants as terminal;
 
@@ -50,15 +51,15 @@ pub fn one_request_has_no_reply()
     ensures nothing { terminal_left (record { entered = 0; printed = 0 }) ≡ terminal.Answered 0 }
 {}
 
-/// A copy stands at the line of what comes next. At a checkpoint, whose image is of the state after it, and once it has
-/// ended, no line is told.
+/// A copy stands at the line of what it does next, whether it waits there or not; a disc stands at none.
 pub fn a_copy_stands_at_the_line_that_comes_next()
-    ensures inner { (program : Program) (words : List ℤ)
-        → line_at_point program point.Inner words ≡ line_of_program program words }
-    ensures take { (program : Program) (words : List ℤ)
-        → line_at_point program point.Take words ≡ line_of_program program words }
-    ensures awaits { (program : Program) (words : List ℤ)
-        → line_at_point program point.Await words ≡ line_of_program program words }
-    ensures checkpoint { (program : Program) (words : List ℤ) → line_at_point program point.AtCheckpoint words ≡ None }
-    ensures ended { (program : Program) (words : List ℤ) → line_at_point program point.Ended words ≡ None }
+    ensures inner { (program : Program) (copy : CopyView)
+        → line_of_copy (kind.Pair program) (record copy { point = point.Inner; next = 7 })
+        ≡ line_of_number program 7 }
+    ensures checkpoint { (program : Program) (copy : CopyView)
+        → line_of_copy (kind.Pair program) (record copy { point = point.AtCheckpoint; next = 8 })
+        ≡ line_of_number program 8 }
+    ensures disc { (sectors : ℕ) (copy : CopyView)
+        → line_of_copy (kind.Disc sectors true) (record copy { next = 7 }) ≡ None }
+    ensures nothing { (program : Program) → line_of_number program 0 ≡ None }
 {}

@@ -93,9 +93,9 @@ line_of_entry (Run statement) = statement.line
 line_of_entry (Test statement) = statement.line
 line_of_entry (Last statement) = statement.line
 
--- the line of what comes next; none at a procedure's end
-abbrev pub line_of_program : Program → List ℤ → Option ℕ
-line_of_program program words = option_map line_of_entry (coming_in program words)
+-- the line of what has this number; none of 0, where nothing comes
+abbrev pub line_of_number : Program → ℕ → Option ℕ
+line_of_number program number = option_map line_of_entry (entry_at program number)
 
 -- a trap, and no end that the program asks for
 abbrev pub is_trap : LastStep → Bool

@@ -4,7 +4,7 @@ ghost use Rattle.process_semantics.specs.SeenEntries.{entry_of};
 ghost use Rattle.tal_tree.specs.declared.statement.What.{out-What};
 ghost use Rattle.tal_values.specs.Seen.{seen};
 ghost use Rattle.program_ends.specs.Ends.{at_end, at_entry, at_return, at_statement, by_value, end_of_program};
-ghost use Rattle.program_ends.specs.Ends.{line_of_entry, line_of_program, of_reading, of_replying, trapping};
+ghost use Rattle.program_ends.specs.Ends.{line_of_entry, line_of_number, of_reading, of_replying, trapping};
 ghost use Rattle.program_ends.specs.Traps.{trap_of_result};
 
 use crate::traps::{trap_in_count, trap_in_statement, trap_in_test, trap_of_result};
@@ -70,17 +70,16 @@ pub fn end_of_program(
     Ok(step)
 }
 
-/// The line of a program's text at which it stands by the words of its image; none at a procedure's end.
-pub fn line_of_program(
+/// The line of a program's text on which what has this number stands; none of 0.
+pub fn line_of_number(
     alloc: Global,
     program: &Program,
-    words: &[i16],
+    number: u16,
 ) -> Result<Option<u32>, NoMemory>
-    ensures { IfOk result (λ line. line ≡ line_of_program program.now words.now) }
+    ensures { IfOk result (λ line. line ≡ line_of_number program.now number) }
 {
     let entries = entries_of(alloc, program)?;
-    let entry = entries.at(next_in(program, words));
-    Ok(line_of_next(entry))
+    Ok(line_of_next(entries.at(number)))
 }
 
 fn line_of_next(next: Option<Entry<'_>>) -> Option<u32>

@@ -2,16 +2,16 @@
 //! trap of a value it is told which one it was.
 //!
 //! Below stand `program_entries` with what a number stands for, `image_places` with the number of what comes next and
-//! the words that it read, by the words of images, and `value_traps`. The layer above uses `end_of_program`, whose
-//! answer is that of `specs/Ends.antt`, and the laws that a step which ends a program is such a one, and that a trap of
-//! a value that is told is one.
+//! the words that it read, by the words of images, and `value_traps`. The layer above uses `end_of_program` and
+//! `line_of_number`, whose answers are those of `specs/Ends.antt`, and the laws that a step which ends a program is such
+//! a one, and that a trap of a value that is told is one.
 #![tactic(auto)]
 
 pub mod ending;
 pub mod laws;
 mod traps;
 
-pub use ending::{LastStep, Trap, end_of_program, line_of_program};
+pub use ending::{LastStep, Trap, end_of_program, line_of_number};
 pub use laws::{
     a_call_traps_for_its_hand_or_its_count, a_program_ends_so, a_trap_that_is_told_is_one,
 };
