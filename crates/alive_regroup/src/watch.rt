@@ -1,4 +1,5 @@
 ghost use Rattle.std.specs.Prelude.{◌≡◌, ◌≤◌, ◌<◌, ◌+◌, ℕ, take, drop, true, false, map, not, length, IfSome, IfNone};
+ghost use Rattle.std.specs.Prelude.{slice_get};
 ghost use Rattle.std.specs.Bool.{OnTrue};
 ghost use Rattle.std.specs.List.{list_all};
 ghost use Rattle.alive_regroup.specs.Sets.{has};
@@ -87,6 +88,13 @@ impl Watch {
             Some(neighbour) => neighbour.is_down(),
             None => false,
         }
+    }
+
+    /// What the node knows of a number up to 15.
+    pub fn neighbour(&self, processor: u8) -> Option<Neighbour>
+        ensures { result ≡ slice_get self.now.neighbours processor }
+    {
+        self.neighbours.get(usize::from(processor)).copied()
     }
 
     /// The node's tick: the silent set to report, where a check changed it.
