@@ -170,6 +170,27 @@ impl Channel {
         self.sender.is_idle()
     }
 
+    /// The sender's end of the direction to the other node.
+    pub fn sender(&self) -> &Sender
+        ensures { result.now ≡ self.now.sending }
+    {
+        &self.sender
+    }
+
+    /// The number of the last piece that came from the other node and was kept; 0 before the first.
+    pub fn kept(&self) -> u32
+        ensures { result ≡ self.now.receiving.kept }
+    {
+        self.kept
+    }
+
+    /// Whether the other node was marked down.
+    pub fn is_down(&self) -> bool
+        ensures { result ≡ self.now.down }
+    {
+        self.down
+    }
+
     /// Whether one more piece can be numbered, and one more kept.
     pub fn has_numbers_left(&self) -> bool
         ensures { IsTrue result ↔ HasNumbersLeft self.now }

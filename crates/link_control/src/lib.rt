@@ -6,6 +6,7 @@
 #![tactic(auto)]
 
 pub mod channel;
-mod sender;
+pub mod sender;
 
 pub use channel::{Arrived, Channel, Resent};
+pub use sender::Sender;

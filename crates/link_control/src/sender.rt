@@ -1,4 +1,5 @@
-ghost use Rattle.std.specs.Prelude.{◌≡◌, ◌<◌, ◌≤◌, ◌+◌, true, OnOk, OnErr};
+ghost use Rattle.std.specs.Prelude.{◌≡◌, ◌<◌, ◌≤◌, ◌+◌, true, length, slice_get, OnOk, OnErr};
+ghost use Rattle.std.specs.Option.{option_copied};
 ghost use Rattle.gd_words.specs.Ranges.{HasNext};
 ghost use Rattle.link_control.specs.Ends.{Sending, idle_after, begun, is_idle, after_push_of, is_ended_by};
 ghost use Rattle.link_control.specs.Ends.{after_acknowledgement, is_sent_again, after_tick_of, piece_of, moved_on};
@@ -71,6 +72,27 @@ impl Sender {
         ensures { result ≡ self.now.numbered }
     {
         self.numbered
+    }
+
+    /// Which piece of the oldest message is outstanding, from 0.
+    pub fn place(&self) -> u32
+        ensures { result ≡ self.now.place }
+    {
+        self.place
+    }
+
+    /// How many messages aren't acknowledged whole.
+    pub fn count(&self) -> usize
+        ensures { result ≡ length self.now.queue }
+    {
+        self.queue.len()
+    }
+
+    /// The message at a place among these, the oldest at 0.
+    pub fn message(&self, place: usize) -> Option<&List<i16>>
+        ensures { option_copied result ≡ slice_get self.now.queue place }
+    {
+        self.queue.get(place)
     }
 
     /// The bus over which the outstanding piece is sent again next.
