@@ -5,12 +5,13 @@
 //! message is written in its words, and that `read` gives the message that words tell, or none.
 #![tactic(auto)]
 
-mod masks;
+pub mod masks;
 pub mod message;
 pub mod reading;
 mod unread;
 pub mod writing;
 
+pub use masks::set_of;
 pub use message::NodeMessage;
 pub use reading::read;
 pub use writing::{

@@ -34,7 +34,7 @@ fn bit(member: bool) -> u16
 }
 
 /// The set whose members are the processors p of which bit p of a number is 1.
-pub(crate) fn set_of(mask: u16) -> ProcessorSet
+pub fn set_of(mask: u16) -> ProcessorSet
     ensures { result.members ≡ bits_of 16 mask }
 {
     let mut members = [false; 16];
