@@ -1,6 +1,7 @@
 ghost use Rattle.std.specs.Prelude.{◌≡◌, ◌<◌, ◌==◌, ◌&&◌, not, length, slice_get, IfOk, OnOk};
 ghost use Rattle.std.specs.Bool.{OnTrue};
 ghost use Rattle.std.specs.List.{list_all};
+ghost use Rattle.std.specs.Option.{option_copied};
 ghost use Rattle.alive_regroup.specs.Watching as watching;
 ghost use Rattle.alive_regroup.specs.Watching.{changed_at, is_held, told_by_tick};
 ghost use Rattle.link_control.specs.Ends.{after_down, after_packet, after_push, after_tick, alive_of, handed_by_packet};
@@ -146,6 +147,20 @@ impl Node {
             None => true,
             Some(channel) => channel.is_empty(),
         }
+    }
+
+    /// The node's end of its channel with a node.
+    pub fn end(&self, to: u8) -> Option<&Channel>
+        ensures { option_copied result ≡ slice_get self.now.ends to }
+    {
+        self.ends.get(usize::from(to))
+    }
+
+    /// What the node knows of the processors.
+    pub fn watch(&self) -> Watch
+        ensures { result ≡ self.now.watch }
+    {
+        self.watch
     }
 
     /// Whether the node is known to hold nothing at any end: no message to send, and no piece that isn't acknowledged.

@@ -1,7 +1,7 @@
 ghost use Rattle.std.specs.Prelude.{◌≡◌, ◌<◌, ◌≤◌, ◌==◌, ◌++◌, ◌∷◌, [], ℕ, None, Some, length, slice_get};
 ghost use Rattle.std.specs.Prelude.{if◌then◌else◌, IfOk, OnOk};
 ghost use Rattle.std.specs.Bool.{OnTrue};
-ghost use Rattle.std.specs.Option.{option_and_then, option_copied};
+ghost use Rattle.std.specs.Option.{option_and_then, option_copied, option_map};
 ghost use Rattle.packet_words.specs.declared.packet.Packet.{Packet};
 ghost use Rattle.alive_regroup.specs.Watching as watching;
 ghost use Rattle.alive_regroup.specs.Watching.{changed_at};
@@ -18,10 +18,10 @@ ghost use Rattle.event_parts.specs.Parts.{carried_out, completed_by, delivered, 
 ghost use Rattle.node.specs.Calls.{IsQuiet, alive_address, arrive_by, both_go};
 
 use crate::node::{NODES, Node};
-use alive_regroup::ProcessorSet;
+use alive_regroup::{ProcessorSet, Watch};
 use bus_model::Bus;
 use gd_words::{List, NoMemory};
-use link_control::Resent;
+use link_control::{Channel, Resent};
 use message_words::{down_words, report_words};
 use packet_words::{BusName, Packet, PacketKind};
 use std::alloc::Global;
@@ -116,6 +116,22 @@ impl PacketWires {
             None => true,
             Some(node) => node.holds_nothing(to),
         }
+    }
+
+    /// The end that a node has of its channel with another.
+    pub fn end_at(&self, from: u8, to: u8) -> Option<&Channel>
+        ensures { option_copied result ≡ end_at self.now.nodes from to }
+    {
+        let node = self.nodes.get(usize::from(from))?;
+        node.end(to)
+    }
+
+    /// What a node knows of the processors.
+    pub fn watch_at(&self, node: u8) -> Option<Watch>
+        ensures { result ≡ option_map (λ node. node.watch) (slice_get self.now.nodes node) }
+    {
+        let node = self.nodes.get(usize::from(node))?;
+        Some(node.watch())
     }
 
     /// A packet goes over a bus.
