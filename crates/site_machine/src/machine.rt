@@ -1,12 +1,14 @@
 ghost use Rattle.std.specs.Prelude.{◌≡◌, ◌≤◌, [], false, true, is_some, length, reverse, slice_get, IfOk, OnOk, OnErr};
 ghost use Rattle.std.specs.Bool.{OnFalse, OnTrue};
-ghost use Rattle.std.specs.Option.{option_copied, unwrap_or};
+ghost use Rattle.std.specs.Option.{option_copied, option_map, unwrap_or};
 ghost use Rattle.schedule.specs.declared.event.Event.TheVariants as events;
 ghost use Rattle.machine_states.specs.States.{Settles};
 ghost use Rattle.machine_states.specs.declared.effect.Effect.TheVariants as effects;
 ghost use Rattle.world_copies.specs.node_copies.specs.ShownCounts.{replies_in, writes_in};
 ghost use Rattle.node.specs.Calls.{alive_address};
+ghost use Rattle.plain_semantics.specs.Openers.{openers_of};
 ghost use Rattle.packet_wires.specs.Idle.{is_idle};
+ghost use Rattle.packet_wires.specs.Nodes.{end_at};
 ghost use Rattle.packet_wires.specs.Play.{count_on, kind_at, packet_at, packeted_at_boot, play, sender_at};
 ghost use Rattle.packet_wires.specs.Wires.{bus_named};
 ghost use Rattle.world_copies.specs.process_copies.specs.Starting.{IsStartable};
@@ -19,14 +21,16 @@ ghost use Rattle.site_machine.specs.Seen.{closed_state};
 
 use crate::delivering::bus_named;
 use crate::whole::MachineParts;
+use alive_regroup::Watch;
 use gd_words::NoMemory;
+use link_control::Channel;
 use logs::Shared;
 use machine_states::Effect;
 use packet_words::{Packet, PacketKind};
 use schedule::Event;
 use std::alloc::Global;
 use std::marker::Model;
-use tal_tree::{Act, Shown, Site};
+use tal_tree::{Act, Shown, Site, Who};
 use world_copies::Terminal;
 use world_copies::node_copies::Downs;
 use world_copies::process_copies::ProcessCopies;
@@ -127,6 +131,27 @@ impl Machine {
     {
         let packet = self.packet_at(y, k)?;
         Some(&packet.kind)
+    }
+
+    /// The end that a node has of its channel with another.
+    pub fn end_at(&self, from: u8, to: u8) -> Option<&Channel>
+        ensures { option_copied result ≡ end_at self.now.state.wires.nodes from to }
+    {
+        self.whole.wires.end_at(from, to)
+    }
+
+    /// What a node knows of the processors.
+    pub fn watch_at(&self, node: u8) -> Option<Watch>
+        ensures { result ≡ option_map (λ node. node.watch) (slice_get self.now.state.wires.nodes node) }
+    {
+        self.whole.wires.watch_at(node)
+    }
+
+    /// Who opens a process at a place among its openers.
+    pub fn opener_at(&self, process: u8, opener: u16) -> Option<Who>
+        ensures { result ≡ option_map (λ one. one.who) (slice_get (openers_of self.now.state.site process) opener) }
+    {
+        self.whole.world.opener_at(process, opener)
     }
 
     /// Whether nothing is left to do.
