@@ -1,69 +1,18 @@
 -- What changed of an opener is read as it is written, and what is read was written so.
-use Rattle.std.proofs.Common.{◌≡◌, ◌≤◌, ◌<◌, ◌^◌, ◌+◌, ◌*◌, ◌/◌, ◌%◌, ℕ, zero, suc, ℤ, pos, Bool, true, false}
-use Rattle.std.proofs.Common.{if◌then◌else◌, List, [], ◌∷◌, ◌++◌, length, flat_map, Some, None, nat_le, refl, ap, ap₂, sym}
-use Rattle.std.proofs.Common.{subst, ◌∙◌, arith, append_assoc, option_and_then}
+use Rattle.std.proofs.Common.{◌≡◌, ◌≤◌, ◌<◌, ◌^◌, ◌+◌, ◌*◌, ◌/◌, ◌%◌, ℕ, ℤ, Bool, true, false, if◌then◌else◌, List}
+use Rattle.std.proofs.Common.{◌++◌, length, flat_map, Some, None, nat_le, refl, ap, ap₂, sym, subst, ◌∙◌, arith}
+use Rattle.std.proofs.Common.{option_and_then}
 use Rattle.std.proofs.lemmas.Bool.{le-leb, leb-true}
-use Rattle.std.proofs.lemmas.List.Elements.{All-head, All-tail, All-cons, All-nil}
 use Rattle.std.specs.List.{All}
 use Rattle.std.specs.Option.{option_map}
-use Rattle.process_semantics.specs.Words.{Front, counted, long, words_in}
+use Rattle.process_semantics.specs.Words.{Front, counted, long}
 use Rattle.checkpoint_image.specs.Reading.{both_in, many_in, pair_in, reply_in}
+use Rattle.checkpoint_image.proofs.Messages.{AreFew, reply-reads}
 use Rattle.checkpoint_image.proofs.Patterns.{pair-reads}
-use Rattle.checkpoint_image.proofs.Readers.{IsReader, WasWritten, both-reads, sized-reads, words-reads}
+use Rattle.checkpoint_image.proofs.Readers.{IsReader, WasWritten, both-reads, many-reads, sized-reads}
 use Rattle.receive_changes.specs.declared.change.OpenerChange.{OpenerChange}
 use Rattle.change_layout.specs.Layout.{change_words, place_and_count, taken_and_added}
 use Rattle.change_layout.specs.Reading.{added_in, change_by, change_in}
-
--- So many parts
-
-module _ {A : Type 0} {write : A → List ℤ} {Is : A → Type 0} {part : List ℤ → Front A}
-    (reads : IsReader write Is part) where
-  many-again : (xs : List A) (left : List ℤ) → All Is xs
-      → many_in part (length xs) (flat_map write xs ++ left) ≡ Some (xs, left)
-  many-again [] left all = refl
-  many-again (x ∷ xs) left all =
-      ap (many_in part (suc (length xs))) (append_assoc (write x) (flat_map write xs) left)
-      ∙ ap (option_and_then (λ (y, rest). option_map (λ (ys, last). (y ∷ ys, last)) (many_in part (length xs) rest)))
-      (reads.again x (flat_map write xs ++ left) (All-head Is x xs all))
-      ∙ ap (option_map (λ (ys, last). (x ∷ ys, last))) (many-again xs left (All-tail Is x xs all))
-
-  with_more : (words left : List ℤ) (x : A) (n : ℕ) → words ≡ write x ++ left → Is x → (f : Front (List A))
-      → WasWritten (flat_map write) (λ xs. (length xs ≡ n) × All Is xs) left f
-      → WasWritten (flat_map write) (λ xs. (length xs ≡ suc n) × All Is xs) words
-      (option_map (λ (xs, rest). (x ∷ xs, rest)) f)
-  with_more words left x n same is None was = tt
-  with_more words left x n same is (Some (xs, rest)) was = (
-    same ∙ ap (λ ws. write x ++ ws) was.0 ∙ sym (append_assoc (write x) (flat_map write xs) rest),
-    (ap suc was.1.0, All-cons Is x xs is was.1.1),
-  )
-
-  with_one : (n : ℕ) → ((left : List ℤ) → WasWritten (flat_map write) (λ xs. (length xs ≡ n) × All Is xs) left
-      (many_in part n left))
-      → (words : List ℤ) (f : Front A) → WasWritten write Is words f
-      → WasWritten (flat_map write) (λ xs. (length xs ≡ suc n) × All Is xs) words
-      (option_and_then (λ (x, left). option_map (λ (xs, rest). (x ∷ xs, rest)) (many_in part n left)) f)
-  with_one n more words None was = tt
-  with_one n more words (Some (x, left)) was = with_more words left x n was.0 was.1 (many_in part n left) (more left)
-
-  many-exact : (n : ℕ) (words : List ℤ) → WasWritten (flat_map write) (λ xs. (length xs ≡ n) × All Is xs) words
-      (many_in part n words)
-  many-exact zero words = (refl, (refl, All-nil Is))
-  many-exact (suc n) words = with_one n (many-exact n) words (part words) (reads.exact words)
-
-  pub many-reads : (n : ℕ) → IsReader (flat_map write) (λ xs. (length xs ≡ n) × All Is xs) (many_in part n)
-  many-reads n = record {
-    again = λ xs left is. subst (λ (k : ℕ). many_in part k (flat_map write xs ++ left) ≡ Some (xs, left)) is.0
-        (many-again xs left is.1);
-    exact = many-exact n;
-  }
-
--- Replies
-
-abbrev pub AreFew : ℕ → List ℤ → Type 0
-AreFew limit words = (length words ≤ limit) × Unit {0}
-
-reply-reads : IsReader counted (AreFew 16) reply_in
-reply-reads = sized-reads (λ words. words) (λ words. Unit {0}) length words_in 16 words-reads
 
 -- A change
 

@@ -4,7 +4,8 @@ ghost use Rattle.change_layout.specs.declared.message.ChangeMessage.{ChangeMessa
 
 use crate::message::ChangeMessage;
 use crate::putting::{put_heading, put_image};
-use crate::reading::{ReadingFault, message_in};
+use crate::reading::message_in;
+use checkpoint_image::reading::ReadingFault;
 use gd_words::{List, NoMemory};
 use std::alloc::Global;
 

@@ -1,50 +1,14 @@
-ghost use Rattle.std.specs.List.{All, flat_map};
-ghost use Rattle.std.specs.Prelude.{◌≡◌, ◌≤◌, [], ◌∷◌, ◌++◌, length, OnOk, pos};
-ghost use Rattle.process_semantics.specs.Words.{counted};
-ghost use Rattle.checkpoint_image.specs.Layout.{IsPlace, listed, file_words, place_word};
+ghost use Rattle.std.specs.List.{All};
+ghost use Rattle.std.specs.Prelude.{◌≡◌, ◌≤◌, ◌++◌, length, OnOk};
+ghost use Rattle.checkpoint_image.specs.Layout.{IsPlace, listed};
 ghost use Rattle.change_layout.specs.Layout.{IsShort, change_words, heading_words, image_words, receive_words};
 
 use crate::message::{ChangeImage, ChangeMessage};
-use checkpoint_image::FileNumber;
-use checkpoint_image::putting::{put_counted, put_long};
-use gd_words::{List, NoMemory, Words};
+use checkpoint_image::putting::{
+    put_count, put_counted, put_files, put_long, put_place, put_replies,
+};
+use gd_words::{List, NoMemory};
 use receive_changes::{OpenerChange, ReceiveChange};
-
-fn put_count(count: usize, out: &mut List<i16>) -> Result<(), NoMemory>
-    requires { count ≤ 32767 }
-    ensures { OnOk result (out.new ≡ out.old ++ pos count ∷ []) }
-{
-    out.push(count as i16)?;
-    Ok(())
-}
-
-fn put_file(named: FileNumber, out: &mut List<i16>) -> Result<(), NoMemory>
-    ensures { OnOk result (out.new ≡ out.old ++ file_words named) }
-{
-    out.push(i16::from(named.file))?;
-    put_long(named.next, out)
-}
-
-fn put_files(files: &[FileNumber], out: &mut List<i16>) -> Result<(), NoMemory>
-    requires { length files.now ≤ 32767 }
-    ensures { OnOk result (out.new ≡ out.old ++ listed file_words files.now) }
-{
-    put_count(files.len(), out)?;
-    for named in files {
-        put_file(*named, out)?;
-    }
-    Ok(())
-}
-
-/// Puts replies, each with how many words it has, behind words.
-fn put_replies(added: &[Words], out: &mut List<i16>) -> Result<(), NoMemory>
-    ensures { OnOk result (out.new ≡ out.old ++ flat_map counted added.now) }
-{
-    for words in added {
-        put_counted(words.as_slice(), out)?;
-    }
-    Ok(())
-}
 
 fn put_change(change: &OpenerChange, out: &mut List<i16>) -> Result<(), NoMemory>
     requires { IsShort change.now }
@@ -66,18 +30,6 @@ fn put_changes(changes: &[OpenerChange], out: &mut List<i16>) -> Result<(), NoMe
     for change in changes {
         put_change(change, out)?;
     }
-    Ok(())
-}
-
-fn put_place(in_hand: Option<u16>, out: &mut List<i16>) -> Result<(), NoMemory>
-    requires { IsPlace in_hand }
-    ensures { OnOk result (out.new ≡ out.old ++ place_word in_hand ∷ []) }
-{
-    let word = match in_hand {
-        None => -1,
-        Some(place) => place as i16,
-    };
-    out.push(word)?;
     Ok(())
 }
 

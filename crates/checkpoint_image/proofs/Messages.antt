@@ -1,10 +1,10 @@
 -- The words of checkpoints are read back, and what is read has its words.
 use Rattle.std.proofs.Common.{◌≡◌, ◌≤◌, ◌<◌, ◌^◌, ◌==◌, ℕ, zero, suc, ℤ, pos, negsuc, Bool, true, false, if◌then◌else◌}
-use Rattle.std.proofs.Common.{List, [], ◌∷◌, ◌++◌, length, Option, Some, None, nat_le, refl, arith, ap, sym, subst, ◌∙◌}
-use Rattle.std.proofs.Common.{append-nil, eq-eqb}
+use Rattle.std.proofs.Common.{List, [], ◌∷◌, ◌++◌, length, Option, Some, None, nat_le, refl, arith, ap, sym, ◌∙◌}
+use Rattle.std.proofs.Common.{eq-eqb}
 use Rattle.std.proofs.lemmas.Bool.{le-leb, leb-true, eqb-true}
 use Rattle.std.specs.List.{All}
-use Rattle.whole_states.specs.process_semantics.specs.Words.{Front, whole, words_in, long, counted}
+use Rattle.whole_states.specs.process_semantics.specs.Words.{Front, words_in, long, counted}
 use Rattle.checkpoint_image.specs.declared.message.FileNumber.{FileNumber}
 use Rattle.checkpoint_image.specs.declared.message.Image.{Image}
 use Rattle.checkpoint_image.specs.declared.message.ImageMessage.{ImageMessage}
@@ -17,18 +17,18 @@ use Rattle.checkpoint_image.specs.Reading.{body_in, file_in, reply_in, opener_in
 use Rattle.checkpoint_image.specs.Reading.{image_in, longs_in, named_in, heading_in, message_of, message_in, both_in}
 use Rattle.checkpoint_image.proofs.Patterns.{pair-reads}
 use Rattle.checkpoint_image.proofs.Readers.{WasWritten, IsReader, number-reads, words-reads, sized-reads, both-reads}
-use Rattle.checkpoint_image.proofs.Readers.{listed-reads}
+use Rattle.checkpoint_image.proofs.Readers.{listed-reads, whole-again, whole-exact}
 
-abbrev AreFew : ℕ → List ℤ → Type 0
+abbrev pub AreFew : ℕ → List ℤ → Type 0
 AreFew limit words = (length words ≤ limit) × Unit {0}
 
 body-reads : IsReader counted (AreFew 32767) body_in
 body-reads = sized-reads (λ words. words) (λ words. Unit {0}) length words_in 32767 words-reads
 
-reply-reads : IsReader counted (AreFew 16) reply_in
+pub reply-reads : IsReader counted (AreFew 16) reply_in
 reply-reads = sized-reads (λ words. words) (λ words. Unit {0}) length words_in 16 words-reads
 
-abbrev IsFileRead : FileNumber → Type 0
+abbrev pub IsFileRead : FileNumber → Type 0
 IsFileRead named = (named.file ≤ 255) × (named.next < 2 ^ 32)
 
 file-reads : IsReader file_words IsFileRead file_in
@@ -46,7 +46,7 @@ opener-reads =
     (λ block. block.taken) (λ block. block.kept)
     (λ block. refl) (λ taken kept. refl) (λ taken kept. refl)
 
-place-reads : IsReader (λ place. place_word place ∷ []) IsPlace place_in
+pub place-reads : IsReader (λ place. place_word place ∷ []) IsPlace place_in
 place-reads = record { again = again; exact = exact }
   where
     again : (place : Option ℕ) (left : List ℤ) → IsPlace place → place_in (place_word place ∷ left) ≡ Some (place, left)
@@ -78,10 +78,10 @@ receive-reads =
     (λ table. table.openers) (λ table. table.in_hand) (λ table. refl) (λ openers in_hand. refl)
     (λ openers in_hand. refl)
 
-abbrev AreFilesRead : List FileNumber → Type 0
+abbrev pub AreFilesRead : List FileNumber → Type 0
 AreFilesRead files = (length files ≤ 32767) × All IsFileRead files
 
-contents-reads : IsReader (λ (body, files). counted body ++ listed file_words files)
+pub contents-reads : IsReader (λ (body, files). counted body ++ listed file_words files)
     (λ (body, files). AreFew 32767 body × AreFilesRead files) contents_in
 contents-reads =
     both-reads body-reads (listed-reads file-reads) (λ body files. (body, files)) (λ contents. contents.0)
@@ -104,10 +104,10 @@ longs-reads =
     both-reads pair-reads pair-reads (λ era number. (era, number)) (λ longs. longs.0) (λ longs. longs.1)
     (λ longs. refl) (λ era number. refl) (λ era number. refl)
 
-abbrev named_words : Heading → List ℤ
+abbrev pub named_words : Heading → List ℤ
 named_words heading = pos heading.process ∷ long heading.era ++ long heading.number
 
-abbrev IsNamedRead : Heading → Type 0
+abbrev pub IsNamedRead : Heading → Type 0
 IsNamedRead heading = (heading.process ≤ 255) × ((heading.era < 2 ^ 32) × (heading.number < 2 ^ 32))
 
 named-reads : IsReader named_words IsNamedRead named_in
@@ -116,29 +116,30 @@ named-reads =
     (λ process (era, number). record { process = process; era = era; number = number }) (λ heading. heading.process)
     (λ heading. (heading.era, heading.number)) (λ heading. refl) (λ process longs. refl) (λ process longs. refl)
 
-kind-reads : (kind : ℕ) → IsReader named_words (λ heading. (3 ≡ kind) × IsNamedRead heading)
-    (λ words. if kind == 3 then named_in words else None)
-kind-reads kind = record {
+kind-reads : (wanted kind : ℕ) → IsReader named_words (λ heading. (wanted ≡ kind) × IsNamedRead heading)
+    (λ words. if kind == wanted then named_in words else None)
+kind-reads wanted kind = record {
   again = λ heading left is.
-      ap (λ (b : Bool). if b then named_in (named_words heading ++ left) else None) (eq-eqb kind 3 (sym is.0))
+      ap (λ (b : Bool). if b then named_in (named_words heading ++ left) else None) (eq-eqb kind wanted (sym is.0))
       ∙ named-reads.again heading left is.1;
-  exact = λ words. tested words (kind == 3) refl;
+  exact = λ words. tested words (kind == wanted) refl;
 }
   where
-    of_kind : 3 ≡ kind → (words : List ℤ) (f : Front Heading) → WasWritten named_words IsNamedRead words f
-        → WasWritten named_words (λ heading. (3 ≡ kind) × IsNamedRead heading) words f
+    of_kind : wanted ≡ kind → (words : List ℤ) (f : Front Heading) → WasWritten named_words IsNamedRead words f
+        → WasWritten named_words (λ heading. (wanted ≡ kind) × IsNamedRead heading) words f
     of_kind is words None was = tt
     of_kind is words (Some (heading, left)) was = (was.0, (is, was.1))
 
-    tested : (words : List ℤ) (b : Bool) → (kind == 3) ≡ b
-        → WasWritten named_words (λ heading. (3 ≡ kind) × IsNamedRead heading) words
+    tested : (words : List ℤ) (b : Bool) → (kind == wanted) ≡ b
+        → WasWritten named_words (λ heading. (wanted ≡ kind) × IsNamedRead heading) words
         (if b then named_in words else None)
-    tested words true is = of_kind (sym (eqb-true kind 3 is)) words (named_in words) (named-reads.exact words)
+    tested words true is = of_kind (sym (eqb-true kind wanted is)) words (named_in words) (named-reads.exact words)
     tested words false is = tt
 
-heading-reads : IsReader (λ heading. pos 3 ∷ named_words heading) (λ heading. (3 ≤ 3) × IsNamedRead heading) heading_in
-heading-reads = sized-reads named_words IsNamedRead (λ heading. 3)
-    (λ kind words. if kind == 3 then named_in words else None) 3 kind-reads
+pub heading-reads : (kind : ℕ) → IsReader (λ heading. pos kind ∷ named_words heading)
+    (λ heading. (kind ≤ kind) × IsNamedRead heading) (heading_in kind)
+heading-reads kind = sized-reads named_words IsNamedRead (λ heading. kind)
+    (λ read words. if read == kind then named_in words else None) kind (kind-reads kind)
 
 abbrev heading_of : ImageMessage → Heading
 heading_of message = record { process = message.process; era = message.era; number = message.number }
@@ -146,9 +147,9 @@ heading_of message = record { process = message.process; era = message.era; numb
 abbrev IsRead : ImageMessage → Type 0
 IsRead message = ((3 ≤ 3) × IsNamedRead (heading_of message)) × IsImageRead message.image
 
-message-reads : IsReader message_words IsRead (both_in message_of heading_in image_in)
+message-reads : IsReader message_words IsRead (both_in message_of (heading_in 3) image_in)
 message-reads =
-    both-reads heading-reads image-reads message_of heading_of (λ message. message.image)
+    both-reads (heading-reads 3) image-reads message_of heading_of (λ message. message.image)
     (λ message. refl) (λ heading image. refl) (λ heading image. refl)
 
 is-read : (message : ImageMessage) → IsWithinLayout message → IsRead message
@@ -190,23 +191,14 @@ within message is =
 
 -- the words of a checkpoint are read as that checkpoint
 pub read-again : (message : ImageMessage) → IsWithinLayout message → message_in (message_words message) ≡ Some message
-read-again message is =
-    ap message_in (sym (append-nil (message_words message)))
-    ∙ ap (λ (f : Front ImageMessage). whole f) (message-reads.again message [] (is-read message is))
+read-again message is = whole-again message-reads message (is-read message is)
 
 -- what is read has these words and is within the layout
 pub read-exact : (words : List ℤ) (message : ImageMessage) → message_in words ≡ Some message
     → (message_words message ≡ words) × IsWithinLayout message
-read-exact words message = by (both_in message_of heading_in image_in words) (message-reads.exact words)
-  where
-    by : (f : Front ImageMessage) → WasWritten message_words IsRead words f → whole f ≡ Some message
-        → (message_words message ≡ words) × IsWithinLayout message
-    by None was found = absurd (cc)
-    by (Some (one, [])) was found =
-        let same : one ≡ message = cc in
-        subst (λ (m : ImageMessage). (message_words m ≡ words) × IsWithinLayout m) same
-        (sym (was.0 ∙ append-nil (message_words one)), within one was.1)
-    by (Some (one, word ∷ left)) was found = absurd (cc)
+read-exact words message found =
+    let was : (message_words message ≡ words) × IsRead message = whole-exact message-reads words message found in
+    (was.0, within message was.1)
 
 pub read-apart : (one other : ImageMessage) → IsWithinLayout one → IsWithinLayout other
     → message_words one ≡ message_words other → one ≡ other

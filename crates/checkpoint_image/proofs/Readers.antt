@@ -1,14 +1,14 @@
 -- Readers: they read what is written and leave the words behind it, and what they read was written so.
 use Rattle.std.proofs.Common.{◌≡◌, ◌≤◌, ◌+◌, ℕ, zero, suc, ℤ, pos, negsuc, Bool, true, false, if◌then◌else◌, List, []}
 use Rattle.std.proofs.Common.{◌∷◌, ◌++◌, length, take, drop, flat_map, Some, None, nat_le, refl, ap, ap₂, sym, subst}
-use Rattle.std.proofs.Common.{◌∙◌, arith, append_assoc, length-append, option_and_then}
+use Rattle.std.proofs.Common.{◌∙◌, append-nil, arith, append_assoc, length-append, option_and_then}
 use Rattle.std.proofs.lemmas.Bool.{le-leb, leb-true}
 use Rattle.std.proofs.lemmas.List.{take-append-drop, length-take}
 use Rattle.std.proofs.lemmas.List.Elements.{All-head, All-tail, All-cons, All-nil}
 use Rattle.std.proofs.Math.Seq.{take-append_seam, drop-append_seam}
 use Rattle.std.specs.List.{All}
 use Rattle.std.specs.Option.{option_map}
-use Rattle.whole_states.specs.process_semantics.specs.Words.{Front, words_in}
+use Rattle.whole_states.specs.process_semantics.specs.Words.{Front, whole, words_in}
 use Rattle.checkpoint_image.specs.Layout.{listed}
 use Rattle.checkpoint_image.specs.Reading.{number_in, sized_in, both_in, many_in, listed_in}
 
@@ -165,7 +165,7 @@ module _ {A : Type 0} {write : A → List ℤ} {Is : A → Type 0} {part : List 
   many-exact zero words = (refl, (refl, All-nil Is))
   many-exact (suc n) words = with_one n (many-exact n) words (part words) (reads.exact words)
 
-  many-reads : (n : ℕ) → IsReader (flat_map write) (λ xs. (length xs ≡ n) × All Is xs) (many_in part n)
+  pub many-reads : (n : ℕ) → IsReader (flat_map write) (λ xs. (length xs ≡ n) × All Is xs) (many_in part n)
   many-reads n = record {
     again = λ xs left is. subst (λ (k : ℕ). many_in part k (flat_map write xs ++ left) ≡ Some (xs, left)) is.0
         (many-again xs left is.1);
@@ -174,3 +174,22 @@ module _ {A : Type 0} {write : A → List ℤ} {Is : A → Type 0} {part : List 
 
   pub listed-reads : IsReader (listed write) (λ xs. (length xs ≤ 32767) × All Is xs) (listed_in part)
   listed-reads = sized-reads (flat_map write) (All Is) length (many_in part) 32767 many-reads
+
+-- All words, of which none is left
+
+module _ {A : Type 0} {write : A → List ℤ} {Is : A → Type 0} {part : List ℤ → Front A}
+    (reads : IsReader write Is part) where
+  pub whole-again : (x : A) → Is x → whole (part (write x)) ≡ Some x
+  whole-again x is =
+      ap (λ words. whole (part words)) (sym (append-nil (write x)))
+      ∙ ap (λ (f : Front A). whole f) (reads.again x [] is)
+
+  pub whole-exact : (words : List ℤ) (x : A) → whole (part words) ≡ Some x → (write x ≡ words) × Is x
+  whole-exact words x = by (part words) (reads.exact words)
+    where
+      by : (f : Front A) → WasWritten write Is words f → whole f ≡ Some x → (write x ≡ words) × Is x
+      by None was found = absurd (cc)
+      by (Some (one, [])) was found =
+          let same : one ≡ x = cc in
+          subst (λ (y : A). (write y ≡ words) × Is y) same (sym (was.0 ∙ append-nil (write one)), was.1)
+      by (Some (one, word ∷ left)) was found = absurd (cc)

@@ -82,9 +82,9 @@ abbrev pub named_in : List ℤ → Front Heading
 named_in = both_in (λ process (era, number). record { process = process; era = era; number = number }) (number_in 255)
     longs_in
 
--- the 3 of a checkpoint, and the numbers after it
-abbrev pub heading_in : List ℤ → Front Heading
-heading_in = sized_in 3 (λ kind words. if kind == 3 then named_in words else None)
+-- the number by which messages of a kind are told, and the numbers after it
+abbrev pub heading_in : ℕ → List ℤ → Front Heading
+heading_in kind = sized_in kind (λ read words. if read == kind then named_in words else None)
 
 abbrev pub message_of : Heading → Image → ImageMessage
 message_of heading image =
@@ -92,7 +92,7 @@ message_of heading image =
 
 -- the checkpoint of these words
 abbrev pub message_in : List ℤ → Option ImageMessage
-message_in words = whole (both_in message_of heading_in image_in words)
+message_in words = whole (both_in message_of (heading_in 3) image_in words)
 
 -- What calls tell
 

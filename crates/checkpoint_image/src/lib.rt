@@ -6,14 +6,14 @@
 //! images, and `whole_states`, which says what may be listed. The layers above use the types; of `Behaviour`, that each
 //! call is the step of its definition; of `specs/Receive.antt` how a request that comes stands to a receive table, what
 //! taking and answering change in one, and which requests wait; and that a checkpoint has its words and words at most
-//! one checkpoint (`to_words`, `from_words`).
+//! one checkpoint (`to_words`, `from_words`). A layout with the same parts puts and reads these by `putting` and `reading`.
 #![tactic(auto)]
 
 pub mod behaviour;
 pub mod layout;
 pub mod message;
 pub mod putting;
-mod reading;
+pub mod reading;
 pub mod receive;
 
 pub use behaviour::{Behaviour, Listed};

@@ -9,7 +9,7 @@ use crate::message::{FileNumber, Image, ImageMessage};
 use crate::receive::{OpenerBlock, ReceiveBlock};
 use whole_states::gd_words::{List, NoMemory, Words};
 
-fn put_count(count: usize, out: &mut List<i16>) -> Result<(), NoMemory>
+pub fn put_count(count: usize, out: &mut List<i16>) -> Result<(), NoMemory>
     requires { count ≤ 32767 }
     ensures { OnOk result (out.new ≡ out.old ++ pos count ∷ []) }
 {
@@ -50,7 +50,7 @@ fn put_file(named: FileNumber, out: &mut List<i16>) -> Result<(), NoMemory>
     put_long(named.next, out)
 }
 
-fn put_files(files: &[FileNumber], out: &mut List<i16>) -> Result<(), NoMemory>
+pub fn put_files(files: &[FileNumber], out: &mut List<i16>) -> Result<(), NoMemory>
     requires { length files.now ≤ 32767 }
     ensures { OnOk result (out.new ≡ out.old ++ listed file_words files.now) }
 {
@@ -61,12 +61,11 @@ fn put_files(files: &[FileNumber], out: &mut List<i16>) -> Result<(), NoMemory>
     Ok(())
 }
 
-fn put_replies(kept: &[Words], out: &mut List<i16>) -> Result<(), NoMemory>
-    requires { length kept.now ≤ 32767 }
-    ensures { OnOk result (out.new ≡ out.old ++ listed counted kept.now) }
+/// Puts replies, each with how many words it has, behind words.
+pub fn put_replies(replies: &[Words], out: &mut List<i16>) -> Result<(), NoMemory>
+    ensures { OnOk result (out.new ≡ out.old ++ flat_map counted replies.now) }
 {
-    put_count(kept.len(), out)?;
-    for words in kept {
+    for words in replies {
         put_counted(words.as_slice(), out)?;
     }
     Ok(())
@@ -77,6 +76,7 @@ fn put_opener(block: &OpenerBlock, out: &mut List<i16>) -> Result<(), NoMemory>
     ensures { OnOk result (out.new ≡ out.old ++ opener_words block.now) }
 {
     put_long(block.taken, out)?;
+    put_count(block.kept.len(), out)?;
     put_replies(block.kept.as_slice(), out)?;
     Ok(())
 }
@@ -93,7 +93,7 @@ fn put_openers(openers: &[OpenerBlock], out: &mut List<i16>) -> Result<(), NoMem
     Ok(())
 }
 
-fn put_place(in_hand: Option<u16>, out: &mut List<i16>) -> Result<(), NoMemory>
+pub fn put_place(in_hand: Option<u16>, out: &mut List<i16>) -> Result<(), NoMemory>
     requires { IsPlace in_hand }
     ensures { OnOk result (out.new ≡ out.old ++ place_word in_hand ∷ []) }
 {

@@ -2,7 +2,7 @@ ghost use Rattle.std.specs.Prelude.{◌≡◌, ◌≤◌, length};
 ghost use Rattle.whole_states.specs.process_semantics.specs.Words.{words_in};
 ghost use Rattle.checkpoint_image.specs.Reading.{Gives, Tells, number_in, pair_in, body_in, many_in, listed_in};
 ghost use Rattle.checkpoint_image.specs.Reading.{file_in, reply_in, opener_in, place_in, receive_in, contents_in};
-ghost use Rattle.checkpoint_image.specs.Reading.{image_in, longs_in, named_in, heading_in, message_in};
+ghost use Rattle.checkpoint_image.specs.Reading.{image_in, named_in, heading_in, message_in};
 ghost use Rattle.checkpoint_image.specs.declared.reading.ReadingFault.TheVariants as variants;
 
 use crate::message::{FileNumber, Image, ImageMessage};
@@ -34,7 +34,7 @@ pub struct Heading {
 }
 
 /// A number up to a limit.
-fn number_in(limit: u16, words: &[i16]) -> Option<(u16, &[i16])>
+pub fn number_in(limit: u16, words: &[i16]) -> Option<(u16, &[i16])>
     ensures { Gives (λ r. (r.0, r.1.now)) result (number_in limit words.now) }
 {
     match words {
@@ -54,7 +54,7 @@ fn byte_in(words: &[i16]) -> Option<(u8, &[i16])>
 }
 
 /// A number of 32 bits.
-fn pair_in(words: &[i16]) -> Option<(u32, &[i16])>
+pub fn pair_in(words: &[i16]) -> Option<(u32, &[i16])>
     ensures { Gives (λ r. (r.0, r.1.now)) result (pair_in words.now) }
 {
     match words {
@@ -67,7 +67,7 @@ fn pair_in(words: &[i16]) -> Option<(u32, &[i16])>
 }
 
 /// The count with which the words begin, at most 32,767, and the words after it. `None` if there is no such count.
-fn count_in(words: &[i16]) -> Option<(u16, &[i16])>
+pub fn count_in(words: &[i16]) -> Option<(u16, &[i16])>
     ensures { Gives (λ r. (r.0, r.1.now)) result (number_in 32767 words.now) }
 {
     number_in(32_767, words)
@@ -86,7 +86,7 @@ fn words_in(count: u16, words: &[i16]) -> Option<(&[i16], &[i16])>
 }
 
 /// The place in hand, or none.
-fn place_in(words: &[i16]) -> Option<(Option<u16>, &[i16])>
+pub fn place_in(words: &[i16]) -> Option<(Option<u16>, &[i16])>
     ensures { Gives (λ r. (r.0, r.1.now)) result (place_in words.now) }
 {
     match words {
@@ -96,11 +96,12 @@ fn place_in(words: &[i16]) -> Option<(Option<u16>, &[i16])>
     }
 }
 
-fn heading_in(words: &[i16]) -> Option<(Heading, &[i16])>
-    ensures { Gives (λ r. (r.0, r.1.now)) result (heading_in words.now) }
+/// The number by which messages of a kind are told, and what stands before an image.
+pub fn heading_in(kind: u16, words: &[i16]) -> Option<(Heading, &[i16])>
+    ensures { Gives (λ r. (r.0, r.1.now)) result (heading_in kind words.now) }
 {
-    let (kind, left) = number_in(3, words)?;
-    if kind == 3 { named_in(left) } else { None }
+    let (read, left) = number_in(kind, words)?;
+    if read == kind { named_in(left) } else { None }
 }
 
 fn named_in(words: &[i16]) -> Option<(Heading, &[i16])>
@@ -197,7 +198,7 @@ fn replies_in(alloc: Global, words: &[i16]) -> Result<(List<Words>, &[i16]), Rea
     many_replies(alloc, count, left)
 }
 
-fn many_replies(
+pub fn many_replies(
     alloc: Global,
     count: u16,
     words: &[i16],
@@ -263,7 +264,7 @@ fn receive_in(alloc: Global, words: &[i16]) -> Result<(ReceiveBlock, &[i16]), Re
 }
 
 /// The body and the files.
-fn contents_in(
+pub fn contents_in(
     alloc: Global,
     words: &[i16],
 ) -> Result<(List<i16>, List<FileNumber>, &[i16]), ReadingFault>
@@ -291,7 +292,7 @@ fn image_in(alloc: Global, words: &[i16]) -> Result<(Image, &[i16]), ReadingFaul
 pub fn message_in(alloc: Global, words: &[i16]) -> Result<ImageMessage, ReadingFault>
     ensures { Tells (λ message. message) result (message_in words.now) }
 {
-    let Some((heading, left)) = heading_in(words) else {
+    let Some((heading, left)) = heading_in(3, words) else {
         return Err(ReadingFault::NoMessage);
     };
     let (image, rest) = image_in(alloc, left)?;

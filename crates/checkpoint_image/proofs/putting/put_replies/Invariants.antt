@@ -3,4 +3,4 @@ use Rattle.whole_states.specs.process_semantics.specs.Words.{counted}
 use Rattle.checkpoint_image.proofs.putting.put_replies.Given as goal
 
 abbrev pub invariant-loop-words : goal.invariant-loop-words
-invariant-loop-words l = l.out ≡ l.initial.out ++ flat_map counted (take l.words-index l.kept)
+invariant-loop-words l = l.out ≡ l.initial.out ++ flat_map counted (take l.words-index l.replies)
