@@ -1,78 +1,17 @@
 //! The report that acts have, in memory.
-ghost use Rattle.std.specs.Prelude.{◌≡◌, ◌<◌, [], Some, IfOk};
-ghost use Rattle.std.specs.Option.{IsSome};
+ghost use Rattle.std.specs.Prelude.{◌≡◌, Some, IfOk};
 ghost use Rattle.plain_semantics.specs.SiteLimits.{KeepsSiteLimits};
 ghost use Rattle.report_reader.specs.Reading.{acts_in, stops_in};
 ghost use Rattle.shown_sectors.specs.Sectors.{sectors_after};
 ghost use Rattle.report_reader.specs.trace_print.specs.ReportText.{report_text};
 
-use gd_io::{Gave, Sink, WriteFault};
+use gd_io::{Sink, TextSink, WriteFault};
 use gd_words::{List, NoMemory};
 use report_reader::Told;
 use report_reader::trace_print::{Closing, End, write_report};
 use shown_sectors::sectors_after;
 use std::alloc::Global;
 use tal_tree::{Act, Shown, Site};
-
-/// A sink in memory that grows with what is written, until memory runs out.
-#[derive(Drop)]
-pub struct TextSink {
-    held: Vec<u8>,
-    faults: u64,
-    lost: Option<NoMemory>,
-    ghost told: { 0 < faults → IsSome lost },
-}
-
-impl TextSink {
-    fn new(alloc: Global) -> TextSink
-        ensures held { ⟦<TextSink as Sink>⟧.held result ≡ Some [] }
-        ensures faults { ⟦<TextSink as Sink>⟧.faults result ≡ 0 }
-    {
-        TextSink {
-            held: Vec::new(alloc),
-            faults: 0,
-            lost: None,
-        }
-    }
-
-    /// What is written so far.
-    pub fn bytes(&self) -> &[u8]
-        ensures { ⟦<TextSink as Sink>⟧.held self.now ≡ Some result.now }
-    {
-        self.held.as_slice()
-    }
-
-    /// The want of memory for which a write failed.
-    fn memory(&self) -> NoMemory
-        requires { 0 < ⟦<TextSink as Sink>⟧.faults self.now }
-    {
-        match self.lost {
-            Some(memory) => memory,
-            None => unreachable!(),
-        }
-    }
-}
-
-impl Sink for TextSink {
-    ghost use Rattle.std.specs.Prelude.{Some};
-
-    ghost held = { λ sink. Some sink.held.items };
-
-    ghost faults = { λ sink. sink.faults };
-
-    ghost sure = { λ sink n. ⊥ };
-
-    fn put(&mut self, piece: &[u8]) -> Gave {
-        match self.held.extend_from_slice(piece) {
-            Ok(()) => Gave::Gone(piece.len()),
-            Err(error) => {
-                self.lost = Some(NoMemory::from(error));
-                self.faults = self.faults.saturating_add(1);
-                Gave::Failed
-            }
-        }
-    }
-}
 
 /// The acts that lines tell, in order.
 pub fn acts_of(alloc: Global, told: &[Told]) -> Result<List<Act>, NoMemory>
