@@ -11,7 +11,8 @@ use Rattle.schedule_runs.specs.Runs.{Agenda, PlaysSchedule}
 use Rattle.deck_reader.specs.Limits.{IsWithinDeckLimits}
 use Rattle.deck_reader.specs.Schedules.{singles_in, singles_of, rounds_in, rounds_of}
 use Rattle.deck_reader.specs.declared.deck.Deck.{Deck}
-use Rattle.schedule_runs.specs.Lengths.{most_events, most_in_round, most_in_line, most_in_lines, stops_of_words}
+use Rattle.line_lengths.specs.Lengths.{most_in_line, most_in_lines, stops_of_words}
+use Rattle.schedule_runs.specs.Lengths.{most_events, most_in_round}
 use Rattle.schedule_runs.proofs.Lengths.{so-many}
 
 -- a line asks for its single events and its rounds

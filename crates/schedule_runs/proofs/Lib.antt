@@ -1,6 +1,4 @@
 pub mod Buses
 pub mod Lengths
-pub mod Lines
 pub mod Played
 pub mod Playing
-pub mod Turns
