@@ -11,6 +11,7 @@ pub mod player;
 mod round;
 mod rule;
 pub mod standing;
+mod step;
 pub mod stop;
 
 pub use player::Player;

@@ -2,14 +2,14 @@ ghost use Rattle.std.specs.Prelude.{◌≡◌, ◌-◌, nat_lt, Bool, false, Som
 ghost use Rattle.schedule.specs.declared.event.Counts.{Counts as AnyCounts};
 ghost use Rattle.player.specs.declared.standing.LinePlace.TheVariants as standing;
 ghost use Rattle.player.specs.declared.standing.Place.TheVariants as place;
-ghost use Rattle.player.specs.Lines.{begun, is_before, is_before_mixed, proposed, has_reached, asks_idle, decided};
-ghost use Rattle.player.specs.Lines.{next_event, stands_after, event_of, packet_of, on_bus, aimed};
+ghost use Rattle.player.specs.Lines.{begun, proposed, asks_idle, next_event, stands_after, event_of, packet_of, on_bus};
+ghost use Rattle.player.specs.Lines.{aimed};
 ghost use Rattle.player.specs.Lines.{draining, with_packets_left};
 
 use crate::mixed::{first_draws, next_mixed};
 use crate::round::next_turn;
-use crate::rule::{muted, spared};
 use crate::standing::{LinePlace, MixedPlace, Move, Place, Rule, Sizes};
+use crate::step::{is_before, is_before_mixed};
 use schedule::{Counts, Event, Line};
 
 /// Gives the events of a line one by one.
@@ -61,12 +61,11 @@ impl Player {
         ensures standing { self.new ≡ record self.old
             { standing = stands_after (next_event self.old.sizes self.old.standing counts.now) } }
     {
-        let Some(next) = next_event(self.sizes, self.standing, counts) else {
+        let event = self.standing.step(self.sizes, counts);
+        if event.is_none() {
             self.standing = LinePlace::Ended;
-            return None;
-        };
-        self.standing = next.standing;
-        Some(next.event)
+        }
+        event
     }
 
     /// Whether the next event may depend on whether the machine is idle.
@@ -144,31 +143,6 @@ fn before_rounds(rule: Rule, left: u32) -> LinePlace
     }
 }
 
-fn is_before(place: Place) -> bool
-    ensures { result ≡ is_before place }
-{
-    matches!(place, Place::Before)
-}
-
-fn is_before_mixed(place: MixedPlace) -> bool
-    ensures { result ≡ is_before_mixed place }
-{
-    matches!(place, MixedPlace::Before)
-}
-
-fn next_event(sizes: Sizes, standing: LinePlace, counts: &Counts) -> Option<Move>
-    ensures { result ≡ next_event sizes standing counts.now }
-{
-    if has_reached(standing, counts) || (asks_idle(standing) && counts.idle) {
-        return None;
-    }
-    let next = proposed(sizes, counts.x, counts.y, standing)?;
-    Some(Move {
-        event: decided(standing, counts, next.event),
-        standing: next.standing,
-    })
-}
-
 fn proposed(sizes: Sizes, x: u32, y: u32, standing: LinePlace) -> Option<Move>
     ensures { result ≡ proposed sizes x y standing }
 {
@@ -227,34 +201,12 @@ fn event_again(event: Event, left: u32) -> Option<Move>
     }
 }
 
-fn has_reached(standing: LinePlace, counts: &Counts) -> bool
-    ensures { result ≡ has_reached standing counts.now }
-{
-    match standing {
-        LinePlace::Rounds { rule, .. } => rule.is_reached(counts),
-        LinePlace::Ended | LinePlace::Event { .. } | LinePlace::Mixed { .. } => false,
-    }
-}
-
 fn asks_idle(standing: LinePlace) -> bool
     ensures { result ≡ asks_idle standing }
 {
     match standing {
         LinePlace::Rounds { rule, place, .. } => rule.minds_idle() && is_before(place),
         LinePlace::Ended | LinePlace::Event { .. } | LinePlace::Mixed { .. } => false,
-    }
-}
-
-fn decided(standing: LinePlace, counts: &Counts, event: Event) -> Event
-    ensures { result ≡ decided standing counts.now event }
-{
-    match standing {
-        LinePlace::Rounds {
-            rule: Rule::Mute(node),
-            ..
-        } => muted(node, counts, event),
-        LinePlace::Mixed { .. } => spared(counts, event),
-        _ => event,
     }
 }
 

@@ -1,5 +1,7 @@
-ghost use Rattle.std.specs.Prelude.{◌≡◌};
-ghost use Rattle.player.specs.Lines.{minds_idle, is_reached, muted, spared};
+ghost use Rattle.std.specs.Prelude.{◌≡◌, ℕ};
+ghost use Rattle.player.specs.declared.standing.LinePlace.TheVariants as standing;
+ghost use Rattle.player.specs.declared.standing.Place.{Place};
+ghost use Rattle.player.specs.Lines.{decided, minds_idle, is_reached, muted, spared};
 
 use crate::standing::Rule;
 use schedule::{Counts, Event};
@@ -29,6 +31,16 @@ impl Rule {
                 count,
             } => count <= counts.replies,
             Rule::Drain | Rule::Mute(_) => false,
+        }
+    }
+
+    /// What comes of an event in a line of this rule, where the packet that it concerns is counted.
+    pub fn decided(self, counts: &Counts, event: Event) -> Event
+        ensures { (left : ℕ) (place : Place) → result ≡ decided (standing.Rounds self left place) counts.now event }
+    {
+        match self {
+            Rule::Mute(node) => muted(node, counts, event),
+            Rule::Drain | Rule::Until { .. } => event,
         }
     }
 }
