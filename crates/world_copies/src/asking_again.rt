@@ -126,7 +126,7 @@ impl WorldCopies {
     }
 
     /// The request whose reply the terminal of a number awaits.
-    fn awaited_from(&self, number: usize, terminal: Terminal) -> Option<Request>
+    pub fn awaited_from(&self, number: usize, terminal: Terminal) -> Option<Request>
         ensures { option_to_list result ≡ awaited_from self.now.site number terminal }
     {
         let entered = terminal.entered();
