@@ -1,5 +1,6 @@
 pub mod AllStill
 pub mod Lookups
+pub mod Shows
 pub mod Still
 pub mod Sweeps
 pub mod Told

@@ -1,6 +1,6 @@
 ghost use Rattle.std.specs.Prelude.{◌≡◌, ◌≤◌, ◌+◌, ◌↔◌, IfOk, OnErr, IsErr, IsTrue, Some, None};
 ghost use Rattle.plain_semantics.specs.Machine.{made, plain_start, IsStill};
-ghost use Rattle.plain_machine.specs.Machines.{listed};
+ghost use Rattle.plain_machine.specs.Machines.{listed, shown_of};
 ghost use Rattle.plain_machine.specs.Standing.{IsPlayable};
 ghost use Rattle.plain_machine.specs.Writes.{HasRoomFor, most_write};
 
@@ -59,6 +59,15 @@ impl<'a> Plain<'a> {
             Outcome::Quiet => Ok(None),
             Outcome::Shows(shown) => Ok(Some(shown)),
         }
+    }
+
+    /// What an act shows if it is made now: a write of a disc, or a reply. Nothing if it isn't possible, or shows
+    /// nothing. The numbers of the last writes of discs have nexts.
+    pub fn shows(&self, act: Act) -> Option<Shown>
+        requires { HasRoomFor 1 self.now.state }
+        ensures { listed result ≡ shown_of (made self.now.site self.now.state act) }
+    {
+        self.state.shows(&self.wires, act)
     }
 
     /// Whether no act is possible.

@@ -151,6 +151,15 @@ impl PlainProcess {
         call
     }
 
+    /// What it does to its device. The number of its last write has a next.
+    pub(crate) fn call(&self) -> DeviceCall
+        requires stands { point self.now.state ≡ Point.Device }
+        requires room { HasNext (last_write_of self.now.state) }
+        ensures { result ≡ call_of self.now.state }
+    {
+        self.process.device()
+    }
+
     /// Takes the request with these words, which waits in the slot of this place.
     pub(crate) fn took(&mut self, place: usize, words: &Words)
         requires { point self.old.state ≡ Point.Take }

@@ -1,6 +1,9 @@
 ghost use Rattle.std.specs.Prelude.{◌≡◌, ◌+◌, IfOk, IfSome, Some, is_some, length, map, slice_get, slice_set};
 ghost use Rattle.std.specs.Option.{option_copied};
+ghost use Rattle.checkpoint_image.specs.Behaving.{last_write_of};
+ghost use Rattle.gd_words.specs.Ranges.{HasNext};
 ghost use Rattle.process_semantics.specs.Process as process;
+ghost use Rattle.tal_tree.specs.declared.act.Act.TheVariants.{Step, Print};
 ghost use Rattle.tal_tree.specs.declared.site.Who.TheVariants as who;
 ghost use Rattle.plain_semantics.specs.Openers.{opener_of};
 ghost use Rattle.plain_semantics.specs.Machine.{processes_at_first, plain_start, slot_of, with_slot, with_state};
@@ -8,6 +11,7 @@ ghost use Rattle.plain_semantics.specs.Machine.{own_opener, answer_made, answere
 ghost use Rattle.plain_semantics.specs.Machine.{step_at, step_made, take_slot, take_at, take_made, enter_request};
 ghost use Rattle.plain_semantics.specs.Machine.{enter_made, entered_at, next_request, print_made, made};
 ghost use Rattle.plain_semantics.specs.SiteLimits.{KeepsSiteLimits};
+ghost use Rattle.plain_machine.specs.Machines.{listed, shown_at, shown_of};
 ghost use Rattle.plain_machine.specs.Outcomes.{Settles, shown_in};
 ghost use Rattle.plain_machine.specs.Standing.{AreLoadable, IsPlayable, IsAt};
 ghost use Rattle.plain_machine.specs.Rounds.{enter_of, next_move, print_of};
@@ -281,6 +285,51 @@ impl State {
         }
     }
 
+    /// What an act shows if it is made now.
+    pub(crate) fn shows(&self, wires: &Wires<'_>, act: Act) -> Option<Shown>
+        requires { HasRoomFor 1 self.now }
+        ensures { listed result ≡ shown_of (made wires.now self.now act) }
+    {
+        match act {
+            Act::Step(process) => self.step_shows(wires, process),
+            Act::Take { .. } => None,
+            Act::Enter(_) => None,
+            Act::Print(terminal) => self.print_shows(wires, terminal),
+        }
+    }
+
+    fn step_shows(&self, wires: &Wires<'_>, process: u8) -> Option<Shown>
+        requires { HasRoomFor 1 self.now }
+        ensures { listed result ≡ shown_of (made wires.now self.now (Step process)) }
+    {
+        match self.processes.as_slice().get(usize::from(process)) {
+            None => None,
+            Some(one) => self.one_shows(wires, process, one),
+        }
+    }
+
+    fn one_shows(&self, _wires: &Wires<'_>, number: u8, one: &PlainProcess) -> Option<Shown>
+        requires there { slice_get self.now.processes number ≡ Some one.now }
+        requires room { HasRoomFor 1 self.now }
+        ensures { listed result ≡ shown_of (made _wires.now self.now (Step number)) }
+    {
+        shown_there(number, one)
+    }
+
+    fn print_shows(&self, wires: &Wires<'_>, terminal: u8) -> Option<Shown>
+        ensures { listed result ≡ shown_of (made wires.now self.now (Print terminal)) }
+    {
+        let number = usize::from(terminal);
+        match self.slot_of(wires.terminal(number)) {
+            Some(Slot::Answered(words)) => Some(Shown::Reply {
+                terminal,
+                number: self.entered_at(number),
+                words: words.copy(),
+            }),
+            _ => None,
+        }
+    }
+
     /// Makes the Take or Step that a process may make next, where it is possible.
     pub(crate) fn make_move(&mut self, wires: &Wires<'_>, process: u8) -> Move
         requires { HasRoomFor 1 self.old }
@@ -464,17 +513,44 @@ fn answered_by(server: usize, hand: Option<usize>) -> Option<Opener>
 fn shown_by(process: u8, call: DeviceCall) -> Outcome
     ensures { shown_in result ≡ Some (shown_by_device process call) }
 {
+    match written(process, call) {
+        None => Outcome::Quiet,
+        Some(shown) => Outcome::Shows(shown),
+    }
+}
+
+/// What the step of a process shows.
+fn shown_there(number: u8, one: &PlainProcess) -> Option<Shown>
+    requires { HasNext (last_write_of one.now.state) }
+    ensures { listed result ≡ shown_at number one.now (process.point one.now.state) }
+{
+    match one.at() {
+        Point::Device => written(number, one.call()),
+        Point::Inner => None,
+        Point::Ask => None,
+        Point::Await => None,
+        Point::Answer => None,
+        Point::AtCheckpoint => None,
+        Point::Take => None,
+        Point::Ended => None,
+    }
+}
+
+/// What an act on the device shows: a write.
+fn written(process: u8, call: DeviceCall) -> Option<Shown>
+    ensures { listed result ≡ shown_by_device process call }
+{
     match call {
         DeviceCall::Write {
             sector,
             words,
             number: _,
-        } => Outcome::Shows(Shown::Write {
+        } => Some(Shown::Write {
             process,
             sector,
             words,
         }),
-        _ => Outcome::Quiet,
+        _ => None,
     }
 }
 

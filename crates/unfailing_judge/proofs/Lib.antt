@@ -1,3 +1,0 @@
-pub mod KeptTurns
-pub mod Passes
-pub mod Verdicts
