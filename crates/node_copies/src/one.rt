@@ -1,5 +1,6 @@
 ghost use Rattle.std.specs.Prelude.{◌≡◌};
 ghost use Rattle.process_semantics.specs.Process.{point};
+ghost use Rattle.world_semantics.specs.Shares.{share_of};
 ghost use Rattle.node_copies.specs.Seen.{control_of};
 
 use file_calls::Waiting;
@@ -80,5 +81,12 @@ impl NodeCopy {
         ensures { result.now.requests ≡ self.now.copy.waiting }
     {
         &self.waiting
+    }
+
+    /// The copy's share of the kept acts: how many of them it has done, and which acts it holds back.
+    pub fn share(&self) -> &CopyShare
+        ensures { result.now ≡ share_of self.now.copy }
+    {
+        &self.share
     }
 }
