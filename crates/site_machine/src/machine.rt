@@ -1,6 +1,7 @@
-ghost use Rattle.std.specs.Prelude.{◌≡◌, ◌≤◌, [], false, true, is_some, length, reverse, slice_get, IfOk, OnOk, OnErr};
+ghost use Rattle.std.specs.Prelude.{◌≡◌, ◌≤◌, ℕ, [], false, true, is_some, length, reverse, slice_get, IfOk, OnOk};
+ghost use Rattle.std.specs.Prelude.{OnErr};
 ghost use Rattle.std.specs.Bool.{OnFalse, OnTrue};
-ghost use Rattle.std.specs.Option.{option_copied, option_map, unwrap_or};
+ghost use Rattle.std.specs.Option.{option_and_then, option_copied, option_map, unwrap_or};
 ghost use Rattle.schedule.specs.declared.event.Event.TheVariants as events;
 ghost use Rattle.machine_states.specs.States.{Settles};
 ghost use Rattle.machine_states.specs.declared.effect.Effect.TheVariants as effects;
@@ -10,7 +11,8 @@ ghost use Rattle.plain_semantics.specs.Openers.{openers_of};
 ghost use Rattle.packet_wires.specs.Idle.{is_idle};
 ghost use Rattle.packet_wires.specs.Nodes.{end_at};
 ghost use Rattle.packet_wires.specs.Play.{count_on, kind_at, packet_at, packeted_at_boot, play, sender_at};
-ghost use Rattle.packet_wires.specs.Wires.{bus_named};
+ghost use Rattle.packet_wires.specs.Lines.{line_pulled};
+ghost use Rattle.packet_wires.specs.Wires.{bus_named, nothing_sent, ticked};
 ghost use Rattle.world_copies.specs.process_copies.specs.Starting.{IsStartable};
 ghost use Rattle.world_copies.specs.process_copies.specs.disc_device.specs.mirror.specs.States.{standing};
 ghost use Rattle.world_copies.specs.node_copies.specs.Seen.{drives_on, sectors_on};
@@ -145,6 +147,14 @@ impl Machine {
         ensures { result ≡ option_map (λ node. node.watch) (slice_get self.now.state.wires.nodes node) }
     {
         self.whole.wires.watch_at(node)
+    }
+
+    /// The processor whose line a node would pull after a tick made now.
+    pub fn line_after_tick(&self, node: u8) -> Option<u8>
+        ensures { (processors : ℕ) → result ≡ option_and_then (line_pulled node)
+            (slice_get (ticked processors node (nothing_sent self.now.state.wires.nodes)).nodes node) }
+    {
+        self.whole.wires.line_after_tick(node)
     }
 
     /// Who opens a process at a place among its openers.
