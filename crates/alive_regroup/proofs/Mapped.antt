@@ -1,8 +1,8 @@
 -- A list whose items become those of another list under a function, one after the other.
 use Rattle.std.proofs.Common.{◌≡◌, ℕ, suc, ◌+◌, ◌<◌, List, [], ◌∷◌, ◌++◌, length, get_or, set, take, drop, map, arith}
-use Rattle.std.proofs.Common.{ap, sym, ◌∙◌, append_assoc}
+use Rattle.std.proofs.Common.{◌≤◌, refl, ap, sym, ◌∙◌, append_assoc, append-nil}
 use Rattle.std.proofs.Math.Seq.{set-append_seam, drop-cons, get_or-append_seam}
-use Rattle.std.proofs.lemmas.List.{take_more, length-take-le, length-map, map-append}
+use Rattle.std.proofs.lemmas.List.{take_more, take_all, drop_all, length-take-le, length-map, map-append}
 
 pub mapped-more : {A B : Type 0} (f : A → B) (xs : List A) (first : List B) (k : ℕ) (d : A) → k < length xs
     → k < length first
@@ -21,7 +21,7 @@ mapped-more f xs first k d within room =
     ∙ append_assoc done (f x ∷ []) (drop (k + 1) first))
 
 -- the item at the seam is still that of the list
-at-seam : {A : Type 0} (f : A → A) (xs : List A) (k : ℕ) (d : A) → k < length xs
+pub at-seam : {A : Type 0} (f : A → A) (xs : List A) (k : ℕ) (d : A) → k < length xs
     → get_or (map f (take k xs) ++ drop k xs) k d ≡ get_or xs k d
 at-seam f xs k d within =
     let done = map f (take k xs) in
@@ -37,3 +37,16 @@ pub mapped-in-place : {A : Type 0} (f : A → A) (xs : List A) (k : ℕ) (d : A)
 mapped-in-place f xs k d within =
     ap (λ x. set (map f (take k xs) ++ drop k xs) k (f x)) (at-seam f xs k d within)
     ∙ mapped-more f xs xs k d within within
+
+-- one function after the other
+pub mapped-twice : {A B C : Type 0} (f : A → B) (g : B → C) (xs : List A) → map (λ x. g (f x)) xs ≡ map g (map f xs)
+mapped-twice f g [] = refl
+mapped-twice f g (x ∷ xs) = ap (λ rest. g (f x) ∷ rest) (mapped-twice f g xs)
+
+-- all are done
+pub mapped-all : {A B : Type 0} (f : A → B) (xs : List A) (first : List B) (k : ℕ) → length xs ≤ k → length first ≤ k
+    → map f (take k xs) ++ drop k first ≡ map f xs
+mapped-all f xs first k items places =
+    ap (λ rest. map f (take k xs) ++ rest) (drop_all k first places)
+    ∙ append-nil (map f (take k xs))
+    ∙ ap (map f) (take_all k xs items)

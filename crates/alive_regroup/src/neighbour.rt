@@ -43,12 +43,13 @@ impl Neighbour {
         }
     }
 
-    /// A check of who was heard.
-    pub fn check(&mut self)
-        ensures { self.new ≡ neighbour_after_check self.old }
+    /// A check of who was heard. Answers whether the processor is silent then.
+    pub fn check(&mut self) -> bool
+        ensures silent { result ≡ is_silent (neighbour_after_check self.old) }
+        ensures after { self.new ≡ neighbour_after_check self.old }
     {
         match self {
-            Neighbour::Absent => {}
+            Neighbour::Absent => false,
             Neighbour::Up {
                 heard,
                 missed,
@@ -56,8 +57,9 @@ impl Neighbour {
             } => {
                 *missed = if *heard { Missed::None } else { missed.risen() };
                 *heard = false;
+                missed.is_more()
             }
-            Neighbour::Down => {}
+            Neighbour::Down => false,
         }
     }
 

@@ -7,7 +7,7 @@ ghost use Rattle.alive_regroup.specs.Watching.{Watching, neighbour_after_alive, 
 ghost use Rattle.alive_regroup.specs.Watching.{neighbour_after_down, is_down, is_up, is_silent, changed_at};
 ghost use Rattle.alive_regroup.specs.Watching.{neighbour_after_check, is_marked, is_missed, after_tick, misses_none};
 ghost use Rattle.alive_regroup.specs.Watching.{is_coordinator, is_held, all_but, agrees, begun, at_first, is_silent_at};
-ghost use Rattle.alive_regroup.specs.Watching.{told_by_tick};
+ghost use Rattle.alive_regroup.specs.Watching.{does_check, told_by_tick};
 
 use crate::neighbour::{Missed, Neighbour};
 use crate::set::ProcessorSet;
@@ -97,19 +97,25 @@ impl Watch {
         self.neighbours.get(usize::from(processor)).copied()
     }
 
+    /// Whether the node's next tick checks.
+    pub fn does_check(&self) -> bool
+        ensures { result ≡ does_check self.now }
+    {
+        self.me < 16 && self.checks
+    }
+
     /// The node's tick: the silent set to report, where a check changed it.
     pub fn tick(&mut self) -> Option<ProcessorSet>
         ensures told { result ≡ told_by_tick self.old }
         ensures after { self.new ≡ after_tick self.old }
     {
-        if self.me >= 16 || !self.checks {
+        if !self.does_check() {
             self.checks = true;
             return None;
         }
         self.checks = false;
-        check_all(&mut self.neighbours);
         let silent = ProcessorSet {
-            members: silent_members(&self.neighbours),
+            members: check_all(&mut self.neighbours),
         };
         let before = self.told;
         self.told = silent;
@@ -227,20 +233,14 @@ fn at_first(me: u8, processors: u8, place: u8) -> Neighbour
     }
 }
 
-fn check_all(neighbours: &mut [Neighbour; 16])
-    ensures { neighbours.new ≡ map neighbour_after_check neighbours.old }
-{
-    for place in 0..16 {
-        neighbours[place].check();
-    }
-}
-
-fn silent_members(neighbours: &[Neighbour; 16]) -> [bool; 16]
-    ensures { result ≡ map is_silent neighbours.now }
+/// Each neighbour is checked. Answers which of them are silent then.
+fn check_all(neighbours: &mut [Neighbour; 16]) -> [bool; 16]
+    ensures silent { result ≡ map is_silent (map neighbour_after_check neighbours.old) }
+    ensures after { neighbours.new ≡ map neighbour_after_check neighbours.old }
 {
     let mut members = [false; 16];
-    for (place, one) in neighbours.iter().enumerate() {
-        members[place] = one.is_silent();
+    for place in 0..16 {
+        members[place] = neighbours[place].check();
     }
     members
 }
