@@ -5,6 +5,7 @@ use crate::standing::{Place, Sizes, Turn};
 use schedule::Event;
 
 /// The next event of a round at a place, where `x` and `y` packets are on the buses.
+#[inline(always)]
 pub fn next_turn(sizes: Sizes, x: u32, y: u32, place: Place) -> Turn
     ensures { result ≡ next_turn sizes x y place }
 {

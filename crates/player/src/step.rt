@@ -53,6 +53,7 @@ fn turn(
 }
 
 /// The next event of a line of mixed rounds, and where its round stands then.
+#[inline(never)]
 fn mixed_turn(
     sizes: Sizes,
     left: &mut u32,
