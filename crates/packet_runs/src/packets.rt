@@ -62,6 +62,7 @@ impl ScheduleMachine for PlayedPackets {
         self.machine.deliver_at_once(y)
     }
 
+    #[inline(never)]
     fn counts(&self, player: &Player, idle: bool) -> Counts {
         let x = self.machine.count(false) as u32;
         let y = self.machine.count(true) as u32;
