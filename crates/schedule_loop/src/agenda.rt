@@ -287,6 +287,7 @@ impl<'a> Schedule<'a> {
 
     /// What is counted before the next event of the line, with this told of whether the machine is idle. The packet
     /// that the event concerns is looked at only where the event may depend on it.
+    #[inline(always)]
     fn looked<M: ScheduleMachine>(&self, machine: &M, idle: bool) -> Counts
         ensures { next_event self.now.sizes self.now.agenda.standing result
             ≡ next_event self.now.sizes self.now.agenda.standing
