@@ -1,8 +1,8 @@
 ghost use Rattle.std.specs.Prelude.{◌≡◌};
 ghost use Rattle.break_text.specs.BreakText.{act_name, actor_name};
-ghost use Rattle.trace_print.specs.ShownLine.{process_name, terminal_name};
 
 use tal_tree::{Act, Site};
+use trace_print::{process_name, terminal_name};
 
 /// What an act is, before the name of who does it.
 pub(crate) fn act_name(act: Act) -> &'static [u8]
@@ -25,25 +25,5 @@ pub(crate) fn actor_name(site: &Site, act: Act) -> &[u8]
         Act::Take { process, .. } => process_name(site, process),
         Act::Enter(terminal) => terminal_name(site, terminal),
         Act::Print(terminal) => terminal_name(site, terminal),
-    }
-}
-
-/// The name of a process, empty where it isn't there.
-fn process_name(site: &Site, process: u8) -> &[u8]
-    ensures { result.now ≡ process_name site.now process }
-{
-    match site.processes.get(usize::from(process)) {
-        Some(spec) => spec.name.text(),
-        None => &[],
-    }
-}
-
-/// The name of a terminal, empty where it isn't there.
-fn terminal_name(site: &Site, terminal: u8) -> &[u8]
-    ensures { result.now ≡ terminal_name site.now terminal }
-{
-    match site.terminals.get(usize::from(terminal)) {
-        Some(spec) => spec.name.text(),
-        None => &[],
     }
 }

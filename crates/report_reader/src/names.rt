@@ -5,8 +5,7 @@ ghost use Rattle.std.specs.Option.{unwrap_or};
 ghost use Rattle.std.specs.Str.{bytes_eq};
 ghost use Rattle.plain_semantics.specs.Openers.{named_from};
 ghost use Rattle.plain_semantics.specs.SiteLimits.{KeepsSiteLimits};
-ghost use Rattle.trace_print.specs.ActLine.{variable_in, variable_name, who_name};
-ghost use Rattle.trace_print.specs.ShownLine.{process_name, terminal_name};
+ghost use Rattle.trace_print.specs.ActLine.{variable_name, who_name};
 ghost use Rattle.report_reader.specs.Names.{AreOpeners, opener_from, opener_lists, opener_named, process_named};
 ghost use Rattle.report_reader.specs.Names.{terminal_from, terminal_named};
 
@@ -14,7 +13,8 @@ use crate::parts::rest_after;
 use gd_words::{List, NoMemory};
 use plain_semantics::openers;
 use std::alloc::Global;
-use tal_tree::{Kind, OpenerSpec, ProcessSpec, Site, TerminalSpec, Who};
+use tal_tree::{OpenerSpec, ProcessSpec, Site, TerminalSpec, Who};
+use trace_print::{process_name, terminal_name, variable_name};
 
 /// The number of the process with this name.
 pub fn process_named(site: &Site, name: &[u8]) -> Option<u8>
@@ -149,49 +149,4 @@ fn is_same(one: &[u8], other: &[u8]) -> bool
     ensures { result ≡ bytes_eq one.now other.now }
 {
     one == other
-}
-
-/// The name of a process, empty where it isn't there.
-fn process_name(site: &Site, process: u8) -> &[u8]
-    ensures { result.now ≡ process_name site.now process }
-{
-    match site.processes.get(usize::from(process)) {
-        Some(spec) => spec.name.text(),
-        None => &[],
-    }
-}
-
-/// The name of a terminal, empty where it isn't there.
-fn terminal_name(site: &Site, terminal: u8) -> &[u8]
-    ensures { result.now ≡ terminal_name site.now terminal }
-{
-    match site.terminals.get(usize::from(terminal)) {
-        Some(spec) => spec.name.text(),
-        None => &[],
-    }
-}
-
-/// The name of the variable of a file, empty where it isn't there.
-fn variable_name(site: &Site, process: u8, file: u8) -> &[u8]
-    ensures { result.now ≡ variable_name site.now process file }
-{
-    match site.processes.get(usize::from(process)) {
-        Some(spec) => variable_in(&spec.what, file),
-        None => &[],
-    }
-}
-
-fn variable_in(what: &Kind, file: u8) -> &[u8]
-    ensures { result.now ≡ variable_in what.now file }
-{
-    let Kind::Pair(program) = what else {
-        return &[];
-    };
-    let Some(used) = program.files.get(usize::from(file)) else {
-        return &[];
-    };
-    match program.items.get(usize::from(used.item)) {
-        Some(item) => item.name.text(),
-        None => &[],
-    }
 }

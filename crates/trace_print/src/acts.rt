@@ -85,7 +85,7 @@ fn push_who(line: &mut Line, site: &Site, who: Who)
 }
 
 /// The name of the variable of a file, empty where it isn't there.
-pub(crate) fn variable_name(site: &Site, process: u8, file: u8) -> &[u8]
+pub fn variable_name(site: &Site, process: u8, file: u8) -> &[u8]
     ensures name { result.now ≡ variable_name site.now process file }
     ensures short { length result.now ≤ 31 }
 {

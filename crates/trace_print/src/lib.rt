@@ -27,7 +27,7 @@ pub mod shown;
 pub mod stops;
 pub mod verdict;
 
-pub use acts::{write_act, write_all_acts};
+pub use acts::{variable_name, write_act, write_all_acts};
 pub use advised::{write_advised, write_pair};
 pub use closing::{Closing, End, write_closing, write_end, write_usage};
 pub use fault::write_fault;
@@ -38,7 +38,7 @@ pub use mirrors::{MirrorDrives, write_all_mirrors, write_mirror};
 pub use report::{write_load_report, write_report};
 pub use rows::{write_row, write_sweep};
 pub use sectors::{write_all_sectors, write_sector};
-pub use shown::{write_all_shown, write_shown};
+pub use shown::{process_name, terminal_name, write_all_shown, write_shown};
 pub use site_advice;
 pub use stops::{write_all_stops, write_stop};
 pub use verdict::{write_accepted, write_checked, write_refusal};

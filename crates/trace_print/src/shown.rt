@@ -59,7 +59,7 @@ fn shown_text(site: &Site, shown: &Shown) -> Line
 }
 
 /// The name of a process, empty where it isn't there.
-pub(crate) fn process_name(site: &Site, process: u8) -> &[u8]
+pub fn process_name(site: &Site, process: u8) -> &[u8]
     ensures value { result.now ≡ process_name site.now process }
     ensures short { length result.now ≤ 6 }
 {
@@ -70,7 +70,7 @@ pub(crate) fn process_name(site: &Site, process: u8) -> &[u8]
 }
 
 /// The name of a terminal, empty where it isn't there.
-pub(crate) fn terminal_name(site: &Site, terminal: u8) -> &[u8]
+pub fn terminal_name(site: &Site, terminal: u8) -> &[u8]
     ensures value { result.now ≡ terminal_name site.now terminal }
     ensures short { length result.now ≤ 6 }
 {

@@ -12,7 +12,7 @@ returns-in-None c =
     let process = process_name c.args.site.now c.args.process in
     let variable = variable_name c.args.site.now c.args.process c.args.file in
     begins-otherwise c.args.name.now process (codes "/" ++ variable)
-    (c.in-None.ensures ∙ ap (λ p. rest_after p c.args.name.now) c.process_name.ensures)
+    (c.in-None.ensures ∙ ap (λ p. rest_after p c.args.name.now) c.process_name.ensures.value)
     ∙ ap (bytes_eq c.args.name.now) (sym (append_assoc process (codes "/") variable))
 
 pub returns-in-Some : goal.returns-in-Some
@@ -21,5 +21,5 @@ returns-in-Some c =
     let variable = variable_name c.args.site.now c.args.process c.args.file in
     c.is_variable_named.ensures
     ∙ begins-with c.args.name.now process (codes "/" ++ variable) c.in-Some.rest.now
-    (c.in-Some.ensures ∙ ap (λ p. rest_after p c.args.name.now) c.process_name.ensures)
+    (c.in-Some.ensures ∙ ap (λ p. rest_after p c.args.name.now) c.process_name.ensures.value)
     ∙ ap (bytes_eq c.args.name.now) (sym (append_assoc process (codes "/") variable))

@@ -13,6 +13,6 @@ returns-in-None c =
 pub returns-in-Some : goal.returns-in-Some
 returns-in-Some c =
     c.is_same.ensures
-    ∙ ap (bytes_eq c.in-Some.variable.now) c.variable_name.ensures
+    ∙ ap (bytes_eq c.in-Some.variable.now) c.variable_name.ensures.name
     ∙ begins-with c.args.text.now (codes "/") (variable_name c.args.site.now c.args.process c.args.file)
     c.in-Some.variable.now c.in-Some.ensures
