@@ -12,6 +12,6 @@ pub mod numbers;
 pub mod saying;
 
 pub use event_saying::{EventKeyword, EventSaying, PacketPlace};
-pub use lines::{next_line, next_word, one_word, two_words};
+pub use lines::{next_line, next_word, one_word, split_before, two_words};
 pub use numbers::written_number;
 pub use saying::{Placing, Saying, saying_of};

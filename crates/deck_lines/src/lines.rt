@@ -19,7 +19,7 @@ pub fn next_line(text: &[u8]) -> Option<(&[u8], &[u8])>
 }
 
 /// What stands before the first such sign, and the rest from that sign on.
-fn split_before(text: &[u8], sign: u8) -> (&[u8], &[u8])
+pub fn split_before(text: &[u8], sign: u8) -> (&[u8], &[u8])
     ensures front { result.0.now ≡ front_of (λ c. c == sign) text.now }
     ensures back { result.1.now ≡ back_of (λ c. c == sign) text.now }
 {

@@ -1,8 +1,9 @@
 //! Texts cut at a sign.
-ghost use Rattle.std.specs.Prelude.{◌≡◌, ◌+◌, ◌==◌, MatchOption, IfSome, length};
+ghost use Rattle.std.specs.Prelude.{◌≡◌, ◌+◌, MatchOption, IfSome, length};
 ghost use Rattle.std.specs.Option.{option_map};
-ghost use Rattle.deck_lines.specs.Cuts.{front_of, back_of};
 ghost use Rattle.report_reader.specs.Parts.{cut_at, parts_of, parts_with, one_part, rest_after};
+
+use deck_lines::split_before;
 
 /// What stands before the first such sign of a text, and what follows it; none where the text hasn't the sign.
 pub fn cut_at(sign: u8, text: &[u8]) -> Option<(&[u8], &[u8])>
@@ -16,19 +17,6 @@ pub fn cut_at(sign: u8, text: &[u8]) -> Option<(&[u8], &[u8])>
         None => None,
         Some((_, after)) => Some((front, after)),
     }
-}
-
-/// What stands before the first such sign, and the rest from that sign on.
-fn split_before(text: &[u8], sign: u8) -> (&[u8], &[u8])
-    ensures front { result.0.now ≡ front_of (λ c. c == sign) text.now }
-    ensures back { result.1.now ≡ back_of (λ c. c == sign) text.now }
-{
-    for (at, c) in text.iter().enumerate() {
-        if *c == sign {
-            return text.split_at(at);
-        }
-    }
-    text.split_at(text.len())
 }
 
 /// What follows the beginning of a text; none where the text doesn't begin so.
