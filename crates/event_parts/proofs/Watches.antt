@@ -10,7 +10,7 @@ use Rattle.link_control.specs.declared.channel.Resent.{Resent}
 use Rattle.link_control.specs.Ends.{End, packet_of, after_push, sent_by_push, after_tick, sent_by_tick}
 use Rattle.alive_regroup.specs.declared.set.ProcessorSet.{ProcessorSet}
 use Rattle.alive_regroup.specs.Watching as watching
-use Rattle.alive_regroup.specs.Watching.{Watching, told_by_tick}
+use Rattle.alive_regroup.specs.Watching.{told_by_tick}
 use Rattle.world_semantics.specs.World.{terminal_node}
 use Rattle.world_semantics.proofs.Lists.{set-there}
 use Rattle.packet_wires.specs.message_layout.specs.Messages.{Reporting}

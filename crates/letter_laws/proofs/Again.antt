@@ -181,7 +181,8 @@ again-is site before w node processor sending among =
       | inr told ↦ of-told (of-copies (tells_again site before node processor) 0 w.processes sending.message told)
       | inl asked ↦ elim (among-either sending.message asking (terminals_ask site before node processor w.terminals)
           asked) [
-            | inl copies ↦ of-asked (of-copies (asks_again site before node processor) 0 w.processes sending.message copies)
+            | inl copies ↦ of-asked (of-copies (asks_again site before node processor) 0 w.processes sending.message
+                copies)
             | inr terminals ↦ of-terminal
                 (of-terminals entered 0 w.terminals sending.message
                 (if-among sending.message (node == terminal_node) (of_terminals entered 0 w.terminals) terminals))

@@ -127,7 +127,8 @@ module _ (site : Site) (fit : IsFit site) where
   early-step events later post next owed cause sendings all good after apart one early change askers handed = record {
     sent = λ letter request pair k among message there at role.
         elim (among-either letter (letters_of site next all) post.sent among) [
-          | inl new ↦ letter-early later next all after (change-apart post.world next cause sendings change apart) askers
+          | inl new ↦ letter-early later next all after (change-apart post.world next cause sendings change apart)
+              askers
               letter request pair k new message there at role
           | inr old ↦ old-early letter request pair k old message there at role
         ];

@@ -71,6 +71,14 @@ pub fn a_mark_asks_in_deck_order()
             message = Asking (record { process = 0; opener = 0; number = 1; words = pos 5 ∷ [] });
           };
         }
-        ∷ record { number = 3; letter = record { sender = 16; receiver = 1; message = Asking (record { process = 0; opener = 1; number = 1; words = pos 7 ∷ [] }) } }
+        ∷ record {
+          number = 3;
+          letter = record {
+            sender = 16;
+            receiver = 1;
+            message = Asking
+                (record { process = 0; opener = 1; number = 1; words = pos 7 ∷ [] });
+          };
+        }
         ∷ [] }
 {}

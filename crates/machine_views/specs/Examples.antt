@@ -1,9 +1,9 @@
 -- Worked examples: marks, a process whose backup is in the lower processor, and a disc of two sectors on one of which
 -- was written.
-use Rattle.std.specs.Prelude.{ℕ, ℤ, pos, List, [], ◌∷◌, codes, replicate, Option, None}
+use Rattle.std.specs.Prelude.{ℕ, ℤ, pos, List, [], ◌∷◌, codes, replicate, None}
 use Rattle.tal_tree.specs.declared.site.Kind.TheVariants as kind
 use Rattle.tal_tree.specs.declared.site.ProcessSpec.{ProcessSpec}
-use Rattle.disc_device.specs.Sectors.{Stored, blank}
+use Rattle.disc_device.specs.Sectors.{blank}
 use Rattle.process_semantics.specs.Disc.{disc_start}
 use Rattle.process_semantics.specs.Process.{Serves}
 use Rattle.world_semantics.specs.Core.{Core}

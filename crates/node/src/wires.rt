@@ -219,8 +219,8 @@ impl PacketWires {
         }
     }
 
-    /// The I'm-alive packet at a position of a bus, from this sender, is taken off and comes at its receiver. No message
-    /// is whole with it.
+    /// The I'm-alive packet at a position of a bus, from this sender, is taken off and comes at its receiver. No
+    /// message is whole with it.
     pub fn hear_at(&mut self, bus: BusName, position: usize, receiver: u8, sender: u8)
         requires { alive_address (slice_get (on_bus bus self.old) position) ≡ Some (receiver, sender) }
         ensures completed { completed_by (slice_get (on_bus bus self.old) position) self.old.nodes ≡ None }

@@ -28,7 +28,12 @@ impl Model for Records {
 
     ghost coded = { Prim.hlevel (codes, statement.the_row.coded) };
 
-    ghost view = { λ all. record { requests = all.requests; replies = all.replies; shown = all.shown; kept = all.kept } };
+    ghost view = { λ all. record {
+      requests = all.requests;
+      replies = all.replies;
+      shown = all.shown;
+      kept = all.kept;
+    } };
 }
 
 impl Records {

@@ -33,7 +33,8 @@ impl NodeCopy {
         requires few_openers { length openers.now ≤ 144 }
         requires depths { All (λ opener. IsDepth opener.depth) openers.now }
         ensures { IfOk result (λ one. one ≡ record {
-          copy = copy_at_boot role processor (core_at_start (start_of what.now) (length (files_of what.now)) openers.now).core;
+          copy = copy_at_boot role processor
+              (core_at_start (start_of what.now) (length (files_of what.now)) openers.now).core;
           depths = map (λ opener. opener.depth) openers.now;
         }) }
     {

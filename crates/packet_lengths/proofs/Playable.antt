@@ -1,5 +1,5 @@
 -- Each state that a schedule of an accepted site reaches is ready for the next event.
-use Rattle.std.proofs.Common.{◌<◌, ◌≤◌, List, Option, length, arith}
+use Rattle.std.proofs.Common.{◌<◌, List, Option, length, arith}
 use Rattle.tal_tree.specs.declared.site.Site.{Site}
 use Rattle.schedule.specs.declared.event.Event.{Event}
 use Rattle.schedule.specs.declared.line.Line.{Line}

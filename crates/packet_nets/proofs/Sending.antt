@@ -41,8 +41,8 @@ use Rattle.packet_nets.proofs.Between.{letters_by}
 use Rattle.packet_nets.proofs.Owing.{calm-owes, more-owes, push-owes, closed-owes, without-owes}
 use Rattle.packet_nets.proofs.Arriving.{Arrives, arrives, hands_none, ways-pushes, ways-out}
 use Rattle.packet_nets.proofs.Tied as tied
-use Rattle.packet_nets.proofs.Tied.{end-is, end-tied, watched-tied, down-tied, fewer-tied, rest-tied, running-stands}
-use Rattle.packet_nets.proofs.Tied.{stopped-stands, out-any}
+use Rattle.packet_nets.proofs.Tied.{end-is, end-tied, watched-tied, down-tied, fewer-tied, rest-tied}
+use Rattle.packet_nets.proofs.Tied.{out-any}
 
 -- No message is without words
 pub filled : (told : NodeMessage) → 0 < length (words_of told)

@@ -27,7 +27,7 @@ use Rattle.packet_wires.specs.Wires as wires
 use Rattle.packet_wires.specs.Wires.{Midst, goes_over, any_goes_over, goes_again, at_node, at_end_of, at_end}
 use Rattle.packet_wires.specs.Wires.{end_changed, watch_changed, learns, for_each, push_at, sends, sends_all, posted}
 use Rattle.packet_wires.specs.Wires.{all_posted, bus_of_answer, heard_of, arrive_at, arrived, alive_at, tells_alive}
-use Rattle.packet_wires.specs.Wires.{reports, check_at, checks, tick_at, resends, down_at, cut_off, declares}
+use Rattle.packet_wires.specs.Wires.{reports, check_at, checks, tick_at, down_at, cut_off, declares}
 
 -- between events: at most so many pieces were numbered at an end, and at most so many kept there
 abbrev pub RestsAt : ℕ → End → Type 0

@@ -2,7 +2,7 @@
 use Rattle.std.proofs.Common.{◌≡◌, ◌↔◌, ℕ, ◌<◌, zero, suc, Bool, true, false, if◌then◌else◌, List, [], ◌∷◌, length}
 use Rattle.std.proofs.Common.{Option, Some, None, slice_get, refl, arith}
 use Rattle.std.specs.Option.{option_map}
-use Rattle.message_wires.specs.Play.{MachineState, packet_at}
+use Rattle.message_wires.specs.Play.{MachineState}
 use Rattle.message_wires.specs.Wires.{Sent}
 use Rattle.pair_machine.specs.Seen.{kind_at, piece}
 

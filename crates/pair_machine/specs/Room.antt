@@ -1,6 +1,6 @@
 -- What a part of an event needs, so that its letters are counted and each request on the bus names an opener. Our own
 -- rule.
-use Rattle.std.specs.Prelude.{◌<◌, ℕ, ◌^◌, List, Option, Some, None}
+use Rattle.std.specs.Prelude.{◌<◌, ◌^◌, List, Option, Some, None}
 use Rattle.gd_words.specs.Members.{IsAmong}
 use Rattle.world_semantics.specs.Messages.{Sending}
 use Rattle.machine_states.specs.States.{Played, Makes, Skips, Would}

@@ -99,7 +99,8 @@ impl MachineParts {
     fn mark_world(&mut self, node: u8, processor: u8) -> Result<List<Sending>, NoMemory>
         requires { AllWatchersHaveRoom self.old.world.processes }
         ensures told { IfOk result (λ sendings. sendings ≡ (world_at_down node processor self.old.world).sendings
-            ++ sent_again self.old.site self.old.world (world_at_down node processor self.old.world).world node processor) }
+            ++ sent_again self.old.site self.old.world
+            (world_at_down node processor self.old.world).world node processor) }
         ensures state { OnOk result (self.new ≡ record self.old
             { world = (world_at_down node processor self.old.world).world }) }
     {

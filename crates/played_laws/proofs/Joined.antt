@@ -4,7 +4,6 @@ use Rattle.tal_tree.specs.declared.site.Site.{Site}
 use Rattle.schedule.specs.declared.event.Event.{Event}
 use Rattle.computed_changes.specs.Laws.{HasCopiesApart}
 use Rattle.letters.specs.Idle.{IsIdle}
-use Rattle.letters.specs.Posts.{HasPlayed}
 use Rattle.letters.specs.Routes.{Letter}
 use Rattle.world_semantics.specs.Follows.{IsRun}
 use Rattle.awaited_requests.specs.Seats.{IsLaidOut}

@@ -1,6 +1,6 @@
 -- The takeover of the adder is played to its idle end.
-use Rattle.std.proofs.Common.{◌≡◌, ◌<◌, ◌≤◌, ◌≢◌, ℕ, zero, suc, pos, true, List, [], ◌∷◌, length, Some, slice_get}
-use Rattle.std.proofs.Common.{reverse, refl, arith, ap, subst, sym}
+use Rattle.std.proofs.Common.{◌≡◌, ◌<◌, ◌≢◌, ℕ, zero, suc, pos, true, [], ◌∷◌, Some, slice_get}
+use Rattle.std.proofs.Common.{reverse, refl, arith, subst}
 use Rattle.std.specs.Int.{int_wrap}
 use denote.Hole.Carrier.{shown, out}
 use Rattle.tal_tree.specs.declared.statement.What.{out-What}

@@ -1,5 +1,4 @@
 -- A process that is loaded is one that a copy can start with.
-use Rattle.std.proofs.Common.{◌≡◌}
 use Rattle.tal_tree.specs.declared.site.Kind.{Kind}
 use Rattle.tal_tree.specs.declared.site.Kind.TheVariants as kind
 use Rattle.process_semantics.specs.Process.{start_of}

@@ -21,8 +21,8 @@ use tal_tree::{OpenerSpec, Site};
 use world_semantics::{Role, Which};
 
 /// A process in its place in a site: its two copies in their processors, how many kept acts the last checkpoint covers,
-/// and its device, if it is a disc. The checkpoints that its copies ever sent, and which of them were taken, are seen by
-/// contracts alone.
+/// and its device, if it is a disc. The checkpoints that its copies ever sent, and which of them were taken, are seen
+/// by contracts alone.
 #[derive(Drop)]
 pub struct ProcessCopies {
     pub(crate) site: Snapshot<Site>,

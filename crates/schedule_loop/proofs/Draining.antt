@@ -49,7 +49,8 @@ delivers : (sizes : Sizes) (x z : ℕ) (y : Bool) (packets : ℕ) → nat_lt 0 p
 delivers sizes x z true packets some =
     ap (λ (b : Bool). if b then turn (Deliver true 0) (place.Delivers true (packets - 1)) else ticks sizes 0) some
 delivers sizes x z false packets some =
-    ap (λ (b : Bool). if b then turn (Deliver false 0) (place.Delivers false (packets - 1)) else delivers_y sizes z) some
+    ap (λ (b : Bool). if b then turn (Deliver false 0) (place.Delivers false (packets - 1)) else delivers_y sizes z)
+    some
 
 next-delivery : (sizes : Sizes) (left : ℕ) (y : Bool) (packets : ℕ) (counts : Counts) → 0 < packets
     → next_event sizes (standing.Rounds rule.Drain left (place.Delivers y packets)) counts
@@ -68,7 +69,8 @@ makes (Would (DiscLoss process)) before after is = absurd (cc)
 abbrev Goes_on : {Wires : Type 0} → Rules Wires → Course Wires → Scheduled → State Wires → State Wires → ℕ → ℕ
     → Type 0
 Goes_on rules course all s next n packets =
-    IsPlaying rules course (with_left packets all) s n → IsPlaying rules course (with_left (packets - 1) all) next (n + 1)
+    IsPlaying rules course (with_left packets all) s n
+    → IsPlaying rules course (with_left (packets - 1) all) next (n + 1)
 
 abbrev delivering : Sizes → List Line → Option ProcessorStop → LinePlace → Option Event → Scheduled
 delivering sizes lines stop at held_back =
@@ -80,7 +82,8 @@ one-delivered : {Wires : Type 0} (rules : Rules Wires) (course : Course Wires) (
     → Goes_on rules course
     (delivering sizes lines stop (standing.Rounds rule.Drain left (place.Delivers y before)) None) s next n packets
 one-delivered rules course sizes lines stop left y packets s next n before some none made playing =
-    let here : Scheduled = delivering sizes lines stop (standing.Rounds rule.Drain left (place.Delivers y packets)) None in
+    let here : Scheduled =
+    delivering sizes lines stop (standing.Rounds rule.Drain left (place.Delivers y packets)) None in
     let after : Scheduled =
     delivering sizes lines stop (standing.Rounds rule.Drain left (place.Delivers y (packets - 1))) None in
     let comes : Coming rules here s n ≡ Some (record { event = Deliver y 0; agenda = after.agenda }) =

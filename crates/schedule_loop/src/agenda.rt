@@ -85,8 +85,8 @@ impl<'a> Schedule<'a> {
         }
     }
 
-    /// Plays the deliveries of a drain that come next, as long as they can be done at once. Answers how many events were
-    /// played then.
+    /// Plays the deliveries of a drain that come next, as long as they can be done at once. Answers how many events
+    /// were played then.
     pub fn deliver_at_once<M: ScheduleMachine>(&mut self, before: u32, machine: &mut M) -> u32
         ensures plays { (course : Course M.Wires) → IsPlaying M.rules course self.old (M.state machine.old) before
             → IsPlaying M.rules course self.new (M.state machine.new) result }

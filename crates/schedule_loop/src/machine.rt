@@ -34,8 +34,8 @@ pub trait ScheduleMachine: Drop {
             (state self.new)) }
         ensures whole { IfOk result (λ effect. is_broken self.new ≡ false) };
 
-    /// Delivers the first packet of bus X or, where `y` says so, of bus Y, if that can be done at once, as it can with a
-    /// packet that only tells that its sender is alive; and answers whether it was done.
+    /// Delivers the first packet of bus X or, where `y` says so, of bus Y, if that can be done at once, as it can with
+    /// a packet that only tells that its sender is alive; and answers whether it was done.
     fn deliver_at_once(&mut self, y: bool) -> bool
         ensures done { OnTrue result (Settles (rules.play (state self.old) (events.Deliver y 0)) (state self.old)
             effects.Done (state self.new)) }

@@ -19,8 +19,8 @@ is_checkpoint (Run statement) = clears (out-What statement.what)
 is_checkpoint (Test statement) = false
 is_checkpoint (Last statement) = false
 
--- a CHECKPOINT clears all; an entry makes something due by its own step, or by the return from its call, where it is due
--- after it and nothing was due before
+-- a CHECKPOINT clears all; an entry makes something due by its own step, or by the return from its call, where it is
+-- due after it and nothing was due before
 abbrev pub deed_of : Reason → Entry → Deed
 deed_of reason entry =
     if is_checkpoint entry then Clears

@@ -63,7 +63,8 @@ module _ (site : Site) (fit : IsFit site) where
       record {
         ledger = with_deeds number deeds inv.ledger;
         booked = settled.booked;
-        processes = set-one (SoundAs site w.marks (with_deeds number deeds inv.ledger) (events + 1)) w.processes number next
+        processes = set-one (SoundAs site w.marks (with_deeds number deeds inv.ledger) (events + 1)) w.processes
+            number next
             (λ other pair apart at. let was = inv.processes other pair at in
             (was.0, was.1, process-frame (events + 1) (omega arith) (settled.left other apart) settled.keeps was.2))
             (λ _ _. (spec, there, sound));

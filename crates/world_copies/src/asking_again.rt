@@ -56,7 +56,8 @@ impl WorldCopies {
         again: &mut List<Sending>,
     ) -> Result<(), NoMemory>
         ensures { OnOk result (again.new ≡ again.old
-            ++ sent_at node (of_copy (asks_again self.now.site self.now.world node processor) number which (slice_get self.now.world.processes number))) }
+            ++ sent_at node (of_copy (asks_again self.now.site self.now.world node processor) number which
+            (slice_get self.now.world.processes number))) }
     {
         if number >= self.processes.len() {
             return Ok(());
@@ -114,7 +115,8 @@ impl WorldCopies {
         again: &mut List<Sending>,
     ) -> Result<(), NoMemory>
         ensures { OnOk result (again.new ≡ again.old
-            ++ sent_at node (of_terminal (terminal_asking self.now.site self.now.world node processor) number (slice_get self.now.world.terminals number))) }
+            ++ sent_at node (of_terminal (terminal_asking self.now.site self.now.world node processor) number
+            (slice_get self.now.world.terminals number))) }
     {
         if number >= self.terminals.len() {
             return Ok(());

@@ -42,7 +42,8 @@ impl WorldCopies {
         again: &mut List<Sending>,
     ) -> Result<(), NoMemory>
         ensures { OnOk result (again.new ≡ again.old
-            ++ sent_at node (of_copy (tells_again self.now.site self.now.world node processor) number which (slice_get self.now.world.processes number))) }
+            ++ sent_at node (of_copy (tells_again self.now.site self.now.world node processor) number which
+            (slice_get self.now.world.processes number))) }
     {
         if number >= self.processes.len() {
             return Ok(());
@@ -60,7 +61,8 @@ impl WorldCopies {
         again: &mut List<Sending>,
     ) -> Result<(), NoMemory>
         ensures { OnOk result (again.new ≡ again.old
-            ++ sent_at node (tells_again process.now.site self.now.world node processor process.now.number (copy_of which process.now.pair))) }
+            ++ sent_at node (tells_again process.now.site self.now.world node processor
+            process.now.number (copy_of which process.now.pair))) }
     {
         if !process.acts_on(which, node) {
             return Ok(());

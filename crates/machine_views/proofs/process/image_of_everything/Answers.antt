@@ -1,6 +1,5 @@
 use Rattle.std.proofs.Common.{ℕ, List, [], sym, subst}
 use Rattle.process_images.proofs.Everything.{everything-listed}
-use Rattle.process_images.specs.Images.{everything_of}
 use Rattle.processes.specs.Seen.{state_of}
 use Rattle.whole_states.specs.Listing.{MayList}
 use Rattle.machine_views.proofs.process.image_of_everything.Goals as goal

@@ -1,4 +1,4 @@
-use Rattle.std.proofs.Common.{arith, subst, ◌<◌, ◌≡◌, length, true, nat_lt}
+use Rattle.std.proofs.Common.{arith, subst, ◌<◌, length}
 use Rattle.std.proofs.lemmas.Bool.{ltb-true}
 use Rattle.process_control_tests.proofs.Openers.{has_opener}
 use Rattle.process_control_tests.proofs.steps.has_opener.Goals as goal

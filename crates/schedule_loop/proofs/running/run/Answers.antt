@@ -27,7 +27,8 @@ loop-event-preserved g c =
     let later = c.deliver_at_once-played.ensures.plays _ on in (
       later,
       few_played g.M.ScheduleMachine.rules g.M.ScheduleMachine.is_ready _ c.deliver_at_once-played.new.self
-          (g.M.ScheduleMachine.state c.deliver_at_once-played.new.machine) c.deliver_at_once-played.result c.requires.can later,
+          (g.M.ScheduleMachine.state c.deliver_at_once-played.new.machine) c.deliver_at_once-played.result
+          c.requires.can later,
       c.deliver_at_once-played.ensures.whole ∙ c.in_ok-tried.ensures.whole,
     )
 
