@@ -1,5 +1,5 @@
 -- A run of an accepted site, by how it ended.
-use Rattle.std.proofs.Common.{◌≡◌, ◌<◌, ℕ, Bool, true, false, List, length, Option, Some, None, reverse, refl, sym, ap}
+use Rattle.std.proofs.Common.{◌≡◌, ◌<◌, ℕ, true, List, length, Option, reverse, refl, sym, ap}
 use Rattle.std.proofs.Common.{◌∙◌, subst}
 use Rattle.std.specs.Option.{IsSome}
 use Rattle.tal_tree.specs.declared.act.Act.{Act}
@@ -7,7 +7,7 @@ use Rattle.tal_tree.specs.declared.site.Site.{Site}
 use Rattle.schedule.specs.declared.event.Event.{Event}
 use Rattle.schedule.specs.declared.line.Line.{Line}
 use Rattle.player.specs.declared.stop.ProcessorStop.{ProcessorStop}
-use Rattle.plain_semantics.specs.Machine.{IsNoneLeft, IsPossible, made_all, plain_start, shown_by}
+use Rattle.plain_semantics.specs.Machine.{IsNoneLeft, IsPossible, shown_by}
 use Rattle.world_semantics.specs.Kept.{acts_of, closed}
 use Rattle.world_semantics.specs.World.{World}
 use Rattle.agendas.specs.Agendas.{Agenda}

@@ -75,7 +75,7 @@ pub record IsMisnamedTarget (processes : List (Named ProcessLines)) (terminal : 
   pub unknown : place_of processes terminal.target ≡ None
   pub same : misnamed ≡ record { line = terminal.line; own = false }
 
--- the first event line that names no process to run, or no terminal to enter at
+-- the first event line that names no process to run, no terminal to enter at, or no mirrored disc
 abbrev pub event_misnamed : Option ℕ → Option NameFault
 event_misnamed None = None
 event_misnamed (Some line) = Some (record { line = line; own = false })

@@ -1,5 +1,5 @@
-//! The program `explain`: the words of the command line, the file that they name or standard input, standard output, and
-//! the top call of `explain_runner`.
+//! The program `explain`: the words of the command line, the file that they name or standard input, standard output,
+//! and the top call of `explain_runner`.
 //!
 //! Below stand `explain_runner`, whose `exit_number` does all the work, `explain_words` with the file's name, and
 //! `gd_io` with the ends. Nothing is written to standard error.

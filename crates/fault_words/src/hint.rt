@@ -6,7 +6,8 @@ ghost use Rattle.fault_words.specs.Hints.{are_declaring, are_int, are_keyword, a
 ghost use Rattle.fault_words.specs.Hints.{begins_with_int, comes_before_name, declares, form_hint, has_sign, hint_of};
 ghost use Rattle.fault_words.specs.Hints.{hint_text, is_keyword, is_keyword_from_or, is_keyword_up_to_else};
 ghost use Rattle.fault_words.specs.Hints.{is_keyword_up_to_not, is_list, is_sign, keyword_hint, lacks_dollar};
-ghost use Rattle.fault_words.specs.Hints.{last_after, local_hint, name_at, name_length, next_lacks_dollar, program_hint, sign_hint};
+ghost use Rattle.fault_words.specs.Hints.{last_after, local_hint, name_at, name_length, next_lacks_dollar};
+ghost use Rattle.fault_words.specs.Hints.{program_hint, sign_hint};
 
 use deck_lines::next_word;
 use gd_words::Ident;

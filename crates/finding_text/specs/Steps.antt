@@ -1,5 +1,5 @@
 -- The text of a path that breaks: its statements as lines of the deck. Our own.
-use Rattle.std.specs.Prelude.{ℕ, ◌+◌, ◌-◌, ◌==◌, Bool, nat_le, nat_lt, if◌then◌else◌, List, [], ◌∷◌, ◌++◌, codes}
+use Rattle.std.specs.Prelude.{ℕ, ◌+◌, ◌-◌, ◌==◌, nat_le, nat_lt, if◌then◌else◌, List, [], ◌∷◌, ◌++◌, codes}
 use Rattle.std.specs.Prelude.{length, take, drop}
 use Rattle.std.specs.Fmt.{decimal}
 use Rattle.path_semantics.specs.declared.reason.Reason.{Reason}

@@ -3,8 +3,8 @@
 //!
 //! Below stand `program_entries` with what a number stands for, `image_places` with the number of what comes next and
 //! the words that it read, by the words of images, and `value_traps`. The layer above uses `end_of_program` and
-//! `line_of_number`, whose answers are those of `specs/Ends.antt`, and the laws that a step which ends a program is such
-//! a one, and that a trap of a value that is told is one.
+//! `line_of_number`, whose answers are those of `specs/Ends.antt`, and the laws that a step which ends a program is
+//! such a one, and that a trap of a value that is told is one.
 #![tactic(auto)]
 
 pub mod ending;

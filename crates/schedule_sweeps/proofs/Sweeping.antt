@@ -1,6 +1,5 @@
 -- The rows of a sweep, run by run and row by row.
 use Rattle.std.proofs.Common.{◌≡◌, ℕ, ◌+◌, List, [], ◌∷◌, ◌++◌, length, arith, refl, subst, sym}
-use Rattle.player.specs.declared.stop.ProcessorStop.{ProcessorStop}
 use Rattle.run_table.specs.Counts.{row_of}
 use Rattle.run_table.specs.declared.rows.Row.{Row}
 use Rattle.run_table.specs.declared.rows.RunKind.{RunKind}

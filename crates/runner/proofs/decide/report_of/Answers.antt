@@ -40,5 +40,6 @@ run-requires-clause-can c =
 
 pub mirrors_of-requires : goal.mirrors_of-requires
 mirrors_of-requires c =
-    let limits = c.an_accepted_deck_meets_the_premises.ensures.limits c.requires.spelt.0 c.args.deck c.requires.spelt.1 in
+    let limits =
+    c.an_accepted_deck_meets_the_premises.ensures.limits c.requires.spelt.0 c.args.deck c.requires.spelt.1 in
     subst (λ (site : Site). length site.processes ≤ 16) (sym (c.get-2.ensures ∙ c.in_ok-site.ensures)) limits.processes

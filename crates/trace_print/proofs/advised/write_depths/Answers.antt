@@ -12,7 +12,8 @@ returns-in_err-write_depth g c =
     let all = c.args.depths.now in
     let i = c.loop-file.file in
     let one = get_or all i 0 in
-    puts_passed_on g.K.Sink.held g.K.Sink.faults g.K.Sink.sure _ _ (depth_lines site process 0 all) _ c.from_residual.result
+    puts_passed_on g.K.Sink.held g.K.Sink.faults g.K.Sink.sure _ _ (depth_lines site process 0 all) _
+    c.from_residual.result
     c.from_residual.ensures.0
     (rw (depths-split site process all i one c.loop-file-test.true (got all i 0 c.loop-file-test.true))
     (puts_part g.K.Sink.held g.K.Sink.faults g.K.Sink.sure _ _
