@@ -68,6 +68,7 @@ impl Bus {
     }
 
     /// Takes out the packet at a position, which is delivered or lost. Those behind it move up.
+    #[inline(always)]
     pub fn take(&mut self, position: usize) -> Option<Packet>
         ensures value { result ≡ slice_get self.old position }
         ensures after { self.new ≡ remove self.old position }
@@ -75,8 +76,16 @@ impl Bus {
         if position == 0 {
             self.packets.pop_front()
         } else {
-            self.packets.remove(position)
+            self.take_behind(position)
         }
+    }
+
+    #[inline(never)]
+    fn take_behind(&mut self, position: usize) -> Option<Packet>
+        ensures value { result ≡ slice_get self.old position }
+        ensures after { self.new ≡ remove self.old position }
+    {
+        self.packets.remove(position)
     }
 
     /// Sends the packet at a position once more; whether the copy found room, and none where no packet stands there.
