@@ -1,5 +1,5 @@
-ghost use Rattle.std.specs.Prelude.{◌≡◌, ◌≤◌, ◌<◌, ◌+◌, ℕ, take, drop, true, false, map, not, length, IfSome, IfNone};
-ghost use Rattle.std.specs.Prelude.{slice_get};
+ghost use Rattle.std.specs.Prelude.{◌≡◌, ◌≤◌, ◌<◌, ◌+◌, ℕ, Some, take, drop, true, false, map, not, length, IfSome};
+ghost use Rattle.std.specs.Prelude.{IfNone, slice_get};
 ghost use Rattle.std.specs.Bool.{OnTrue};
 ghost use Rattle.std.specs.List.{list_all};
 ghost use Rattle.alive_regroup.specs.Sets.{has};
@@ -119,7 +119,11 @@ impl Watch {
         };
         let before = self.told;
         self.told = silent;
-        if before == silent { None } else { Some(silent) }
+        if before == silent {
+            None
+        } else {
+            to_report(silent)
+        }
     }
 
     /// Whether the last check missed no processor. Then no line is pulled after a tick made now.
@@ -185,6 +189,14 @@ impl Watch {
         let lower = front_of(neighbours, usize::from(self.me));
         none_up(front_of(lower, place)) && none_up(behind(lower, place))
     }
+}
+
+/// A silent set that is to be reported. Out of line, so that a check which changes nothing copies no set.
+#[inline(never)]
+fn to_report(silent: ProcessorSet) -> Option<ProcessorSet>
+    ensures { result ≡ Some silent }
+{
+    Some(silent)
 }
 
 /// The items before a place.
