@@ -1,5 +1,6 @@
-pub mod Ahead
-pub mod Apart
+pub mod Due
+pub mod Order
 pub mod Replays
 pub mod Sound
 pub mod Turns
+pub use Rattle.plain_semantics

@@ -1,6 +1,6 @@
 -- Acts in other orders, in which each process and each terminal keeps its own. Our own rule.
-use Rattle.std.specs.Prelude.{◌≡◌, ℕ, ◌==◌, Bool, false, List, slice_get, Some}
-use Rattle.std.specs.List.{filter}
+use Rattle.std.specs.Prelude.{◌≡◌, ℕ, ◌==◌, Bool, false, List}
+use Rattle.std.specs.List.{filter, list_any}
 use Rattle.tal_tree.specs.declared.act.Act.{Act}
 use Rattle.tal_tree.specs.declared.act.Act.TheVariants.{Step, Take, Enter, Print}
 
@@ -29,6 +29,6 @@ is_same_actor (Print terminal) other = is_of_terminal terminal other
 abbrev pub KeepsTurns : List Act → List Act → Type 0
 KeepsTurns acts order = (act : Act) → filter (is_same_actor act) acts ≡ filter (is_same_actor act) order
 
--- of the acts that its process or terminal does this one is the first
-abbrev pub IsNextIn : Act → List Act → Type 0
-IsNextIn act acts = slice_get (filter (is_same_actor act) acts) 0 ≡ Some act
+-- its process or terminal does none of the acts before it
+abbrev pub HasTurn : List Act → Act → Type 0
+HasTurn before act = list_any (is_same_actor act) before ≡ false

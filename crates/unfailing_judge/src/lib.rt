@@ -6,11 +6,11 @@
 #![tactic(auto)]
 
 mod beside;
-mod difference;
 pub mod judge;
-pub mod replay;
-pub mod same;
-pub mod settle;
+pub mod laws;
+mod replay;
+mod same;
+mod settle;
 mod turns;
 pub mod wrong;
 

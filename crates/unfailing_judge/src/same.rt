@@ -1,10 +1,25 @@
-//! Whether two things that were shown are the same.
+//! Whether two things that are shown are the same.
 ghost use Rattle.std.specs.Prelude.{◌≡◌, ◌↔◌, IsTrue};
+ghost use Rattle.std.specs.Option.{option_copied};
 ghost use Rattle.tal_tree.specs.declared.act.Shown.TheVariants.{Reply, Write};
+ghost use Rattle.unfailing_judge.specs.Due.{IsDue};
 
 use tal_tree::Shown;
 
-pub fn is_same(one: &Shown, other: &Shown) -> bool
+/// Whether nothing is shown, or what is to be shown next.
+pub(crate) fn is_due(told: Option<&Shown>, next: Option<&Shown>) -> bool
+    ensures { IsTrue result ↔ IsDue (option_copied told.entry) (option_copied next.entry) }
+{
+    match told {
+        None => true,
+        Some(told) => match next {
+            None => false,
+            Some(next) => is_same(told, next),
+        },
+    }
+}
+
+fn is_same(one: &Shown, other: &Shown) -> bool
     ensures { IsTrue result ↔ (one.now ≡ other.now) }
 {
     match one {

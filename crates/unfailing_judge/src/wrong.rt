@@ -1,7 +1,7 @@
 use tal_tree::{Act, Shown};
 
-/// Where what was shown differs first from what is due: so many things are the same, then this was shown, where that is
-/// due; none where nothing more is shown.
+/// After so many things that unfailing processes show too: what the run showed next, and what they show next. None
+/// where nothing more is shown.
 #[derive(Drop)]
 pub struct Apart {
     pub before: usize,
@@ -10,8 +10,7 @@ pub struct Apart {
 }
 
 /// Kept acts that unfailing processes can't all do: each process and terminal in its own order, they do so many, and
-/// then no next act is possible, of which this is the first. Where what was shown differs from what they show up to
-/// there.
+/// then none that is left is possible, of which this is the first. What is still to be shown there, if anything is.
 #[derive(Drop)]
 pub struct Stuck {
     pub made: usize,
@@ -24,8 +23,8 @@ pub struct Stuck {
 pub enum Wrong {
     /// They can't do all kept acts.
     Stuck(Stuck),
-    /// They can do all kept acts, and show something else than was shown.
+    /// They show something else than was shown next, or nothing more.
     Differs(Apart),
-    /// They can do all kept acts and show the same; and the run ended idle, where they have something left to do.
+    /// They do all kept acts and show the same; and the run ended idle, where they have something left to do.
     Left,
 }

@@ -1,0 +1,6 @@
+pub mod Blocked
+pub mod KeptTurns
+pub mod Orders
+pub mod Settling
+pub mod Verdicts
+pub mod Ways
