@@ -1,6 +1,5 @@
 pub mod Drives
 pub mod Marks
-pub mod PacketKinds
 pub mod Packets
 pub mod Room
 pub mod Steps

@@ -9,7 +9,6 @@
 
 mod delivering;
 mod failing;
-pub mod laws;
 pub mod pairs;
 mod posting;
 mod running;

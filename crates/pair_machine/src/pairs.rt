@@ -1,15 +1,14 @@
-ghost use Rattle.std.specs.Prelude.{◌≡◌, false, true, length, reverse, if◌then◌else◌, IfOk, OnOk, OnErr};
-ghost use Rattle.std.specs.Option.{option_map};
+ghost use Rattle.std.specs.Prelude.{◌≡◌, false, true, length, reverse, IfOk, OnOk, OnErr};
 ghost use Rattle.machine_states.specs.States.{Settles};
 ghost use Rattle.world_semantics.specs.Kept.{acts_of};
 ghost use Rattle.world_copies.specs.node_copies.specs.ShownCounts.{replies_in, writes_in};
 ghost use Rattle.message_wires.specs.Idle.{is_idle};
-ghost use Rattle.message_wires.specs.Play.{packet_at, play, machine_at_boot};
+ghost use Rattle.message_wires.specs.Play.{play, machine_at_boot};
 ghost use Rattle.number_ranges.specs.HasRoom.{HasRoom, HasRoomForLetters};
 ghost use Rattle.world_copies.specs.process_copies.specs.Starting.{IsStartable};
 ghost use Rattle.world_copies.specs.Seen.{ArePlaced, pairs_in};
 ghost use Rattle.pair_machine.specs.Room.{OpenersAreThere};
-ghost use Rattle.pair_machine.specs.Seen.{closed_state, kind_at};
+ghost use Rattle.pair_machine.specs.Seen.{closed_state};
 
 use crate::whole::MachineParts;
 use gd_words::NoMemory;
@@ -22,9 +21,6 @@ use tal_tree::{Act, Shown, Site};
 use world_copies::Terminal;
 use world_copies::node_copies::Downs;
 use world_copies::process_copies::ProcessCopies;
-
-/// The kind of a packet that carries a piece of a message.
-const PIECE: u8 = 1;
 
 /// The machine over whole messages. Once an allocation was refused to it, it answers so for good.
 #[derive(Drop)]
@@ -81,31 +77,11 @@ impl PairMachine {
         }
     }
 
-    /// How many packets are on bus X or, where `y` says so, on bus Y, which stays empty.
-    pub fn count(&self, y: bool) -> u32
-        ensures { result ≡ (if y then 0 else length self.now.state.wires.bus) }
+    /// How many packets are on the bus.
+    pub fn packets(&self) -> u32
+        ensures { result ≡ length self.now.state.wires.bus }
     {
-        if y { 0 } else { self.whole.packets() }
-    }
-
-    /// The node that sent the packet at a position of a bus.
-    pub fn sender_at(&self, y: bool, k: u32) -> Option<u8>
-        ensures { result ≡ option_map (λ packet. packet.letter.sender) (packet_at self.now.state y k) }
-    {
-        if y {
-            return None;
-        }
-        self.whole.wires.sender_at(k as usize)
-    }
-
-    /// The kind of the packet at a position of a bus: a whole message counts as a piece.
-    pub fn kind_at(&self, y: bool, k: u32) -> Option<u8>
-        ensures { result ≡ kind_at self.now.state y k }
-    {
-        match self.sender_at(y, k) {
-            None => None,
-            Some(_sender) => Some(PIECE),
-        }
+        self.whole.packets()
     }
 
     /// How many writes were shown.

@@ -1,5 +1,4 @@
 ghost use Rattle.std.specs.Prelude.{◌≡◌, length, slice_get, IfOk, OnOk};
-ghost use Rattle.std.specs.Option.{option_map};
 ghost use Rattle.message_wires.specs.Idle.{none_owed};
 ghost use Rattle.message_wires.specs.Wires.{paid, paid_between, wires_after_post, wires_again, wires_at_boot};
 ghost use Rattle.message_wires.specs.Wires.{without_packet};
@@ -53,13 +52,6 @@ impl PostedLetters {
         ensures { result ≡ length self.now.bus }
     {
         self.bus.len() as u32
-    }
-
-    /// The node that sent the packet at a position of the bus.
-    pub fn sender_at(&self, k: usize) -> Option<u8>
-        ensures { result ≡ option_map (λ packet. packet.letter.sender) (slice_get self.now.bus k) }
-    {
-        Some(self.bus.get(k)?.sender())
     }
 
     /// Sends a letter: it is owed, and a packet of it goes to the bus. The number of its sending has a successor.

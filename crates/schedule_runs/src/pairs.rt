@@ -37,7 +37,7 @@ impl PlayedPairs {
         ensures { result ≡ record (counts_of self.now.machine.state) { idle = idle } }
     {
         Counts {
-            x: self.machine.count(false),
+            x: self.machine.packets(),
             y: 0,
             alive: false,
             sender: 0,
