@@ -12,7 +12,7 @@ use crate::steps::{Stood, acting_of, end_of_spec, everything_at_end, put_end, st
 use gd_words::{List, NoMemory};
 use machine_states::Effect;
 use packet_runs::site_machine::Machine;
-use packet_words::{Packet, PacketKind};
+use packet_words::{BusName, Packet, PacketKind};
 use player::Player;
 use processes::Process;
 use program_ends::LastStep;
@@ -126,8 +126,8 @@ impl<'a> ScheduleMachine for NotedPackets<'a> {
     }
 
     fn counts(&self, player: &Player, idle: bool) -> Counts {
-        let x = self.machine.count(false) as u32;
-        let y = self.machine.count(true) as u32;
+        let x = self.machine.count(BusName::X) as u32;
+        let y = self.machine.count(BusName::Y) as u32;
         let packet = self.concerned(player, x, y);
         Counts {
             x,
@@ -142,8 +142,8 @@ impl<'a> ScheduleMachine for NotedPackets<'a> {
 
     fn tally(&self, idle: bool) -> Counts {
         Counts {
-            x: self.machine.count(false) as u32,
-            y: self.machine.count(true) as u32,
+            x: self.machine.count(BusName::X) as u32,
+            y: self.machine.count(BusName::Y) as u32,
             alive: false,
             sender: 0,
             idle,

@@ -9,7 +9,7 @@ ghost use Rattle.packet_runs.specs.Runs.{concerned, is_alive, packet_rules, send
 use gd_words::NoMemory;
 use logs::Shared;
 use machine_states::Effect;
-use packet_words::{Packet, PacketKind};
+use packet_words::{BusName, Packet, PacketKind};
 use player::Player;
 use schedule::{Counts, Event};
 use schedule_loop::ScheduleMachine;
@@ -64,8 +64,8 @@ impl ScheduleMachine for PlayedPackets {
 
     #[inline(never)]
     fn counts(&self, player: &Player, idle: bool) -> Counts {
-        let x = self.machine.count(false) as u32;
-        let y = self.machine.count(true) as u32;
+        let x = self.machine.count(BusName::X) as u32;
+        let y = self.machine.count(BusName::Y) as u32;
         let packet = self.concerned(player, x, y);
         Counts {
             x,
@@ -80,8 +80,8 @@ impl ScheduleMachine for PlayedPackets {
 
     fn tally(&self, idle: bool) -> Counts {
         Counts {
-            x: self.machine.count(false) as u32,
-            y: self.machine.count(true) as u32,
+            x: self.machine.count(BusName::X) as u32,
+            y: self.machine.count(BusName::Y) as u32,
             alive: false,
             sender: 0,
             idle,

@@ -28,7 +28,7 @@ use gd_words::NoMemory;
 use link_control::Channel;
 use logs::Shared;
 use machine_states::Effect;
-use packet_words::{Packet, PacketKind};
+use packet_words::{BusName, Packet, PacketKind};
 use schedule::Event;
 use std::alloc::Global;
 use std::marker::Model;
@@ -104,12 +104,12 @@ impl Machine {
         self.whole.deliver_at_once(y)
     }
 
-    /// How many packets are on bus X or, where `y` says so, on bus Y.
-    pub fn count(&self, y: bool) -> usize
-        ensures value { result ≡ count_on self.now.state (bus_named y) }
+    /// How many packets are on a bus.
+    pub fn count(&self, bus: BusName) -> usize
+        ensures value { result ≡ count_on self.now.state bus }
         ensures few { result ≤ 4096 }
     {
-        self.whole.wires.count(bus_named(y))
+        self.whole.wires.count(bus)
     }
 
     /// The packet at a position of a bus.
@@ -120,18 +120,18 @@ impl Machine {
     }
 
     /// The node that sent the packet at a position of a bus.
-    pub fn sender_at(&self, y: bool, k: u32) -> Option<u8>
-        ensures { result ≡ sender_at self.now.state (bus_named y) k }
+    pub fn sender_at(&self, bus: BusName, k: u32) -> Option<u8>
+        ensures { result ≡ sender_at self.now.state bus k }
     {
-        let packet = self.packet_at(y, k)?;
+        let packet = self.whole.wires.packet_at(bus, k as usize)?;
         Some(packet.sender)
     }
 
     /// The kind of the packet at a position of a bus.
-    pub fn kind_at(&self, y: bool, k: u32) -> Option<&PacketKind>
-        ensures { option_copied result ≡ kind_at self.now.state (bus_named y) k }
+    pub fn kind_at(&self, bus: BusName, k: u32) -> Option<&PacketKind>
+        ensures { option_copied result ≡ kind_at self.now.state bus k }
     {
-        let packet = self.packet_at(y, k)?;
+        let packet = self.whole.wires.packet_at(bus, k as usize)?;
         Some(&packet.kind)
     }
 
