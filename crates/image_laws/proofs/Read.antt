@@ -1,12 +1,12 @@
 -- The frames of a state are read off their words, and the last is the one that runs.
-use Rattle.std.proofs.Common.{◌≡◌, inl, inr, ℕ, suc, ℤ, List, [], ◌∷◌, ◌++◌, length, reverse, flat_map}
+use Rattle.std.proofs.Common.{◌≡◌, inl, inr, ℕ, suc, ◌-◌, ℤ, drop, List, [], ◌∷◌, ◌++◌, length, reverse, flat_map}
 use Rattle.std.proofs.Common.{Option, Some, None}
-use Rattle.std.proofs.Common.{refl, ap, ap₂, sym, ◌∙◌, append_assoc, option_and_then}
-use Rattle.std.proofs.lemmas.Grind.{reverse_onto}
+use Rattle.std.proofs.Common.{refl, ap, ap₂, sym, ◌∙◌, append_assoc, option_and_then, arith}
+use Rattle.std.proofs.lemmas.Grind.{flat_map-append, reverse_onto}
 use Rattle.std.proofs.lemmas.List.{length-reverse}
 use Rattle.std.specs.Option.{option_map}
-use Rattle.image_places.specs.Memories.{locals_of, memory_in}
-use Rattle.image_places.specs.Running.{Running, frame_in, frame_where, last_of, next_of, with_words}
+use Rattle.image_places.specs.Memories.{globals_in, locals_of, memory_in, memory_with}
+use Rattle.image_places.specs.Running.{Running, caller_in, frame_in, frame_where, last_of, next_of, with_words}
 use Rattle.process_images.proofs.Frames.{AllFrames}
 use Rattle.process_images.proofs.Fronts.{words-read}
 use Rattle.process_images.proofs.Stacks.{all-from-main}
@@ -19,7 +19,10 @@ use Rattle.process_semantics.specs.Remains.{Remains}
 use Rattle.process_semantics.specs.Rests.{entry_number, next_number, rests_of}
 use Rattle.process_semantics.specs.State as state
 use Rattle.process_semantics.specs.State.{Entry, Frame, ProgramState, first_of, rest_of}
-use Rattle.program_ends.specs.Ends.{at_entry, coming_in, end_of_program}
+use Rattle.process_semantics.specs.Words.{Front}
+use Rattle.program_ends.specs.Ends.{at_entry, coming_in, end_of_program, target_at, target_by, target_in}
+use Rattle.program_ends.specs.Ends.{target_in_state, target_of}
+use Rattle.program_ends.specs.declared.ending.WordTarget.{WordTarget}
 use Rattle.program_entries.specs.Entries.{entry_at}
 use Rattle.tal_tree.specs.Ordered.{IsNumbered}
 use Rattle.tal_tree.specs.declared.program.Procedure.{Procedure}
@@ -95,14 +98,49 @@ locals_read program (frame ∷ callers) left are =
     (reverse_onto callers frame [])
     ∙ ap (λ (last : Option Running). locals_of (with_words left last)) (last_is (reverse callers) frame None)
 
-abbrev memory_with : Program → List (List ℤ) → List ℤ → Memory
-memory_with program globals locals = record { items = program.items; globals = globals; locals = locals }
+-- the frame below the one that runs
+abbrev caller_of : List Frame → Option Running
+caller_of [] = None
+caller_of (frame ∷ []) = None
+caller_of (frame ∷ caller ∷ callers) = Some (running_of caller)
 
 pub memory-read : (program : Program) (s : ProgramState) (items : List ℕ) → IsWhole program s
     → memory_in program (program_words items s) (program_words (listable_from 0 program.items) (ends s))
     ≡ state.memory_of program s
 memory-read program s items whole =
     ap₂ (memory_with program) (globals-read program s whole) (locals_read program s.frames _ whole.frames)
+
+-- The frame below the one that runs
+
+abbrev called_back : Front Running → Option Running
+called_back read = option_map (λ (frame, left). frame) read
+
+pub caller_read : (program : Program) (frames : List Frame) (left : List ℤ) → AreFrames program frames
+    → called_back (last_of program (length frames - 1) (flat_map frame_words (reverse frames) ++ left) None)
+    ≡ caller_of frames
+caller_read program [] left are = refl
+caller_read program (frame ∷ []) left are = refl
+caller_read program (frame ∷ caller ∷ callers) left are =
+    let fewer : suc (suc (length callers)) - 1 ≡ suc (length callers) = omega arith in
+    ap (λ (n : ℕ). called_back
+    (last_of program n (flat_map frame_words (reverse (frame ∷ caller ∷ callers)) ++ left) None)) fewer
+    ∙ ap (λ (frames : List Frame). called_back
+    (last_of program (suc (length callers)) (flat_map frame_words frames ++ left) None))
+    (reverse_onto (caller ∷ callers) frame [])
+    ∙ ap (λ (words : List ℤ). called_back (last_of program (suc (length callers)) (words ++ left) None))
+    (flat_map-append frame_words (reverse (caller ∷ callers)) (frame ∷ []))
+    ∙ ap (λ (words : List ℤ). called_back (last_of program (suc (length callers)) words None))
+    (append_assoc (flat_map frame_words (reverse (caller ∷ callers))) (flat_map frame_words (frame ∷ [])) left)
+    ∙ ap (λ (n : ℕ). called_back (last_of program n
+    (flat_map frame_words (reverse (caller ∷ callers)) ++ (flat_map frame_words (frame ∷ []) ++ left)) None))
+    (sym (length-reverse (caller ∷ callers)))
+    ∙ ap called_back (last_read program (reverse (caller ∷ callers)) (flat_map frame_words (frame ∷ []) ++ left) None
+    (all-from-main program (caller ∷ callers) are.1.1))
+    ∙ ap (λ (frames : List Frame). called_back
+    (with_words (flat_map frame_words (frame ∷ []) ++ left) (last_running frames None)))
+    (reverse_onto callers caller [])
+    ∙ ap (λ (last : Option Running). called_back (with_words (flat_map frame_words (frame ∷ []) ++ left) last))
+    (last_is (reverse callers) caller None)
 
 -- What comes next by its number
 
@@ -131,10 +169,43 @@ module _ (told : Told) (program : Program) where
   entry-read s items numbered whole =
       ap (entry_at program) (next_read program s.frames _ whole.frames) ∙ coming s.frames numbered whole.frames
 
+  abbrev target_by_running : (globals : List (List ℤ)) → Option Running → Option WordTarget
+  target_by_running globals None = None
+  target_by_running globals (Some caller) =
+      Some (target_of (memory_with program globals caller.locals) (entry_at program caller.next))
+
+  called-read : (globals : List (List ℤ)) (read : Front Running)
+      → target_at program globals read ≡ target_by_running globals (called_back read)
+  called-read globals None = refl
+  called-read globals (Some (caller, left)) = refl
+
+  by-frames : (s : ProgramState) (frames : List Frame) → IsNumbered program → AreFrames program frames
+      → s.frames ≡ frames
+      → target_by_running s.globals (caller_of frames) ≡ target_by program s (drop 1 frames)
+  by-frames s [] numbered are same = refl
+  by-frames s (frame ∷ []) numbered are same = refl
+  by-frames s (frame ∷ caller ∷ callers) numbered are same =
+      ap₂ (λ (locals : List ℤ) (call : Option Entry). Some (target_of (memory_with program s.globals locals) call))
+      (ap (λ (frames : List Frame). state.locals_of (drop 1 frames)) (sym same))
+      (coming (caller ∷ callers) numbered are.1.1)
+
+  pub target-read : (s : ProgramState) (items : List ℕ) → IsNumbered program → IsWhole program s
+      → target_in program (program_words items s) s.globals ≡ target_in_state program s
+  target-read s items numbered whole =
+      called-read s.globals (caller_in program (program_words items s))
+      ∙ ap (target_by_running s.globals) (caller_read program s.frames _ whole.frames)
+      ∙ by-frames s s.frames numbered whole.frames refl
+
   pub end-read : (s : ProgramState) (items : List ℕ) → IsNumbered program → IsWhole program s
       → end_of_program program (program_words items s) s.in_hand
       (program_words (listable_from 0 program.items) (ends s))
-      ≡ at_entry (state.memory_of program s) (length s.frames) s.in_hand (state.next_of s.frames)
+      ≡ at_entry (state.memory_of program s) (target_in_state program s) s.in_hand (state.next_of s.frames)
   end-read s items numbered whole =
-      ap₂ (λ (memory : Memory) (next : Option Entry). at_entry memory (length s.frames) s.in_hand next)
+      ap₂ (λ (memory : Memory) (next : Option Entry). at_entry memory
+      (target_in program (program_words items s)
+      (globals_in program (program_words (listable_from 0 program.items) (ends s)))) s.in_hand next)
       (memory-read program s items whole) (entry-read s items numbered whole)
+      ∙ ap (λ (target : Option WordTarget). at_entry (state.memory_of program s) target s.in_hand
+      (state.next_of s.frames))
+      (ap (target_in program (program_words items s)) (globals-read program s whole)
+      ∙ target-read s items numbered whole)

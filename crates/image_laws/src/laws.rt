@@ -1,26 +1,25 @@
-ghost use Rattle.std.specs.Prelude.{◌≡◌, ℕ, List, length};
+ghost use Rattle.std.specs.Prelude.{◌≡◌, ℕ, List};
 ghost use Rattle.std.specs.Option.{option_map};
 ghost use Rattle.image_places.specs.Memories.{memory_in};
-ghost use Rattle.image_places.specs.Running.{depth_in, next_in};
+ghost use Rattle.image_places.specs.Running.{next_in};
 ghost use Rattle.process_images.specs.Images.{listable_from};
 ghost use Rattle.process_semantics.specs.Changes.{ends};
 ghost use Rattle.process_semantics.specs.Image.{program_words};
 ghost use Rattle.process_semantics.specs.Rests.{next_number};
 ghost use Rattle.process_semantics.specs.State.{ProgramState, memory_of, next_of, rest_of};
 ghost use Rattle.program_ends.specs.Ends.{at_entry, coming_in, end_of_program, line_of_entry, line_of_number};
+ghost use Rattle.program_ends.specs.Ends.{target_in, target_in_state};
 ghost use Rattle.tal_tree.specs.Ordered.{IsNumbered};
 ghost use Rattle.tal_tree.specs.declared.program.Program.{Program};
 ghost use Rattle.whole_states.specs.Whole.{IsWhole};
 
 use program_entries::numbers_tell_what_comes_next;
 
-/// What is read off the words of a state that a program may be in, whatever items they have, is how many procedures run
-/// in it, and what comes next in the one that runs. With the words of the end that a trap makes of it, and of all its
-/// items, it is also what the statements of that procedure read. So the step with which a program is told to have ended
-/// is that of the state in which it stood.
+/// What is read off the words of a state that a program may be in, whatever items they have, is what comes next in the
+/// procedure that runs. With the words of the end that a trap makes of it, and of all its items, it is also what the
+/// statements of that procedure read, and the target of the call for which it runs. So the step with which a program is
+/// told to have ended is that of the state in which it stood.
 pub fn an_image_tells_what_comes_next()
-    ensures depth { (program : Program) (s : ProgramState) (items : List ℕ)
-        → depth_in (program_words items s) ≡ length s.frames }
     ensures number { (program : Program) (s : ProgramState) (items : List ℕ) → IsWhole program s
         → next_in program (program_words items s) ≡ next_number (rest_of s.frames) }
     ensures next { (program : Program) (s : ProgramState) (items : List ℕ) → IsNumbered program → IsWhole program s
@@ -28,10 +27,12 @@ pub fn an_image_tells_what_comes_next()
     ensures memory { (program : Program) (s : ProgramState) (items : List ℕ) → IsWhole program s
         → memory_in program (program_words items s) (program_words (listable_from 0 program.items) (ends s))
         ≡ memory_of program s }
+    ensures target { (program : Program) (s : ProgramState) (items : List ℕ) → IsNumbered program → IsWhole program s
+        → target_in program (program_words items s) s.globals ≡ target_in_state program s }
     ensures end { (program : Program) (s : ProgramState) (items : List ℕ) → IsNumbered program → IsWhole program s
         → end_of_program program (program_words items s) s.in_hand
         (program_words (listable_from 0 program.items) (ends s))
-        ≡ at_entry (memory_of program s) (length s.frames) s.in_hand (next_of s.frames) }
+        ≡ at_entry (memory_of program s) (target_in_state program s) s.in_hand (next_of s.frames) }
 {
     numbers_tell_what_comes_next();
 }

@@ -34,11 +34,12 @@ globals_from (item ∷ items) words before =
 abbrev pub globals_in : Program → List ℤ → List (List ℤ)
 globals_in program words = unwrap_or (globals_from program.items (drop 2 words) []) []
 
+-- what a procedure with these locals reads where the items have these words
+abbrev pub memory_with : Program → List (List ℤ) → List ℤ → Memory
+memory_with program globals locals = record { items = program.items; globals = globals; locals = locals }
+
 -- what the statement read that came next by the first image; the other one, with everything, is of the end that came
 -- of it. For a trap changes no word
 abbrev pub memory_in : Program → List ℤ → List ℤ → Memory
-memory_in program words everything = record {
-  items = program.items;
-  globals = globals_in program everything;
-  locals = locals_in program words;
-}
+memory_in program words everything =
+    memory_with program (globals_in program everything) (locals_in program words)

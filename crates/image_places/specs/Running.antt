@@ -1,6 +1,6 @@
 -- Where a program stands, by the words of its image.
 use Rattle.std.specs.Option.{option_map, option_and_then}
-use Rattle.std.specs.Prelude.{◌≡◌, ℕ, zero, suc, ℤ, List, length, slice_get, Option, Some, None}
+use Rattle.std.specs.Prelude.{◌≡◌, ℕ, zero, suc, ◌-◌, ℤ, List, length, slice_get, Option, Some, None}
 use Rattle.tal_tree.specs.declared.program.Procedure.{Procedure}
 use Rattle.tal_tree.specs.declared.program.Program.{Program}
 use Rattle.process_semantics.specs.Words.{Front, count_in, words_in}
@@ -58,10 +58,6 @@ next_of (Some (frame, left)) = frame.next
 abbrev pub next_in : Program → List ℤ → ℕ
 next_in program words = next_of (running_in program words)
 
-abbrev pub counted_first : Front ℕ → ℕ
-counted_first None = 0
-counted_first (Some (count, left)) = count
-
--- how many procedures run: MAIN, and each that was called from there
-abbrev pub depth_in : List ℤ → ℕ
-depth_in words = counted_first (count_in words)
+-- the procedure that has called the one that runs: the frame before the last one of its image. None has called MAIN
+abbrev pub caller_in : Program → List ℤ → Front Running
+caller_in program words = option_and_then (λ (count, left). last_of program (count - 1) left None) (count_in words)

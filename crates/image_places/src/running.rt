@@ -1,6 +1,6 @@
 ghost use Rattle.std.specs.Prelude.{◌≡◌, None};
 ghost use Rattle.process_semantics.specs.Words.{count_in, words_in};
-ghost use Rattle.image_places.specs.Running.{Gives, depth_in, frame_in, frame_of, last_of};
+ghost use Rattle.image_places.specs.Running.{Gives, caller_in, frame_in, frame_of, last_of};
 ghost use Rattle.image_places.specs.Running.{next_in, running_in, seen};
 
 use tal_tree::{Procedure, Program};
@@ -33,14 +33,13 @@ pub fn next_in(program: &Program, words: &[i16]) -> u16
     }
 }
 
-/// How many procedures run, by the words of an image: MAIN, and each that was called from there.
-pub fn depth_in(words: &[i16]) -> u16
-    ensures { result ≡ depth_in words.now }
+/// The procedure that has called the one that runs in a program, by the words of its image, and the words behind its
+/// own. None where MAIN runs, the words are no image of the program, or it has ended.
+pub fn caller_in<'a>(program: &Program, words: &'a [i16]) -> Option<(RunningFrame<'a>, &'a [i16])>
+    ensures { Gives (λ r. (seen r.0, r.1.now)) result (caller_in program.now words.now) }
 {
-    match number_in(words) {
-        None => 0,
-        Some((count, _)) => count,
-    }
+    let (count, left) = number_in(words)?;
+    last_of(program, count.saturating_sub(1), left)
 }
 
 /// The last of so many frames, and the words behind it.

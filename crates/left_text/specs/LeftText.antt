@@ -1,6 +1,6 @@
 -- What is left at the end of a run, as text. Our own wording.
-use Rattle.std.specs.Prelude.{ℕ, zero, suc, ◌+◌, ℤ, Bool, true, false, List, [], ◌∷◌, ◌++◌, codes, flat_map, slice_get}
-use Rattle.std.specs.Prelude.{Option, Some, None}
+use Rattle.std.specs.Prelude.{ℕ, zero, suc, ◌+◌, ℤ, pos, Bool, true, false, List, [], ◌∷◌, ◌++◌, codes, flat_map}
+use Rattle.std.specs.Prelude.{slice_get, Option, Some, None}
 use Rattle.std.specs.Fmt.{decimal, signed_decimal}
 use Rattle.tal_tree.specs.declared.site.ProcessSpec.{ProcessSpec}
 use Rattle.tal_tree.specs.declared.site.Site.{Site}
@@ -14,8 +14,7 @@ use Rattle.left_findings.specs.declared.finding.Stand.TheVariants as stand
 use Rattle.left_findings.specs.declared.finding.TerminalLeft.{TerminalLeft}
 use Rattle.left_findings.specs.declared.finding.TerminalLeft.TheVariants as terminal
 use Rattle.program_ends.specs.declared.ending.LastStep.{LastStep}
-use Rattle.program_ends.specs.declared.ending.LastStep.TheVariants.{MainEnded, Stopped, Returned, Trapped}
-use Rattle.program_ends.specs.declared.ending.LastStep.TheVariants.{TrappedAtEnd}
+use Rattle.program_ends.specs.declared.ending.LastStep.TheVariants.{MainEnded, Stopped, Returned, Trapped, TrappedAtEnd}
 use Rattle.program_ends.specs.declared.ending.Trap.{Trap}
 use Rattle.program_ends.specs.declared.ending.Trap.TheVariants as trap
 use Rattle.value_traps.specs.declared.trap.ValueTrap.{ValueTrap}
@@ -77,8 +76,8 @@ step_text MainEnded = codes " has ended: its MAIN came to its end" ++ 10 ∷ []
 step_text (Stopped line) = codes " has ended by STOP:" ++ 10 ∷ []
 step_text (Returned line) = codes " has ended with the RETURN of its MAIN:" ++ 10 ∷ []
 step_text (Trapped line trap) = codes " has ended by a trap of this statement:" ++ 10 ∷ []
-step_text TrappedAtEnd =
-    codes " has ended by a trap: a procedure came to its end, and its word goes to an element that isn't there"
+step_text (TrappedAtEnd target) =
+    codes " has ended by a trap: a procedure came to its end, and its word goes to an element that isn't there:"
     ++ 10 ∷ []
 
 abbrev pub ended_text : Option LastStep → List ℕ
@@ -100,7 +99,7 @@ line_of_step MainEnded = None
 line_of_step (Stopped line) = Some line
 line_of_step (Returned line) = Some line
 line_of_step (Trapped line trap) = Some line
-line_of_step TrappedAtEnd = None
+line_of_step (TrappedAtEnd target) = target.line
 
 abbrev pub line_of_end : Option LastStep → Option ℕ
 line_of_end None = None
@@ -134,21 +133,34 @@ value_text why.ZeroDivisor = codes "         it divides by 0" ++ 10 ∷ []
 value_text (why.Index index low high) = index_text index low high
 value_text why.NotThere = codes "         what it names isn't there" ++ 10 ∷ []
 
+-- why the element isn't there to which a procedure gives its word
+abbrev pub target_text : ValueTrap → List ℕ
+target_text why.ZeroDivisor = codes "         the index of that element divides by 0" ++ 10 ∷ []
+target_text (why.Index index low high) = index_text index low high
+target_text why.NotThere = []
+
+-- a count, and the most that its array lets it be
+abbrev pub bad_count_text : ℤ → ℤ → List ℕ
+bad_count_text count most = codes "         count " ++ signed_decimal count ++ bounds_text (pos 0) most
+
+abbrev pub no_element_text : ValueTrap → List ℕ
+no_element_text met =
+    (codes "         its word goes to an element that isn't there" ++ 10 ∷ []) ++ target_text met
+
 -- why a statement trapped
 abbrev pub trap_text : Trap → List ℕ
 trap_text trap.NothingInHand = codes "         no request is in hand" ++ 10 ∷ []
 trap_text trap.RequestInHand = codes "         a request is in hand already" ++ 10 ∷ []
 trap_text (trap.Value met) = value_text met
-trap_text trap.Count =
-    codes "         a count is below 0, above 16 or above its array, or it has no value" ++ 10 ∷ []
-trap_text trap.Target = codes "         its word goes to an element that isn't there" ++ 10 ∷ []
+trap_text (trap.Count count most) = bad_count_text count most
+trap_text (trap.Target met) = no_element_text met
 
 abbrev pub why_text : LastStep → List ℕ
 why_text MainEnded = []
 why_text (Stopped line) = []
 why_text (Returned line) = []
 why_text (Trapped line trap) = trap_text trap
-why_text TrappedAtEnd = []
+why_text (TrappedAtEnd target) = target_text target.met
 
 -- why a process has ended, and that a request which it has in hand gets no reply
 abbrev pub lost_text : Bool → List ℕ

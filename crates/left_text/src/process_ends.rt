@@ -162,8 +162,8 @@ fn step_text(step: LastStep) -> &'static [u8]
         LastStep::Stopped(_) => b" has ended by STOP:\n",
         LastStep::Returned(_) => b" has ended with the RETURN of its MAIN:\n",
         LastStep::Trapped { line: _, trap: _ } => b" has ended by a trap of this statement:\n",
-        LastStep::TrappedAtEnd => {
-            b" has ended by a trap: a procedure came to its end, and its word goes to an element that isn't there\n"
+        LastStep::TrappedAtEnd(_) => {
+            b" has ended by a trap: a procedure came to its end, and its word goes to an element that isn't there:\n"
         }
     }
 }
@@ -196,7 +196,7 @@ fn line_of_step(step: LastStep) -> Option<u32>
         LastStep::Stopped(line) => Some(line),
         LastStep::Returned(line) => Some(line),
         LastStep::Trapped { line, trap: _ } => Some(line),
-        LastStep::TrappedAtEnd => None,
+        LastStep::TrappedAtEnd(target) => target.line,
     }
 }
 

@@ -1,7 +1,7 @@
 ghost use Rattle.std.specs.Fmt.{signed_decimal};
 ghost use Rattle.std.specs.Prelude.{◌≡◌, ◌++◌, OnOk};
-ghost use Rattle.left_text.specs.LeftText.{after_text, bounds_text, end_text, index_text, lost_text, reason_text};
-ghost use Rattle.left_text.specs.LeftText.{trap_text, value_text, why_text};
+ghost use Rattle.left_text.specs.LeftText.{after_text, bad_count_text, bounds_text, end_text, index_text, lost_text};
+ghost use Rattle.left_text.specs.LeftText.{no_element_text, reason_text, target_text, trap_text, value_text, why_text};
 
 use gd_words::{List, NoMemory, decimal_of};
 use left_findings::Stand;
@@ -63,7 +63,7 @@ fn put_why(text: &mut List<u8>, step: LastStep) -> Result<(), NoMemory>
         LastStep::Stopped(_) => Ok(()),
         LastStep::Returned(_) => Ok(()),
         LastStep::Trapped { line: _, trap } => put_trap(text, trap),
-        LastStep::TrappedAtEnd => Ok(()),
+        LastStep::TrappedAtEnd(target) => put_target(text, target.met),
     }
 }
 
@@ -74,14 +74,38 @@ fn put_trap(text: &mut List<u8>, trap: Trap) -> Result<(), NoMemory>
         Trap::NothingInHand => put(text, b"         no request is in hand\n"),
         Trap::RequestInHand => put(text, b"         a request is in hand already\n"),
         Trap::Value(trap) => put_value(text, trap),
-        Trap::Count => put(
-            text,
-            b"         a count is below 0, above 16 or above its array, or it has no value\n",
-        ),
-        Trap::Target => put(
-            text,
-            b"         its word goes to an element that isn't there\n",
-        ),
+        Trap::Count { count, most } => put_bad_count(text, count, most),
+        Trap::Target(trap) => put_no_element(text, trap),
+    }
+}
+
+/// Puts a count behind the text, and the most that its array lets it be.
+fn put_bad_count(text: &mut List<u8>, count: i16, most: i16) -> Result<(), NoMemory>
+    ensures { OnOk result (text.new ≡ text.old ++ bad_count_text count most) }
+{
+    put(text, b"         count ")?;
+    put_word(text, count)?;
+    put_bounds(text, 0, most)
+}
+
+fn put_no_element(text: &mut List<u8>, trap: ValueTrap) -> Result<(), NoMemory>
+    ensures { OnOk result (text.new ≡ text.old ++ no_element_text trap) }
+{
+    put(
+        text,
+        b"         its word goes to an element that isn't there\n",
+    )?;
+    put_target(text, trap)
+}
+
+/// Puts behind the text why the element isn't there to which a procedure gives its word.
+fn put_target(text: &mut List<u8>, trap: ValueTrap) -> Result<(), NoMemory>
+    ensures { OnOk result (text.new ≡ text.old ++ target_text trap) }
+{
+    match trap {
+        ValueTrap::ZeroDivisor => put(text, b"         the index of that element divides by 0\n"),
+        ValueTrap::Index { index, low, high } => put_index(text, index, low, high),
+        ValueTrap::NotThere => Ok(()),
     }
 }
 

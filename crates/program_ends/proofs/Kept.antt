@@ -1,5 +1,5 @@
 -- A step of which something comes ends a program only at STOP, at the end of MAIN and at its RETURN.
-use Rattle.std.proofs.Common.{◌≡◌, ℕ, ℤ, pos, Bool, true, false, if◌then◌else◌, nat_le, List, [], ◌∷◌, drop, length}
+use Rattle.std.proofs.Common.{◌≡◌, ℕ, ℤ, pos, Bool, true, false, List, [], ◌∷◌, drop}
 use Rattle.std.proofs.Common.{Option, Some, None, refl, ap, subst, sym, ◌∙◌}
 use Rattle.process_semantics.specs.Changes.{done, left, with_word}
 use Rattle.process_semantics.specs.State.{Entry, Frame, ProgramState, Run, Test, Last, first_of, memory_of, next_of}
@@ -17,10 +17,9 @@ use Rattle.tal_values.specs.Value.{cell_of}
 use Rattle.tal_values.specs.declared.memory.Cell.{Cell}
 use Rattle.tal_values.specs.declared.memory.Cell.TheVariants as cell
 use Rattle.value_traps.specs.declared.trap.ValueTrap.{ValueTrap}
-use Rattle.program_ends.specs.Ends.{at_entry, at_return, at_statement, is_trap}
+use Rattle.program_ends.specs.Ends.{at_end, at_entry, at_return, at_statement, is_trap, target_by, target_in_state}
 use Rattle.program_ends.specs.Traps.{trap_of_result}
-use Rattle.program_ends.specs.declared.ending.LastStep.TheVariants.{MainEnded, Returned, Trapped, TrappedAtEnd}
-use Rattle.program_ends.specs.declared.ending.Trap.TheVariants as trap
+use Rattle.program_ends.specs.declared.ending.WordTarget.{WordTarget}
 use Rattle.program_ends.proofs.Told.{result-lacks}
 
 -- what comes of a step, if anything does, has ended exactly where this says
@@ -75,16 +74,15 @@ given-keeps program word s (Some (Test statement)) = some-keeps s.ended (done s)
 given-keeps program word s (Some (Last statement)) = some-keeps s.ended (done s) refl
 
 -- a word that goes back to a caller
-deep-keeps : (program : Program) (word : ℤ) (u : ProgramState) (frames : List Frame)
-    → nat_le (length frames) 1 ≡ false → Keeps u.ended (given_to program word u (drop 1 frames))
-deep-keeps program word u [] deep = absurd (cc)
-deep-keeps program word u (frame ∷ []) deep = absurd (cc)
-deep-keeps program word u (frame ∷ caller ∷ callers) deep = given-keeps program word u (first_of caller.rest)
+called-keeps : (program : Program) (word : ℤ) (s u : ProgramState) (callers : List Frame)
+    → is_trap (at_end (target_by program s callers)) ≡ true → Keeps u.ended (given_to program word u callers)
+called-keeps program word s u [] called = absurd (cc)
+called-keeps program word s u (caller ∷ callers) called = given-keeps program word u (first_of caller.rest)
 
-returned-keeps : (program : Program) (s : ProgramState) (word : Option ℤ) → nat_le (length s.frames) 1 ≡ false
-    → Keeps s.ended (returned program s word)
-returned-keeps program s None deep = none-keeps s.ended
-returned-keeps program s (Some word) deep = deep-keeps program word (left s) s.frames deep
+returned-keeps : (program : Program) (s : ProgramState) (word : Option ℤ)
+    → is_trap (at_end (target_in_state program s)) ≡ true → Keeps s.ended (returned program s word)
+returned-keeps program s None called = none-keeps s.ended
+returned-keeps program s (Some word) called = called-keeps program word s (left s) (drop 1 s.frames) called
 
 for-keeps : (s : ProgramState) (statement : Statement) (variable : Variable) (word : Option ℤ)
     → Keeps s.ended (for_begun s statement variable word)
@@ -99,31 +97,27 @@ counted-keeps : (s : ProgramState) (variable : Cell) (down : Bool) (step : ℤ) 
 counted-keeps s variable down step None = none-keeps s.ended
 counted-keeps s variable down step (Some word) = some-keeps s.ended _ (word-keeps variable _ s)
 
--- what is told of an end is no trap where one procedure runs
-main-only : (here : Bool) → is_trap (if here then MainEnded else TrappedAtEnd) ≡ true → here ≡ false
-main-only true is = absurd (cc)
-main-only false is = refl
-
-return-only : (here : Bool) (line : ℕ) → is_trap (if here then Returned line else Trapped line trap.Target) ≡ true
-    → here ≡ false
-return-only true line is = absurd (cc)
-return-only false line is = refl
+-- a RETURN whose word is there is no trap where the end of the procedure is none
+return-only : (target : Option WordTarget) (line : ℕ) → is_trap (at_return target line None) ≡ true
+    → is_trap (at_end target) ≡ true
+return-only None line is = absurd (cc)
+return-only (Some target) line is = refl
 
 -- RETURN, whose word meets this trap or none
 return-keeps : (program : Program) (s : ProgramState) (line : ℕ) (value : Option Expr) (trap : Option ValueTrap)
     → trap_of_result (memory_of program s) value ≡ trap
-    → is_trap (at_return (length s.frames) line trap) ≡ true
+    → is_trap (at_return (target_in_state program s) line trap) ≡ true
     → Keeps s.ended (returned program s (result_of (memory_of program s) value))
 return-keeps program s line value (Some trap) told is =
     subst (λ (word : Option ℤ). Keeps s.ended (returned program s word))
     (sym (result-lacks (memory_of program s) value trap told)) (none-keeps s.ended)
 return-keeps program s line value None told is =
     returned-keeps program s (result_of (memory_of program s) value)
-    (return-only (nat_le (length s.frames) 1) line is)
+    (return-only (target_in_state program s) line is)
 
 inner-keeps : (program : Program) (s : ProgramState) (in_hand : Bool) (statement : Statement)
     (layer : What-F What Statement)
-    → is_trap (at_statement (memory_of program s) (length s.frames) in_hand statement.line layer) ≡ true
+    → is_trap (at_statement (memory_of program s) (target_in_state program s) in_hand statement.line layer) ≡ true
     → Keeps s.ended (inner_in program s statement layer)
 inner-keeps program s in_hand statement (What-F.Assign to value) is = assigned-keeps s _ _
 inner-keeps program s in_hand statement (What-F.AssignCall to procedure arguments) is =
@@ -155,10 +149,9 @@ last-keeps program s (What-F.For variable from to down step body last) = counted
 last-keeps program s _ = none-keeps s.ended
 
 entry-keeps : (program : Program) (s : ProgramState) (in_hand : Bool) (entry : Option Entry)
-    → is_trap (at_entry (memory_of program s) (length s.frames) in_hand entry) ≡ true
+    → is_trap (at_entry (memory_of program s) (target_in_state program s) in_hand entry) ≡ true
     → Keeps s.ended (inner_entry program s entry)
-entry-keeps program s in_hand None is =
-    returned-keeps program s (Some (pos 0)) (main-only (nat_le (length s.frames) 1) is)
+entry-keeps program s in_hand None is = returned-keeps program s (Some (pos 0)) is
 entry-keeps program s in_hand (Some (Run statement)) is =
     inner-keeps program s in_hand statement (out-What statement.what) is
 entry-keeps program s in_hand (Some (Test statement)) is = test-keeps program s statement (out-What statement.what)
@@ -171,7 +164,7 @@ nothing-came s (Some t) keeps ended = let kept : t.ended ≡ false = keeps t ref
 
 pub traps-by : (program : Program) (s : ProgramState) (in_hand : Bool) → s.ended ≡ false
     → (inner program s).ended ≡ true
-    → is_trap (at_entry (memory_of program s) (length s.frames) in_hand (next_of s.frames)) ≡ true
+    → is_trap (at_entry (memory_of program s) (target_in_state program s) in_hand (next_of s.frames)) ≡ true
     → inner_entry program s (next_of s.frames) ≡ None
 traps-by program s in_hand runs ended is =
     nothing-came s (inner_entry program s (next_of s.frames))

@@ -1,3 +1,4 @@
+mod Each
 mod Kept
 mod Told
 mod Why

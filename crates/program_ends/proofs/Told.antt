@@ -1,25 +1,30 @@
--- A trap of a value that is told is one: nothing comes of the step that works the value out.
-use Rattle.std.proofs.Common.{◌≡◌, ℤ, Bool, List, [], ◌∷◌, Option, Some, None, refl, ap, sym, ◌∙◌}
+-- A trap that is told is one: nothing comes of the step that works out the value, the count or the target.
+use Rattle.std.proofs.Common.{◌≡◌, ℕ, ℤ, Bool, if◌then◌else◌, is_some, List, [], ◌∷◌, drop, Option, Some, None, Ok, Err}
+use Rattle.std.proofs.Common.{refl, ap, sym, ◌∙◌}
 use Rattle.std.specs.Option.{option_and_then, option_map, option_or}
-use Rattle.process_semantics.specs.Changes.{variable_cell, variable_of}
-use Rattle.process_semantics.specs.State.{Entry, ProgramState, memory_of}
-use Rattle.process_semantics.specs.Steps.{assigned, counted, counted_in, entered, for_begun, goes_round, inner_in}
-use Rattle.process_semantics.specs.Steps.{result_of, returned, tested, tested_in, values_of}
+use Rattle.std.specs.Result.{result_ok}
+use Rattle.process_semantics.specs.Changes.{left, variable_cell, variable_of}
+use Rattle.process_semantics.specs.State.{Entry, Frame, ProgramState, Run, Test, Last, count_of, first_of, good_count}
+use Rattle.process_semantics.specs.State.{memory_of, next_of, words_of}
+use Rattle.process_semantics.specs.Steps.{assigned, counted, counted_in, entered, for_begun, given, given_in, given_to}
+use Rattle.process_semantics.specs.Steps.{goes_round, inner_in, result_of, returned, tested, tested_in, values_of}
 use Rattle.tal_tree.specs.declared.expression.Cond.{Cond}
 use Rattle.tal_tree.specs.declared.expression.Expr.{Expr}
 use Rattle.tal_tree.specs.declared.expression.Spot.{Spot}
 use Rattle.tal_tree.specs.declared.expression.Variable.{Variable}
 use Rattle.tal_tree.specs.declared.program.Program.{Program}
 use Rattle.tal_tree.specs.declared.statement.Statement.{Statement}
-use Rattle.tal_tree.specs.declared.statement.What.{What, What-F}
-use Rattle.value_traps.proofs.Lacks.{cell-ok, err-none, found, truth-ok, trap-none}
-use Rattle.value_traps.specs.Traps.{cell_or_trap, trap_of, truth_or_trap, word_or_trap}
+use Rattle.tal_tree.specs.declared.statement.What.{What, What-F, out-What}
+use Rattle.value_traps.proofs.Lacks.{cell-ok, err-none, found, truth-ok, trap-none, value-ok}
+use Rattle.value_traps.specs.Traps.{Worked, cell_or_trap, trap_of, truth_or_trap, value_or_trap, word_or_trap}
 use Rattle.value_traps.specs.declared.trap.ValueTrap.{ValueTrap}
 use Rattle.value_traps.specs.declared.trap.ValueTrap.TheVariants.{NotThere}
 use Rattle.tal_values.specs.Value.{Memory, cell_of, truth_of, value_of, word_at}
 use Rattle.tal_values.specs.declared.memory.Cell.{Cell}
-use Rattle.program_ends.specs.Traps.{trap_among, trap_in_count, trap_in_statement, trap_in_test, trap_of_result}
-use Rattle.program_ends.specs.Traps.{trap_of_spot, trap_of_test, trap_of_variable}
+use Rattle.program_ends.specs.Traps.{trap_among, trap_in_count, trap_in_statement, trap_in_test, trap_of_call}
+use Rattle.program_ends.specs.Traps.{trap_of_count, trap_of_number, trap_of_result, trap_of_spot, trap_of_target}
+use Rattle.program_ends.specs.Traps.{trap_of_test, trap_of_variable}
+use Rattle.program_ends.specs.declared.ending.Trap.{Trap}
 
 spot-lacks : (m : Memory) (spot : Spot) (trap : ValueTrap) → trap_of_spot m spot ≡ Some trap → cell_of m spot ≡ None
 spot-lacks m spot trap is = sym (cell-ok m spot) ∙ err-none (cell_or_trap m spot) trap is
@@ -134,3 +139,47 @@ pub count-step-lacks : (program : Program) (s : ProgramState) (layer : What-F Wh
 count-step-lacks program s (What-F.For variable from to down step body last) trap is =
     ap (counted s (variable_cell variable) down step) (variable-lacks (memory_of program s) variable trap is)
 count-step-lacks program s _ trap is = refl
+
+-- Counts
+
+good-lacks : (good : Option ℕ) (bad trap : Trap) → (if is_some good then None else Some bad) ≡ Some trap
+    → good ≡ None
+good-lacks None bad trap is = refl
+good-lacks (Some n) bad trap is = absurd (cc)
+
+number-lacks : (words : List ℤ) (value : Worked ℤ) (trap : Trap) → trap_of_number words value ≡ Some trap
+    → option_and_then (good_count words) (result_ok value) ≡ None
+number-lacks words (Err met) trap is = refl
+number-lacks words (Ok count) trap is = good-lacks (good_count words count) _ trap is
+
+pub count-lacks : (program : Program) (s : ProgramState) (buffer : ℕ) (count : Expr) (trap : Trap)
+    → trap_of_count (memory_of program s) buffer count ≡ Some trap → count_of program s buffer count ≡ None
+count-lacks program s buffer count trap is =
+    ap (option_and_then (good_count (words_of s.globals buffer))) (sym (value-ok (memory_of program s) count))
+    ∙ number-lacks (words_of s.globals buffer) (value_or_trap (memory_of program s) count) trap is
+
+-- Targets
+
+target-lacks : (program : Program) (word : ℤ) (s : ProgramState) (layer : What-F What Statement) (trap : ValueTrap)
+    → trap_of_target (memory_of program s) layer ≡ Some trap → given_in program word s layer ≡ None
+target-lacks program word s (What-F.AssignCall to procedure arguments) trap is =
+    ap (λ (cell : Option Cell). assigned s cell (Some word)) (spot-lacks (memory_of program s) to trap is)
+target-lacks program word s _ trap is = absurd (cc)
+
+call-lacks : (program : Program) (word : ℤ) (s : ProgramState) (call : Option Entry) (trap : ValueTrap)
+    → trap_of_call (memory_of program s) call ≡ Some trap → given program word s call ≡ None
+call-lacks program word s (Some (Run statement)) trap is = target-lacks program word s (out-What statement.what) trap is
+call-lacks program word s (Some (Test statement)) trap is = absurd (cc)
+call-lacks program word s (Some (Last statement)) trap is = absurd (cc)
+call-lacks program word s None trap is = absurd (cc)
+
+caller-lacks : (program : Program) (word : ℤ) (s : ProgramState) (callers : List Frame) (trap : ValueTrap)
+    → trap_of_call (memory_of program s) (next_of callers) ≡ Some trap → given_to program word s callers ≡ None
+caller-lacks program word s [] trap is = absurd (cc)
+caller-lacks program word s (caller ∷ callers) trap is = call-lacks program word s (first_of caller.rest) trap is
+
+pub word-lacks : (program : Program) (s : ProgramState) (word : Option ℤ) (trap : ValueTrap)
+    → trap_of_call (memory_of program (left s)) (next_of (left s).frames) ≡ Some trap
+    → returned program s word ≡ None
+word-lacks program s None trap is = refl
+word-lacks program s (Some word) trap is = caller-lacks program word (left s) (drop 1 s.frames) trap is

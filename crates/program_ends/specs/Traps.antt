@@ -1,17 +1,24 @@
--- Which trap of a value a step meets first, in the order in which it works out its values. Our own.
+-- Which trap a step meets first, in the order in which it works out its values, its counts and its target. Our own.
 use Rattle.std.specs.Option.{option_or}
-use Rattle.std.specs.Prelude.{List, [], ◌∷◌, Option, Some, None}
+use Rattle.std.specs.Prelude.{ℕ, ℤ, pos, if◌then◌else◌, is_some, length, min, List, [], ◌∷◌, slice_get, Option, Some}
+use Rattle.std.specs.Prelude.{None, IsSome, Ok, Err}
 use Rattle.std.specs.Result.{result_err}
 use Rattle.process_semantics.specs.Changes.{variable_cell}
+use Rattle.process_semantics.specs.State.{Entry, Run, Test, Last, good_count, words_of}
 use Rattle.tal_tree.specs.declared.expression.Cond.{Cond}
 use Rattle.tal_tree.specs.declared.expression.Expr.{Expr}
 use Rattle.tal_tree.specs.declared.expression.Spot.{Spot}
 use Rattle.tal_tree.specs.declared.expression.Variable.{Variable}
+use Rattle.tal_tree.specs.declared.program.Program.{Program}
 use Rattle.tal_tree.specs.declared.statement.Statement.{Statement}
-use Rattle.tal_tree.specs.declared.statement.What.{What, What-F}
-use Rattle.value_traps.specs.Traps.{cell_or_trap, trap_of, truth_or_trap, word_or_trap}
+use Rattle.tal_tree.specs.declared.statement.What.{What, What-F, out-What}
+use Rattle.value_traps.specs.Traps.{Worked, cell_or_trap, trap_of, truth_or_trap, value_or_trap, word_or_trap}
 use Rattle.value_traps.specs.declared.trap.ValueTrap.{ValueTrap}
 use Rattle.tal_values.specs.Value.{Memory}
+use Rattle.program_ends.specs.declared.ending.Trap.{Trap}
+use Rattle.program_ends.specs.declared.ending.Trap.TheVariants.{Count, Value}
+
+-- Values
 
 -- of an element that gets a word, by its index
 abbrev pub trap_of_spot : Memory → Spot → Option ValueTrap
@@ -61,3 +68,46 @@ trap_in_test m _ = None
 abbrev pub trap_in_count : Memory → What-F What Statement → Option ValueTrap
 trap_in_count m (What-F.For variable from to down step body last) = trap_of_variable m variable
 trap_in_count m _ = None
+
+-- a statement that works out values as it comes. If it calls a procedure, that is there
+abbrev pub WorksOut : Program → What-F What Statement → Type 0
+WorksOut program (What-F.Assign to value) = Unit {0}
+WorksOut program (What-F.AssignCall to procedure arguments) = IsSome (slice_get program.procedures procedure)
+WorksOut program (What-F.If test first second) = Unit {0}
+WorksOut program (What-F.While test body) = Unit {0}
+WorksOut program (What-F.For variable from to down step body last) = Unit {0}
+WorksOut program (What-F.DoUntil body test) = Unit {0}
+WorksOut program (What-F.Call procedure arguments) = IsSome (slice_get program.procedures procedure)
+WorksOut program (What-F.Return value) = ⊥
+WorksOut program (What-F.ReadUpdate buffer most got) = ⊥
+WorksOut program (What-F.Reply buffer count) = ⊥
+WorksOut program (What-F.WriteRead file buffer send room got) = ⊥
+WorksOut program (What-F.Checkpoint items files) = ⊥
+WorksOut program What-F.CheckMonitor = ⊥
+WorksOut program (What-F.Open file) = ⊥
+WorksOut program What-F.Stop = ⊥
+
+-- Counts
+
+-- of the count of words of an array: it has no value, or it is none of the array's
+abbrev pub trap_of_number : List ℤ → Worked ℤ → Option Trap
+trap_of_number words (Err met) = Some (Value met)
+trap_of_number words (Ok count) =
+    if is_some (good_count words count) then None else Some (Count count (pos (min 16 (length words))))
+
+abbrev pub trap_of_count : Memory → ℕ → Expr → Option Trap
+trap_of_count m buffer count = trap_of_number (words_of m.globals buffer) (value_or_trap m count)
+
+-- Targets
+
+-- of the element that gets the word which a call gives
+abbrev pub trap_of_target : Memory → What-F What Statement → Option ValueTrap
+trap_of_target m (What-F.AssignCall to procedure arguments) = trap_of_spot m to
+trap_of_target m _ = None
+
+-- of the call that a procedure runs for; the memory is that of the procedure that made it
+abbrev pub trap_of_call : Memory → Option Entry → Option ValueTrap
+trap_of_call m (Some (Run statement)) = trap_of_target m (out-What statement.what)
+trap_of_call m (Some (Test statement)) = None
+trap_of_call m (Some (Last statement)) = None
+trap_of_call m None = None

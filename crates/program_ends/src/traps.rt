@@ -1,13 +1,15 @@
 ghost use Rattle.std.specs.Prelude.{◌≡◌, IfOk};
-ghost use Rattle.std.specs.Option.{option_or};
+ghost use Rattle.std.specs.Option.{option_map, option_or};
+ghost use Rattle.process_semantics.specs.SeenEntries.{entry_of};
 ghost use Rattle.tal_tree.specs.declared.statement.What.{out-What};
 ghost use Rattle.value_traps.specs.Traps.{trap_of};
 ghost use Rattle.tal_values.specs.Seen.{seen};
 ghost use Rattle.program_ends.specs.Traps.{trap_among, trap_in_count, trap_in_statement, trap_in_test};
-ghost use Rattle.program_ends.specs.Traps.{trap_of_result, trap_of_spot, trap_of_test, trap_of_variable};
+ghost use Rattle.program_ends.specs.Traps.{trap_of_call, trap_of_result, trap_of_spot, trap_of_target, trap_of_test};
+ghost use Rattle.program_ends.specs.Traps.{trap_of_variable};
 
 use gd_words::NoMemory;
-use process_semantics::variable_cell;
+use process_semantics::{Entry, variable_cell};
 use std::alloc::Global;
 use tal_tree::{Cond, Expr, Spot, Variable, What};
 use tal_values::Memory;
@@ -88,6 +90,48 @@ pub(crate) fn trap_in_count(memory: Memory<'_>, what: &What) -> Option<ValueTrap
         | What::CheckMonitor
         | What::Open(_)
         | What::Stop => None,
+    }
+}
+
+/// The trap that the target of a call meets, over the memory of the procedure that made it.
+pub(crate) fn trap_of_call(
+    alloc: Global,
+    memory: Memory<'_>,
+    call: Option<Entry<'_>>,
+) -> Result<Option<ValueTrap>, NoMemory>
+    ensures { IfOk result (λ trap. trap ≡ trap_of_call (seen memory.entry) (option_map entry_of call.entry)) }
+{
+    match call {
+        Some(Entry::Run(statement)) => trap_of_target(alloc, memory, &statement.what),
+        Some(Entry::Test(_)) => Ok(None),
+        Some(Entry::Last(_)) => Ok(None),
+        None => Ok(None),
+    }
+}
+
+fn trap_of_target(
+    alloc: Global,
+    memory: Memory<'_>,
+    what: &What,
+) -> Result<Option<ValueTrap>, NoMemory>
+    ensures { IfOk result (λ trap. trap ≡ trap_of_target (seen memory.entry) (out-What what.now)) }
+{
+    match what {
+        What::AssignCall { to, .. } => trap_of_spot(alloc, memory, to),
+        What::Assign { .. }
+        | What::If { .. }
+        | What::While { .. }
+        | What::For { .. }
+        | What::DoUntil { .. }
+        | What::Call { .. }
+        | What::Return(_)
+        | What::ReadUpdate { .. }
+        | What::Reply { .. }
+        | What::WriteRead { .. }
+        | What::Checkpoint { .. }
+        | What::CheckMonitor
+        | What::Open(_)
+        | What::Stop => Ok(None),
     }
 }
 

@@ -122,7 +122,7 @@ pub err-none : {A : Type 0} (x : Worked A) (trap : ValueTrap) → result_err x �
 err-none (Ok x) trap is = absurd (cc)
 err-none (Err other) trap is = refl
 
-none-err : {A : Type 0} (x : Worked A) → result_ok x ≡ None → IsSome (result_err x)
+pub none-err : {A : Type 0} (x : Worked A) → result_ok x ≡ None → IsSome (result_err x)
 none-err (Ok x) is = absurd (cc)
 none-err (Err trap) is = search
 
