@@ -1,6 +1,6 @@
 -- What is left at the end of a run, by the view of its machine.
-use Rattle.std.specs.Prelude.{ℕ, ◌+◌, ◌==◌, Bool, false, if◌then◌else◌, is_some, length, nat_lt, List, [], ◌∷◌, map}
-use Rattle.std.specs.Prelude.{slice_get, Option, Some, None}
+use Rattle.std.specs.Prelude.{◌≡◌, ℕ, ◌+◌, ◌==◌, Bool, false, if◌then◌else◌, is_some, length, nat_lt, List, [], ◌∷◌}
+use Rattle.std.specs.Prelude.{map, slice_get, Option, Some, None}
 use Rattle.machine_views.specs.declared.views.Awaited.{Awaited}
 use Rattle.machine_views.specs.declared.views.CopyView.{CopyView}
 use Rattle.machine_views.specs.declared.views.TerminalView.{TerminalView}
@@ -12,7 +12,7 @@ use Rattle.tal_tree.specs.declared.site.ProcessSpec.{ProcessSpec}
 use Rattle.tal_tree.specs.declared.site.Site.{Site}
 use Rattle.world_semantics.specs.declared.role.Role.{Role}
 use Rattle.world_semantics.specs.declared.role.Role.TheVariants as role
-use Rattle.wait_rings.specs.Rings.{rings_of}
+use Rattle.wait_rings.specs.Waits.{TellsRings}
 use Rattle.left_findings.specs.Places.{line_of_copy}
 use Rattle.left_findings.specs.declared.finding.Left.{Left}
 use Rattle.left_findings.specs.declared.finding.ProcessLeft.{ProcessLeft}
@@ -104,9 +104,8 @@ terminal_left view =
 abbrev pub servers_of : List ProcessLeft → List (Option ℕ)
 servers_of lefts = map (λ left. left.server) lefts
 
-abbrev pub left_of : Site → View → Left
-left_of site view = record {
-  processes = processes_left site view.copies 0 site.processes;
-  terminals = map terminal_left view.terminals;
-  rings = rings_of (servers_of (processes_left site view.copies 0 site.processes));
-}
+-- what is left of the processes and the terminals of a site, and all rings of those that await each other's replies
+pub record IsLeft (site : Site) (view : View) (left : Left) : Type 0 where
+  pub processes : left.processes ≡ processes_left site view.copies 0 site.processes
+  pub terminals : left.terminals ≡ map terminal_left view.terminals
+  pub rings : TellsRings (servers_of left.processes) left.rings

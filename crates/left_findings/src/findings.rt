@@ -1,6 +1,6 @@
 ghost use Rattle.std.specs.Prelude.{◌≡◌, ◌++◌, map, IfOk, OnOk};
 ghost use Rattle.std.specs.Option.{option_copied};
-ghost use Rattle.left_findings.specs.Left.{acting_among, is_acting_of, left_acting, left_of, left_process};
+ghost use Rattle.left_findings.specs.Left.{IsLeft, acting_among, is_acting_of, left_acting, left_process};
 ghost use Rattle.left_findings.specs.Left.{processes_left, servers_of, stand_at, stand_awaiting, stand_checked};
 ghost use Rattle.left_findings.specs.Left.{terminal_left};
 
@@ -17,7 +17,7 @@ use world_semantics::Role;
 
 /// What is left at the end of a run of a site, by the view of its machine.
 pub fn left_of(alloc: Global, site: &Site, view: &View) -> Result<Left, NoMemory>
-    ensures { IfOk result (λ left. left ≡ left_of site.now view.now) }
+    ensures { IfOk result (λ left. IsLeft site.now view.now left) }
 {
     let processes = processes_left(alloc, site, view.copies.as_slice())?;
     let terminals = terminals_left(alloc, view.terminals.as_slice())?;

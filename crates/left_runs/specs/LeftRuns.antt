@@ -3,7 +3,8 @@ use Rattle.std.specs.Prelude.{◌≡◌, ℕ, List, [], ◌∷◌, ◌++◌, cod
 use Rattle.std.specs.Option.{option_map, unwrap_or}
 use Rattle.std.specs.Fmt.{decimal}
 use Rattle.deck_reader.specs.declared.deck.Deck.{Deck}
-use Rattle.left_text.specs.left_findings.specs.Left.{left_of}
+use Rattle.left_text.specs.left_findings.specs.Left.{IsLeft}
+use Rattle.left_text.specs.left_findings.specs.declared.finding.Left.{Left}
 use Rattle.left_text.specs.LeftText.{left_text}
 use Rattle.left_text.specs.machine_views.specs.Views.{view_of}
 use Rattle.noted_runs.specs.Runs.{IsRunWithSteps}
@@ -32,13 +33,16 @@ ending_text site ending.Cut = codes "the run was cut" ++ 10 ∷ []
 ending_text site (ending.Second processor) = second_text processor
 ending_text site (ending.Lost process) = lost_text site process
 
--- how it ended, and what is left in the world in which it ended, of a deck of these bytes
-abbrev pub run_text : List ℕ → Site → NotedRan → List ℕ
-run_text bytes site noted =
-    ending_text site noted.ran.ending
-    ++ left_text bytes site (left_of site (view_of noted.ran.machine.state.world)) noted.steps
+-- how a run of a deck of these bytes ended, and what is left then
+abbrev pub run_text : List ℕ → Site → NotedRan → Left → List ℕ
+run_text bytes site noted left = ending_text site noted.ran.ending ++ left_text bytes site left noted.steps
+
+-- the text tells what is left in the world in which a run ended
+abbrev pub IsTextOfRun : List ℕ → Site → NotedRan → List ℕ → Type 0
+IsTextOfRun bytes site noted text =
+    (left : Left) × IsLeft site (view_of noted.ran.machine.state.world) left × (text ≡ run_text bytes site noted left)
 
 -- the text is told of a run of the schedule of a deck of these bytes, with this stop
 abbrev pub IsLeftText : List ℕ → Deck → Option ProcessorStop → List ℕ → Type 0
 IsLeftText bytes deck stop text =
-    (noted : NotedRan) × IsRunWithSteps deck.site deck.lines stop noted × (text ≡ run_text bytes deck.site noted)
+    (noted : NotedRan) × IsRunWithSteps deck.site deck.lines stop noted × IsTextOfRun bytes deck.site noted text

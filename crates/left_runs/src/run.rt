@@ -1,13 +1,13 @@
 ghost use Rattle.std.specs.Prelude.{◌≡◌, ◌≤◌, length, IfOk};
 ghost use Rattle.deck_reader.specs.Decks.{Decks};
 ghost use Rattle.verdicts.specs.Refused.{AreAccepted};
-ghost use Rattle.left_runs.specs.LeftRuns.{IsLeftText, run_text};
+ghost use Rattle.left_runs.specs.LeftRuns.{IsLeftText, IsTextOfRun, run_text};
 
 use crate::ending::put_ending;
 use accepted_decks::an_accepted_deck_meets_the_premises;
 use deck_reader::Deck;
 use gd_words::{List, NoMemory};
-use left_text::left_findings::left_of;
+use left_text::left_findings::{Left, left_of};
 use left_text::machine_views::view;
 use left_text::put_left;
 use logs::Shared;
@@ -44,12 +44,26 @@ fn text_of_run(
     noted: &NotedRan,
 ) -> Result<List<u8>, NoMemory>
     requires { length bytes.now ≤ 1048576 }
-    ensures { IfOk result (λ text. text ≡ run_text bytes.now site.now noted.now) }
+    ensures { IfOk result (λ text. IsTextOfRun bytes.now site.now noted.now text) }
 {
     let view = view(alloc, &noted.ran.machine)?;
     let left = left_of(alloc, site, &view)?;
+    text_of_left(alloc, bytes, site, noted, &left)
+}
+
+/// What is told of a run and of what is left then.
+fn text_of_left(
+    alloc: Global,
+    bytes: &[u8],
+    site: &Site,
+    noted: &NotedRan,
+    left: &Left,
+) -> Result<List<u8>, NoMemory>
+    requires { length bytes.now ≤ 1048576 }
+    ensures { IfOk result (λ text. text ≡ run_text bytes.now site.now noted.now left.now) }
+{
     let mut text = List::new(alloc);
     put_ending(&mut text, site, noted.ran.ending)?;
-    put_left(&mut text, bytes, site, &left, noted.steps.as_slice())?;
+    put_left(&mut text, bytes, site, left, noted.steps.as_slice())?;
     Ok(text)
 }

@@ -1,6 +1,6 @@
-use Rattle.std.proofs.Common.{◌∙◌, ap, subst, sym}
+use Rattle.std.proofs.Common.{◌∙◌, subst, sym}
 use Rattle.std.proofs.lemmas.Result.{IfOk-weaker}
-use Rattle.left_runs.specs.LeftRuns.{run_text}
+use Rattle.left_runs.specs.LeftRuns.{IsTextOfRun}
 use Rattle.noted_runs.specs.Runs.{IsRunWithSteps}
 use Rattle.noted_runs.specs.packet_runs.specs.Runs.{course_on, packet_rules}
 use Rattle.noted_runs.specs.packet_runs.specs.site_machine.specs.Needs.{IsReady}
@@ -17,7 +17,8 @@ returns c =
     (λ text is. (
       c.in_ok-noted.noted,
       run,
-      is ∙ ap (λ site. run_text c.args.bytes.now site c.in_ok-noted.noted) (c.get.ensures ∙ c.in_ok-site.ensures),
+      subst (λ site. IsTextOfRun c.args.bytes.now site c.in_ok-noted.noted text) (c.get.ensures ∙ c.in_ok-site.ensures)
+          is,
     ))
     c.text_of_run.ensures
 
