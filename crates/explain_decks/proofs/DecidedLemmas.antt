@@ -1,45 +1,67 @@
 -- What is decided, and what the status tells of it.
 use Rattle.std.proofs.Common.{◌≡◌, ℕ, ◌<◌, List, [], length, Option, Some, None, Result, Ok, Err, sym, subst, ap, ◌∙◌}
 use Rattle.std.proofs.Common.{refl, Bool, true, false}
-use Rattle.std.specs.Prelude.{◌≢◌, ⊤}
+use Rattle.std.specs.Prelude.{◌≢◌, ⊤, IfOk}
 use Rattle.deck_reader.specs.Decks.{Decks}
 use Rattle.deck_reader.specs.Refusals.{IsRefusalOf}
 use Rattle.deck_reader.specs.declared.deck.Deck.{Deck}
-use Rattle.explain_decks.specs.Decided.{AreLeft, IsDueOfBytes, IsDueOfDeck, IsDueOfFault, IsDueOfSource}
-use Rattle.explain_decks.specs.Written.{CanBeWritten, judged_status, status_after}
+use Rattle.explain_decks.specs.Decided.{AreLeft, IsDueOfBytes, IsDueOfDeck, IsDueOfFault, IsDueOfSource, IsDueOfTrace}
+use Rattle.explain_decks.specs.Decided.{IsTold, can_stop, due_of_told}
+use Rattle.explain_decks.specs.Written.{CanBeWritten, Comes, judged_status, status_after, traced_status}
 use Rattle.explain_decks.specs.declared.due.Due.{Due}
 use Rattle.explain_decks.specs.declared.due.Due.TheVariants as due
 use Rattle.explain_decks.specs.declared.status.Status.{Status}
 use Rattle.explain_decks.specs.declared.status.Status.TheVariants as status
 use Rattle.explain_decks.specs.declared.telling.Telling.{Telling}
+use Rattle.explain_decks.specs.declared.telling.Telling.TheVariants.{Trace}
+use Rattle.explain_left.specs.explain_why.specs.declared.judged.JudgedDeck.{JudgedDeck}
 use Rattle.fault_text.specs.WhyText.{told_text}
 use Rattle.gd_io.specs.Reads.{Leaves}
 use Rattle.gd_io.specs.declared.writing.WriteFault.{WriteFault}
 use Rattle.gd_words.specs.Memory.{no_memory}
+use Rattle.gd_words.specs.declared.memory.NoMemory.{NoMemory}
+use Rattle.player.specs.declared.stop.ProcessorStop.{ProcessorStop}
 use Rattle.tal_tree.specs.declared.fault.DeckFault.{DeckFault}
 use Rattle.tal_tree.specs.declared.fault.DeckFault.TheVariants as fault
 use Rattle.tal_tree.specs.declared.fault.TalFault.{TalFault}
 use Rattle.tal_tree.specs.declared.fault.TalFault.TheVariants as tal
 use Rattle.fault_text.specs.trace_print.specs.FaultLine.{IsOfDeck}
 use Rattle.fault_text.specs.trace_print.specs.TalNumbers.{IsOfText}
+use Rattle.traced_decks.specs.traced_runs.specs.declared.fault.TraceFault.{TraceFault}
+use Rattle.traced_decks.specs.traced_runs.specs.declared.fault.TraceFault.TheVariants as trace
+use Rattle.traced_decks.specs.traced_runs.specs.declared.manner.Manner.{Manner}
+use Rattle.traced_decks.specs.traced_runs.specs.packet_runs.specs.declared.ran.Ran.{Ran}
+use Rattle.verdicts.specs.Refused.{AreAccepted}
 
 judged_is_none : {P : Type 0} (refused : Bool) → judged_status refused ≡ status.ReadFault → P
 judged_is_none true e = absurd (cc)
 judged_is_none false e = absurd (cc)
 
--- a read fault is the status of no other decision
-read_fault_only : (decided : Due) (result : Result ⊤ WriteFault) → status_after decided result ≡ status.ReadFault
-    → decided ≡ due.ReadFault
-read_fault_only (due.Judged judged) (Ok done) e = judged_is_none judged.refused e
-read_fault_only due.NoProcessor (Ok done) e = absurd (cc)
-read_fault_only (due.Refused refused) (Ok done) e = absurd (cc)
-read_fault_only due.ReadFault (Ok done) e = refl
-read_fault_only (due.NoMemory _) (Ok done) e = absurd (cc)
-read_fault_only decided (Err fault) e = absurd (cc)
+-- where a text is written, a read fault is the status only if it was to be
+written_so : {P : Type 0} (whole : Status) (result : Result ⊤ WriteFault) → (whole ≡ status.ReadFault → P)
+    → status_after whole result ≡ status.ReadFault → P
+written_so whole (Ok done) only e = only e
+written_so whole (Err fault) only e = absurd (cc)
 
-pub read_fault_is_due : (decided : Due) (result : Result ⊤ WriteFault) (outcome : Status)
-    → outcome ≡ status_after decided result → outcome ≡ status.ReadFault → decided ≡ due.ReadFault
-read_fault_is_due decided result outcome is e = read_fault_only decided result (sym is ∙ e)
+traced_so : {P : Type 0} (result : Result Ran TraceFault) → traced_status result ≡ status.ReadFault → P
+traced_so (Ok ran) e = absurd (cc)
+traced_so (Err (trace.Write why)) e = absurd (cc)
+traced_so (Err (trace.NoMemory memory)) e = absurd (cc)
+
+-- a read fault is the status of no other decision
+pub read_fault_is_due : {K : Type 0} (held : K → Option (List ℕ)) (failed : K → ℕ) (sure : K → ℕ → Type 0)
+    (decided : Due) (sink sink_now : K) (outcome : Status)
+    → Comes held failed sure decided sink sink_now outcome → outcome ≡ status.ReadFault → decided ≡ due.ReadFault
+read_fault_is_due held failed sure (due.Judged judged) sink sink_now outcome comes e =
+    written_so (judged_status judged.refused) comes.0 (judged_is_none judged.refused) (sym comes.2 ∙ e)
+read_fault_is_due held failed sure (due.Runs run) sink sink_now outcome comes e = traced_so comes.0 (sym comes.2 ∙ e)
+read_fault_is_due held failed sure due.NoProcessor sink sink_now outcome comes e =
+    written_so status.NoProcessor comes.0 (λ is. absurd (cc)) (sym comes.2 ∙ e)
+read_fault_is_due held failed sure (due.Refused refused) sink sink_now outcome comes e =
+    written_so (status.Refused refused.fault) comes.0 (λ is. absurd (cc)) (sym comes.2 ∙ e)
+read_fault_is_due held failed sure due.ReadFault sink sink_now outcome comes e = refl
+read_fault_is_due held failed sure (due.NoMemory memory) sink sink_now outcome comes e =
+    written_so (status.NoMemory memory) comes.0 (λ is. absurd (cc)) (sym comes.2 ∙ e)
 
 -- the bytes that were read are those that were left
 pub are_left : (left now : Option (List ℕ)) (bytes rest : List ℕ) → Leaves left now bytes rest → AreLeft left bytes
@@ -51,6 +73,7 @@ pub fault_is_due : (telling : Telling) (bytes : List ℕ) (why : DeckFault) (dec
     → (why ≢ fault.NoMemory no_memory → IsRefusalOf bytes why) → IsDueOfFault bytes why decided
     → IsDueOfBytes telling bytes decided
 fault_is_due telling bytes why (due.Judged judged) refused is = absurd is
+fault_is_due telling bytes why (due.Runs run) refused is = absurd is
 fault_is_due telling bytes why due.NoProcessor refused is = absurd is
 fault_is_due telling bytes why due.ReadFault refused is = absurd is
 fault_is_due telling bytes why (due.NoMemory _) refused is = tt
@@ -75,6 +98,7 @@ pub fault_is_written : (bytes : List ℕ) (why : DeckFault) (decided : Due)
     → ((number : ℕ) → why ≢ fault.Program number (tal.NoMemory no_memory)) → IsDueOfFault bytes why decided
     → CanBeWritten decided
 fault_is_written bytes why (due.Judged judged) memory is = absurd is
+fault_is_written bytes why (due.Runs run) memory is = absurd is
 fault_is_written bytes why due.NoProcessor memory is = tt
 fault_is_written bytes why due.ReadFault memory is = tt
 fault_is_written bytes why (due.NoMemory _) memory is = tt
@@ -84,6 +108,7 @@ fault_is_written bytes why (due.Refused found) memory is = subst IsOfDeck (sym i
 pub too_long_is_due : (telling : Telling) (bytes : List ℕ) (decided : Due) → 1048576 < length bytes
     → IsDueOfFault [] fault.TooLong decided → IsDueOfBytes telling bytes decided
 too_long_is_due telling bytes (due.Judged judged) long is = absurd is
+too_long_is_due telling bytes (due.Runs run) long is = absurd is
 too_long_is_due telling bytes due.NoProcessor long is = absurd is
 too_long_is_due telling bytes due.ReadFault long is = absurd is
 too_long_is_due telling bytes (due.NoMemory _) long is = tt
@@ -96,6 +121,7 @@ too_long_is_due telling bytes (due.Refused found) long is = (
 pub bytes_are_due : (telling : Telling) (left : Option (List ℕ)) (before now : ℕ) (bytes : List ℕ) (decided : Due)
     → AreLeft left bytes → IsDueOfBytes telling bytes decided → IsDueOfSource telling left before now decided
 bytes_are_due telling left before now bytes (due.Judged judged) told is = (bytes, told, is)
+bytes_are_due telling left before now bytes (due.Runs run) told is = (bytes, told, is)
 bytes_are_due telling left before now bytes due.NoProcessor told is = (bytes, told, is)
 bytes_are_due telling left before now bytes (due.Refused refused) told is = (bytes, told, is)
 bytes_are_due telling left before now bytes due.ReadFault told is = absurd is
@@ -105,16 +131,44 @@ bytes_are_due telling left before now bytes (due.NoMemory _) told is = tt
 pub deck_is_due : (telling : Telling) (bytes : List ℕ) (deck : Deck) (decided : Due) → Decks bytes deck
     → IsDueOfDeck telling bytes deck decided → IsDueOfBytes telling bytes decided
 deck_is_due telling bytes deck (due.Judged judged) spells is = (deck, spells, is)
+deck_is_due telling bytes deck (due.Runs run) spells is = (deck, spells, is)
 deck_is_due telling bytes deck due.NoProcessor spells is = (deck, spells, is)
 deck_is_due telling bytes deck (due.NoMemory _) spells is = tt
 deck_is_due telling bytes deck (due.Refused refused) spells is = absurd is
 deck_is_due telling bytes deck due.ReadFault spells is = absurd is
 
+-- what was told of a deck is due of it
+pub told_is_due : (telling : Telling) (bytes : List ℕ) (deck : Deck) (told : Result JudgedDeck NoMemory)
+    → can_stop telling deck.site.processors ≡ true → IfOk told (λ judged. IsTold telling bytes deck judged)
+    → IsDueOfDeck telling bytes deck (due_of_told told)
+told_is_due telling bytes deck (Ok judged) can is = (can, is)
+told_is_due telling bytes deck (Err memory) can is = tt
+
 -- and can be written
-pub deck_is_written : (telling : Telling) (bytes : List ℕ) (deck : Deck) (decided : Due)
-    → IsDueOfDeck telling bytes deck decided → CanBeWritten decided
-deck_is_written telling bytes deck (due.Judged judged) is = tt
-deck_is_written telling bytes deck due.NoProcessor is = tt
-deck_is_written telling bytes deck (due.NoMemory _) is = tt
-deck_is_written telling bytes deck (due.Refused refused) is = absurd is
-deck_is_written telling bytes deck due.ReadFault is = tt
+pub told_is_written : (told : Result JudgedDeck NoMemory) → CanBeWritten (due_of_told told)
+told_is_written (Ok judged) = tt
+told_is_written (Err memory) = tt
+
+-- and so is the run whose events are to be told
+pub trace_is_due : (bytes : List ℕ) (deck : Deck) (stop : Option ProcessorStop) (manner : Manner) (decided : Due)
+    → can_stop (Trace stop manner) deck.site.processors ≡ true → IsDueOfTrace bytes deck stop manner decided
+    → IsDueOfDeck (Trace stop manner) bytes deck decided
+trace_is_due bytes deck stop manner (due.Judged judged) can is = (can, is)
+trace_is_due bytes deck stop manner (due.Runs run) can is = (can, is)
+trace_is_due bytes deck stop manner due.NoProcessor can is = absurd is
+trace_is_due bytes deck stop manner (due.Refused refused) can is = absurd is
+trace_is_due bytes deck stop manner due.ReadFault can is = absurd is
+trace_is_due bytes deck stop manner (due.NoMemory memory) can is = tt
+
+-- it can be run
+pub trace_is_written : (bytes : List ℕ) (deck : Deck) (stop : Option ProcessorStop) (manner : Manner) (decided : Due)
+    → Decks bytes deck → IsDueOfTrace bytes deck stop manner decided → CanBeWritten decided
+trace_is_written bytes deck stop manner (due.Judged judged) spelt is = tt
+trace_is_written bytes deck stop manner (due.Runs run) spelt is = record {
+  spelt = (bytes, subst (λ (one : Deck). Decks bytes one) (sym is.deck_is) spelt);
+  accepted = subst (λ (one : Deck). AreAccepted one.site.processes) (sym is.deck_is) is.accepted;
+}
+trace_is_written bytes deck stop manner due.NoProcessor spelt is = absurd is
+trace_is_written bytes deck stop manner (due.Refused refused) spelt is = absurd is
+trace_is_written bytes deck stop manner due.ReadFault spelt is = absurd is
+trace_is_written bytes deck stop manner (due.NoMemory memory) spelt is = tt

@@ -1,14 +1,12 @@
 -- How a call ends that tells of a deck.
-use Rattle.std.specs.Prelude.{◌≡◌, ◌≢◌, ℕ, List, Option, Result, ⊤}
+use Rattle.std.specs.Prelude.{◌≡◌, ◌≢◌, ℕ, List, Option}
 use Rattle.std.specs.Io.KnownBytes.{IsAtEnd}
 use Rattle.explain_decks.specs.Decided.{IsDueOfSource, IsOfWholeDeck}
-use Rattle.explain_decks.specs.Written.{status_after, text_of}
+use Rattle.explain_decks.specs.Written.{Comes}
 use Rattle.explain_decks.specs.declared.due.Due.{Due}
 use Rattle.explain_decks.specs.declared.status.Status.{Status}
 use Rattle.explain_decks.specs.declared.status.Status.TheVariants as status
 use Rattle.explain_decks.specs.declared.telling.Telling.{Telling}
-use Rattle.gd_io.specs.Puts.{Puts}
-use Rattle.gd_io.specs.declared.writing.WriteFault.{WriteFault}
 
 -- the bytes of the source decide what is due, which is written whole, or a write fault comes after a part; nothing is
 -- left of a source whose deck is told; and no read fault comes of a source that is sure of itself
@@ -17,8 +15,6 @@ pub record TellEnds {S K : Type 0} (left : S → Option (List ℕ)) (failed_read
     (source source_now : S) (sink sink_now : K) (outcome : Status) : Type 0 where
   pub decided : Due
   pub is_due : IsDueOfSource telling (left source) (failed_reads source) (failed_reads source_now) decided
-  pub result : Result ⊤ WriteFault
-  pub puts : Puts held failed_writes sure_to_write sink sink_now (text_of decided) result
-  pub is : outcome ≡ status_after decided result
+  pub comes : Comes held failed_writes sure_to_write decided sink sink_now outcome
   pub read_whole : IsOfWholeDeck decided → IsAtEnd (left source_now)
   pub no_read_fault : sure_to_read source → outcome ≢ status.ReadFault

@@ -1,43 +1,77 @@
--- What is written of a deck, and the status.
-use Rattle.std.specs.Prelude.{ℕ, Bool, if◌then◌else◌, List, [], ◌∷◌, ◌++◌, codes, Result, Ok, Err, ⊤}
+-- What comes of what is due, and the status.
+use Rattle.std.specs.Prelude.{◌≡◌, ℕ, Bool, if◌then◌else◌, List, [], ◌∷◌, ◌++◌, codes, Option, Result, Ok, Err, ⊤}
+use Rattle.deck_reader.specs.Decks.{Decks}
 use Rattle.explain_decks.specs.declared.due.Due.{Due}
 use Rattle.explain_decks.specs.declared.due.Due.TheVariants as due
+use Rattle.explain_decks.specs.declared.due.TracedDeck.{TracedDeck}
 use Rattle.explain_decks.specs.declared.status.Status.{Status}
 use Rattle.explain_decks.specs.declared.status.Status.TheVariants as status
+use Rattle.gd_io.specs.Puts.{Puts}
 use Rattle.gd_io.specs.declared.writing.WriteFault.{WriteFault}
 use Rattle.fault_text.specs.trace_print.specs.FaultLine.{IsOfDeck, fault_line}
+use Rattle.traced_decks.specs.traced_runs.specs.Traces.{Traces}
+use Rattle.traced_decks.specs.traced_runs.specs.declared.fault.TraceFault.{TraceFault}
+use Rattle.traced_decks.specs.traced_runs.specs.declared.fault.TraceFault.TheVariants as fault
+use Rattle.traced_decks.specs.traced_runs.specs.packet_runs.specs.declared.ran.Ran.{Ran}
+use Rattle.verdicts.specs.Refused.{AreAccepted}
 
 -- where the deck doesn't have the processor that is to stop
 abbrev pub no_processor_line : List ℕ
 no_processor_line = codes "usage: --fail P:K stops a processor P that the deck has" ++ 10 ∷ []
 
--- the text that is due; nothing where reading failed or memory ran out
-abbrev pub text_of : Due → List ℕ
-text_of (due.Judged judged) = judged.told
-text_of due.NoProcessor = no_processor_line
-text_of (due.Refused refused) = refused.told ++ fault_line refused.fault
-text_of due.ReadFault = []
-text_of (due.NoMemory _) = []
+-- a deck that bytes spell, and all of whose programs are accepted
+pub record CanBeRun (run : TracedDeck) : Type 0 where
+  pub spelt : (bytes : List ℕ) × Decks bytes run.deck
+  pub accepted : AreAccepted run.deck.site.processes
 
--- a fault that has a line
+-- a fault that has a line, or a deck that can be run
 abbrev pub CanBeWritten : Due → Type 0
 CanBeWritten (due.Refused refused) = IsOfDeck refused.fault
-CanBeWritten _ = Unit {0}
+CanBeWritten (due.Runs run) = CanBeRun run
+CanBeWritten (due.Judged judged) = Unit {0}
+CanBeWritten due.NoProcessor = Unit {0}
+CanBeWritten due.ReadFault = Unit {0}
+CanBeWritten (due.NoMemory memory) = Unit {0}
 
 abbrev pub judged_status : Bool → Status
 judged_status refused = if refused then status.ProgramRefused else status.Done
 
-abbrev pub status_of : Due → Status
-status_of (due.Judged judged) = judged_status judged.refused
-status_of due.NoProcessor = status.NoProcessor
-status_of (due.Refused refused) = status.Refused refused.fault
-status_of due.ReadFault = status.ReadFault
-status_of (due.NoMemory memory) = status.NoMemory memory
-
 -- by whether the text went out whole
-abbrev pub status_after : Due → Result ⊤ WriteFault → Status
-status_after decided (Ok done) = status_of decided
-status_after decided (Err fault) = status.WriteFault
+abbrev pub status_after : Status → Result ⊤ WriteFault → Status
+status_after whole (Ok done) = whole
+status_after whole (Err fault) = status.WriteFault
+
+-- by how a run ended that was told
+abbrev pub traced_status : Result Ran TraceFault → Status
+traced_status (Ok ran) = status.Done
+traced_status (Err (fault.Write why)) = status.WriteFault
+traced_status (Err (fault.NoMemory memory)) = status.NoMemory memory
+
+module _ {K : Type 0} (held : K → Option (List ℕ)) (failed : K → ℕ) (sure : K → ℕ → Type 0) where
+  -- a text is written, and then this is the status; or a write fault comes after a part
+  abbrev pub IsWritten : List ℕ → Status → K → K → Status → Type 0
+  IsWritten text whole sink sink_now outcome =
+      (result : Result ⊤ WriteFault) × Puts held failed sure sink sink_now text result
+      × (outcome ≡ status_after whole result)
+
+  -- a deck is run, and its events are told
+  abbrev pub IsTraced : TracedDeck → K → K → Status → Type 0
+  IsTraced run sink sink_now outcome =
+      (result : Result Ran TraceFault)
+      × Traces held failed sure sink sink_now run.deck.site run.places run.deck.lines run.stop run.manner result
+      × (outcome ≡ traced_status result)
+
+  -- what comes of what is due, and the status; nothing is written where reading failed or memory ran out
+  abbrev pub Comes : Due → K → K → Status → Type 0
+  Comes (due.Judged judged) sink sink_now outcome =
+      IsWritten judged.told (judged_status judged.refused) sink sink_now outcome
+  Comes (due.Runs run) sink sink_now outcome = IsTraced run sink sink_now outcome
+  Comes due.NoProcessor sink sink_now outcome =
+      IsWritten no_processor_line status.NoProcessor sink sink_now outcome
+  Comes (due.Refused refused) sink sink_now outcome =
+      IsWritten (refused.told ++ fault_line refused.fault) (status.Refused refused.fault) sink sink_now outcome
+  Comes due.ReadFault sink sink_now outcome = IsWritten [] status.ReadFault sink sink_now outcome
+  Comes (due.NoMemory memory) sink sink_now outcome = IsWritten [] (status.NoMemory memory) sink sink_now outcome
 
 -- the number with which the program ends: those of `guardian`
 abbrev pub status_number : Status → ℕ

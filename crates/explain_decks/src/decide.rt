@@ -1,21 +1,27 @@
 ghost use Rattle.std.specs.Prelude.{◌≡◌, ◌≢◌, ◌≤◌, ◌<◌, length, IfOk};
 ghost use Rattle.std.specs.Io.KnownBytes.{IsAtEnd};
 ghost use Rattle.deck_reader.specs.Decks.{Decks};
-ghost use Rattle.explain_decks.specs.Decided.{IsDueOfBytes, IsDueOfDeck, IsDueOfFault, IsDueOfSource};
-ghost use Rattle.explain_decks.specs.Decided.{IsOfWholeDeck, IsTold, can_stop};
+ghost use Rattle.explain_decks.specs.Decided.{IsDueOfBytes, IsDueOfDeck, IsDueOfFault, IsDueOfSource, IsDueOfTrace};
+ghost use Rattle.explain_decks.specs.Decided.{IsOfWholeDeck, can_stop, due_of_told, has_processor};
 ghost use Rattle.explain_decks.specs.Written.{CanBeWritten};
+ghost use Rattle.explain_left.specs.explain_why.specs.Judged.{IsJudgedDeck};
+ghost use Rattle.verdicts.specs.Refused.{AreAccepted};
 
-use crate::due::{Due, RefusedDeck};
+use crate::due::{Due, RefusedDeck, TracedDeck};
 use crate::telling::Telling;
 use deck_reader::{Deck, read_deck};
 use explain_break::break_deck;
-use explain_left::explain_why::{JudgedDeck, judged_deck, programs_of_a_deck_can_be_judged};
+use explain_left::explain_why::{
+    JudgedDeck, judged_deck, programs_of_a_deck_can_be_judged, unrefused_programs_are_accepted,
+};
 use explain_left::left_deck;
 use fault_text::told_text;
 use gd_io::{Source, SourceFault, read_all};
 use gd_words::NoMemory;
+use player::ProcessorStop;
 use std::alloc::Global;
 use tal_tree::DeckFault;
+use traced_decks::{Manner, places_of};
 
 /// A deck has at most this many bytes.
 const MOST_BYTES: usize = 1_048_576;
@@ -48,14 +54,17 @@ fn due_of_bytes(alloc: Global, telling: Telling, bytes: &[u8]) -> Due
 fn due_of_deck(alloc: Global, telling: Telling, bytes: &[u8], deck: Deck) -> Due
     requires spelt { Decks bytes.now deck }
     requires few { length bytes.now ≤ 1048576 }
-    ensures { IsDueOfDeck telling bytes.now deck result }
+    ensures due { IsDueOfDeck telling bytes.now deck result }
+    ensures written { CanBeWritten result }
 {
     if !can_stop(telling, deck.site.processors) {
         return Due::NoProcessor;
     }
-    match told_of_deck(alloc, telling, bytes, deck) {
-        Err(memory) => Due::NoMemory(memory),
-        Ok(judged) => Due::Judged(judged),
+    match telling {
+        Telling::Why => due_of_told(why_told(alloc, bytes, &deck)),
+        Telling::Left(stop) => due_of_told(left_deck(alloc, bytes, deck, stop)),
+        Telling::Breaks => due_of_told(break_deck(alloc, bytes, deck)),
+        Telling::Trace { stop, manner } => due_of_trace(alloc, bytes, deck, stop, manner),
     }
 }
 
@@ -65,36 +74,82 @@ fn can_stop(telling: Telling, processors: u8) -> bool
 {
     match telling {
         Telling::Why => true,
-        Telling::Left(None) => true,
-        Telling::Left(Some(stop)) => stop.processor < processors,
+        Telling::Left(stop) => has_processor(stop, processors),
         Telling::Breaks => true,
+        Telling::Trace { stop, manner: _ } => has_processor(stop, processors),
     }
 }
 
-fn told_of_deck(
+fn has_processor(stop: Option<ProcessorStop>, processors: u8) -> bool
+    ensures { result ≡ has_processor stop processors }
+{
+    match stop {
+        None => true,
+        Some(stop) => stop.processor < processors,
+    }
+}
+
+fn why_told(alloc: Global, bytes: &[u8], deck: &Deck) -> Result<JudgedDeck, NoMemory>
+    requires spelt { Decks bytes.now deck.now }
+    requires few { length bytes.now ≤ 1048576 }
+    ensures { IfOk result (λ judged. IsJudgedDeck bytes.now deck.now.site.processes judged) }
+{
+    programs_of_a_deck_can_be_judged();
+    judged_deck(alloc, bytes, deck.site.processes.as_slice())
+}
+
+/// What is due where it was told of a deck, or memory ran out.
+fn due_of_told(told: Result<JudgedDeck, NoMemory>) -> Due
+    ensures { result ≡ due_of_told told }
+{
+    match told {
+        Err(memory) => Due::NoMemory(memory),
+        Ok(judged) => Due::Judged(judged),
+    }
+}
+
+/// What is due of a deck whose run is to be told: where a program is refused, that.
+fn due_of_trace(
     alloc: Global,
-    telling: Telling,
     bytes: &[u8],
     deck: Deck,
-) -> Result<JudgedDeck, NoMemory>
+    stop: Option<ProcessorStop>,
+    manner: Manner,
+) -> Due
     requires spelt { Decks bytes.now deck }
     requires few { length bytes.now ≤ 1048576 }
-    ensures { IfOk result (λ judged. IsTold telling bytes.now deck judged) }
+    ensures { IsDueOfTrace bytes.now deck stop manner result }
 {
-    match telling {
-        Telling::Why => {
-            programs_of_a_deck_can_be_judged();
-            let judged = judged_deck(alloc, bytes, deck.site.processes.as_slice())?;
-            Ok(judged)
-        }
-        Telling::Left(stop) => {
-            let judged = left_deck(alloc, bytes, deck, stop)?;
-            Ok(judged)
-        }
-        Telling::Breaks => {
-            let judged = break_deck(alloc, bytes, deck)?;
-            Ok(judged)
-        }
+    unrefused_programs_are_accepted();
+    let judged = match why_told(alloc, bytes, &deck) {
+        Ok(judged) => judged,
+        Err(memory) => return Due::NoMemory(memory),
+    };
+    if judged.refused {
+        return Due::Judged(judged);
+    }
+    due_of_run(alloc, bytes, deck, stop, manner)
+}
+
+fn due_of_run(
+    alloc: Global,
+    bytes: &[u8],
+    deck: Deck,
+    stop: Option<ProcessorStop>,
+    manner: Manner,
+) -> Due
+    requires few { length bytes.now ≤ 1048576 }
+    requires accepted { AreAccepted deck.site.processes }
+    ensures { IsDueOfTrace bytes.now deck stop manner result }
+{
+    match places_of(alloc, bytes, &deck.site) {
+        Err(memory) => Due::NoMemory(memory),
+        Ok(places) => Due::Runs(TracedDeck {
+            deck,
+            places,
+            stop,
+            manner,
+        }),
     }
 }
 

@@ -1,17 +1,18 @@
-ghost use Rattle.std.specs.Prelude.{◌≡◌};
-ghost use Rattle.gd_io.specs.Puts.{Puts};
+ghost use Rattle.std.specs.Prelude.{◌≡◌, ◌++◌};
 ghost use Rattle.explain_decks.specs.Ends.{TellEnds};
-ghost use Rattle.explain_decks.specs.Written.{CanBeWritten, judged_status, status_after, status_number, status_of};
-ghost use Rattle.explain_decks.specs.Written.{text_of};
+ghost use Rattle.explain_decks.specs.Written.{CanBeRun, CanBeWritten, Comes, IsTraced, IsWritten, judged_status};
+ghost use Rattle.explain_decks.specs.Written.{status_after, status_number};
+ghost use Rattle.fault_text.specs.trace_print.specs.FaultLine.{IsOfDeck, fault_line};
 ghost use Rattle.explain_decks.specs.declared.status.Status.{Status};
 
 use crate::decide::due_of_source;
-use crate::due::Due;
+use crate::due::{Due, RefusedDeck, TracedDeck};
 use crate::status::Status;
 use crate::telling::Telling;
 use fault_text::write_why;
 use gd_io::{Sink, Source, WriteFault, put_all};
 use std::alloc::Global;
+use traced_decks::{TraceFault, trace_deck};
 
 /// Tells of a deck as `tell` does, and answers the number of its status, with which the program ends.
 pub fn tell_number<S: Source, K: Sink>(
@@ -40,45 +41,73 @@ pub fn tell<S: Source, K: Sink>(
         result }
 {
     let due = due_of_source(alloc, telling, source);
-    let written = write_due(sink, &due);
-    status_after(&due, written)
+    put_due(alloc, due, sink)
 }
 
-fn write_due<K: Sink>(sink: &mut K, due: &Due) -> Result<(), WriteFault>
-    requires { CanBeWritten due.now }
-    ensures { Puts K.held K.faults K.sure sink.old sink.new (text_of due.now) result }
+/// Writes what is due, or runs a deck with its events told.
+fn put_due<K: Sink>(alloc: Global, due: Due, sink: &mut K) -> Status
+    requires { CanBeWritten due }
+    ensures { Comes K.held K.faults K.sure due sink.old sink.new result }
 {
     match due {
-        Due::Judged(judged) => put_all(sink, judged.told.as_slice()),
-        Due::NoProcessor => put_all(
+        Due::Judged(judged) => put_told(
+            sink,
+            judged.told.as_slice(),
+            judged_status(judged.refused),
+        ),
+        Due::Runs(run) => trace(alloc, run, sink),
+        Due::NoProcessor => put_told(
             sink,
             b"usage: --fail P:K stops a processor P that the deck has\n",
+            Status::NoProcessor,
         ),
-        Due::Refused(refused) => write_why(sink, refused.told.as_slice(), &refused.fault),
-        Due::ReadFault => Ok(()),
-        Due::NoMemory(_) => Ok(()),
+        Due::Refused(refused) => put_refused(sink, &refused),
+        Due::ReadFault => put_told(sink, b"", Status::ReadFault),
+        Due::NoMemory(memory) => put_told(sink, b"", Status::NoMemory(memory)),
     }
 }
 
-/// The status, by whether the text that is due went out whole.
-fn status_after(due: &Due, written: Result<(), WriteFault>) -> Status
-    ensures { result ≡ status_after due.now written }
+/// Writes a text, and answers this status, if it went out whole.
+fn put_told<K: Sink>(sink: &mut K, text: &[u8], whole: Status) -> Status
+    ensures { IsWritten K.held K.faults K.sure text.now whole sink.old sink.new result }
+{
+    status_after(whole, put_all(sink, text))
+}
+
+fn put_refused<K: Sink>(sink: &mut K, refused: &RefusedDeck) -> Status
+    requires { IsOfDeck refused.now.fault }
+    ensures { IsWritten K.held K.faults K.sure (refused.now.told ++ fault_line refused.now.fault)
+        (Status.Refused refused.now.fault) sink.old sink.new result }
+{
+    let written = write_why(sink, refused.told.as_slice(), &refused.fault);
+    status_after(Status::Refused(refused.fault), written)
+}
+
+/// Runs a deck, and tells of its events.
+fn trace<K: Sink>(alloc: Global, run: TracedDeck, sink: &mut K) -> Status
+    requires { CanBeRun run }
+    ensures { IsTraced K.held K.faults K.sure run sink.old sink.new result }
+{
+    let TracedDeck {
+        deck,
+        places,
+        stop,
+        manner,
+    } = run;
+    match trace_deck(alloc, deck, &places, stop, manner, sink) {
+        Ok(_) => Status::Done,
+        Err(TraceFault::Write(_)) => Status::WriteFault,
+        Err(TraceFault::NoMemory(memory)) => Status::NoMemory(memory),
+    }
+}
+
+/// The status, by whether the text went out whole.
+fn status_after(whole: Status, written: Result<(), WriteFault>) -> Status
+    ensures { result ≡ status_after whole written }
 {
     match written {
-        Ok(()) => status_of(due),
+        Ok(()) => whole,
         Err(WriteFault) => Status::WriteFault,
-    }
-}
-
-fn status_of(due: &Due) -> Status
-    ensures { result ≡ status_of due.now }
-{
-    match due {
-        Due::Judged(judged) => judged_status(judged.refused),
-        Due::NoProcessor => Status::NoProcessor,
-        Due::Refused(refused) => Status::Refused(refused.fault),
-        Due::ReadFault => Status::ReadFault,
-        Due::NoMemory(memory) => Status::NoMemory(*memory),
     }
 }
 

@@ -1,4 +1,5 @@
 use player::ProcessorStop;
+use traced_decks::Manner;
 
 /// What is to be told of a deck.
 #[derive(Clone, Copy, PartialEq, Eq)]
@@ -9,4 +10,9 @@ pub enum Telling {
     Left(Option<ProcessorStop>),
     /// A run of it that breaks, if a program of it is refused.
     Breaks,
+    /// What the events of its run did that this manner tells, with a stop of a processor where one is given.
+    Trace {
+        stop: Option<ProcessorStop>,
+        manner: Manner,
+    },
 }

@@ -5,9 +5,10 @@ use Rattle.explain_decks.specs.Written.{status_number}
 use Rattle.explain_decks.specs.declared.status.Status.{Status}
 use Rattle.explain_decks.specs.declared.telling.Telling.{Telling}
 use Rattle.explain_decks.specs.declared.telling.Telling.TheVariants as telling
+use Rattle.explain_decks.specs.traced_decks.specs.traced_runs.specs.Trace.{manner_of}
 use Rattle.explain_words.specs.Asked.{IsAsked}
 use Rattle.explain_words.specs.declared.asked.Question.{Question}
-use Rattle.explain_words.specs.declared.asked.Question.TheVariants.{Why, Left, Breaks, Help, Version}
+use Rattle.explain_words.specs.declared.asked.Question.TheVariants.{Why, Left, Breaks, Trace, Help, Version}
 use Rattle.explain_runner.specs.declared.ending.Ending.{Ending}
 use Rattle.explain_runner.specs.declared.ending.Ending.TheVariants as ending
 use Rattle.gd_words.specs.declared.memory.NoMemory.{NoMemory}
@@ -18,6 +19,7 @@ abbrev pub usage_line : List ℕ
 usage_line =
     codes "usage: explain why [FILE]" ++ 10 ∷ [] ++ codes "       explain left [--fail P:K] [FILE]" ++ 10 ∷ []
     ++ codes "       explain break [FILE]" ++ 10 ∷ []
+    ++ codes "       explain trace [--fail P:K] [--from E] [--to E] [--json] [FILE]" ++ 10 ∷ []
 
 -- how a call ends that writes the usage, by whether it went out whole
 abbrev pub usage_ending : Result ⊤ WriteFault → Ending
@@ -74,6 +76,8 @@ module _ {S K : Type 0} (left : S → Option (List ℕ)) (failed_reads : S → �
       IsTold (telling.Left stop) source source_now sink sink_now how
   IsAnswer (Some Breaks) source source_now sink sink_now how =
       IsTold telling.Breaks source source_now sink sink_now how
+  IsAnswer (Some (Trace stop from to json)) source source_now sink sink_now how =
+      IsTold (telling.Trace stop (manner_of from to json)) source source_now sink sink_now how
   IsAnswer (Some Help) source source_now sink sink_now how =
       (source_now ≡ source) × IsShown held failed_writes sure_to_write sink sink_now how
   IsAnswer (Some Version) source source_now sink sink_now how =

@@ -3,7 +3,7 @@ ghost use Rattle.explain_runner.specs.Answers.{Answers, IsShown, IsUsage, IsWrit
 ghost use Rattle.explain_runner.specs.declared.ending.Ending.{Ending};
 
 use crate::ending::Ending;
-use explain_decks::{Telling, tell};
+use explain_decks::{Manner, Telling, tell};
 use explain_words::{Question, asked_by, help_text, version_text};
 use gd_io::{Sink, Source, WriteFault, put_all};
 use gd_words::NoMemory;
@@ -25,8 +25,9 @@ pub fn exit_number<S: Source, K: Sink>(
 }
 
 /// Does what the words ask for, the program's name first. `why` tells why the deck of the source can't be read, or why
-/// its programs are refused, `left` what is left once it was run, and `break` a run of it that breaks if a program is
-/// refused. `--help` and `--version` write what they ask for, and other words give the usage.
+/// its programs are refused, `left` what is left once it was run, `break` a run of it that breaks if a program is
+/// refused, and `trace` what each event of its run did. `--help` and `--version` write what they ask for, and other
+/// words give the usage.
 pub fn explain<S: Source, K: Sink>(
     alloc: Global,
     words: &[String],
@@ -44,6 +45,19 @@ pub fn explain<S: Source, K: Sink>(
             Ending::Told(tell(alloc, Telling::Left(stop), source, sink))
         }
         Ok(Some(Question::Breaks)) => Ending::Told(tell(alloc, Telling::Breaks, source, sink)),
+        Ok(
+            Some(
+                Question::Trace {
+                    stop,
+                    from,
+                    to,
+                    json,
+                },
+            ),
+        ) => {
+            let manner = Manner::of(from, to, json);
+            Ending::Told(tell(alloc, Telling::Trace { stop, manner }, source, sink))
+        }
         Ok(Some(Question::Help)) => show(help_text(alloc), sink),
         Ok(Some(Question::Version)) => show(version_text(alloc), sink),
     }
@@ -54,7 +68,7 @@ fn write_usage<K: Sink>(sink: &mut K) -> Ending
 {
     match put_all(
         sink,
-        b"usage: explain why [FILE]\n       explain left [--fail P:K] [FILE]\n       explain break [FILE]\n",
+        b"usage: explain why [FILE]\n       explain left [--fail P:K] [FILE]\n       explain break [FILE]\n       explain trace [--fail P:K] [--from E] [--to E] [--json] [FILE]\n",
     ) {
         Ok(()) => Ending::Usage,
         Err(WriteFault) => Ending::UsageUnwritten,

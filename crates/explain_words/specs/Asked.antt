@@ -1,14 +1,16 @@
 -- What the words of a command line of `explain` ask for. Our own rule.
-use Rattle.std.specs.Prelude.{◌≡◌, ℕ, List, [], ◌∷◌, Option, Some, None, option_and_then, option_map, codes}
-use Rattle.std.specs.Prelude.{if◌then◌else◌}
+use Rattle.std.specs.Prelude.{◌≡◌, ℕ, Bool, true, false, List, [], ◌∷◌, Option, Some, None, option_and_then}
+use Rattle.std.specs.Prelude.{option_map, codes, if◌then◌else◌}
+use Rattle.std.specs.Option.{option_map_or}
 use Rattle.std.specs.Str.{bytes_eq}
 use Rattle.clap.specs.Words.{IsAmong, Kinds, Row, Text, fault_of, first_of, matches_of}
 use Rattle.clap.specs.declared.error.kind.ErrorKind.{ErrorKind}
 use Rattle.clap.specs.declared.error.kind.ErrorKind.TheVariants as kind
 use Rattle.command_words.specs.Asked.{stop_of}
+use Rattle.deck_lines.specs.Numbers.{written_number}
 use Rattle.explain_words.specs.Line.{the_line}
 use Rattle.explain_words.specs.declared.asked.Question.{Question}
-use Rattle.explain_words.specs.declared.asked.Question.TheVariants.{Why, Left, Breaks, Help, Version}
+use Rattle.explain_words.specs.declared.asked.Question.TheVariants.{Why, Left, Breaks, Trace, Help, Version}
 
 -- `why` takes no stop
 abbrev pub why_as : Option Text → Option Question
@@ -25,16 +27,49 @@ abbrev pub breaks_as : Option Text → Option Question
 breaks_as None = Some Breaks
 breaks_as (Some fail) = None
 
--- what a mode asks for with this value of `--fail`
-abbrev pub question_as : Text → Option Text → Option Question
-question_as mode fail =
+-- these three take no event, and tell it in one form
+abbrev pub told_as : Text → Option Text → Option Question
+told_as mode fail =
     if bytes_eq mode (codes "why") then why_as fail else if bytes_eq mode (codes "left") then left_as fail
     else if bytes_eq mode (codes "break") then breaks_as fail else None
 
+abbrev pub without_events : Text → Option Text → Option Text → Option Text → Bool → Option Question
+without_events mode fail None None false = told_as mode fail
+without_events mode fail None None true = None
+without_events mode fail None (Some to) json = None
+without_events mode fail (Some from) to json = None
+
+-- the number of an event, or this one where the words give none
+abbrev pub event_number : Option Text → ℕ → Option ℕ
+event_number None missing = Some missing
+event_number (Some text) missing = written_number text
+
+abbrev pub trace_within : Option Text → Option ℕ → Option ℕ → Bool → Option Question
+trace_within None (Some from) (Some to) json = Some (Trace None from to json)
+trace_within (Some fail) (Some from) (Some to) json =
+    option_map (λ stop. Trace (Some stop) from to json) (stop_of fail)
+trace_within fail (Some from) None json = None
+trace_within fail None to json = None
+
+-- `trace` takes a stop, and the first and the last event, which are else the first and the last of all; and `--json`
+abbrev pub trace_as : Option Text → Option Text → Option Text → Bool → Option Question
+trace_as fail from to json = trace_within fail (event_number from 1) (event_number to 4294967295) json
+
+-- what a mode asks for with these values of `--fail`, `--from` and `--to`, and with `--json` or without it
+abbrev pub question_as : Text → Option Text → Option Text → Option Text → Bool → Option Question
+question_as mode fail from to json =
+    if bytes_eq mode (codes "trace") then trace_as fail from to json else without_events mode fail from to json
+
+-- whether `--json` is there
+abbrev pub asks_for_json : List Row → Bool
+asks_for_json rows = option_map_or (λ text. bytes_eq text (codes "true")) (first_of (codes "json") rows) false
+
 -- what the parts that clap tells apart ask for
 abbrev pub question_in : List Row → Option Question
-question_in rows =
-    option_and_then (λ mode. question_as mode (first_of (codes "fail") rows)) (first_of (codes "mode") rows)
+question_in rows = option_and_then
+    (λ mode. question_as mode (first_of (codes "fail") rows) (first_of (codes "from") rows) (first_of (codes "to") rows)
+    (asks_for_json rows))
+    (first_of (codes "mode") rows)
 
 -- what words ask for that clap refuses for this
 abbrev pub kind_question : ErrorKind → Option Question
@@ -70,3 +105,7 @@ IsFileAfter words file = IsFileAsked (codes "explain" ∷ words) file
 -- `left` with a stop of this processor after so many events
 abbrev pub left_with_stop : ℕ → ℕ → Question
 left_with_stop processor after = Left (Some (record { processor = processor; after = after }))
+
+-- `trace` with a stop of this processor after so many events, within these numbers, as text
+abbrev pub trace_with_stop : ℕ → ℕ → ℕ → ℕ → Question
+trace_with_stop processor after from to = Trace (Some (record { processor = processor; after = after })) from to false

@@ -2,7 +2,7 @@
 use Rattle.std.specs.Prelude.{◌≡◌, true, List, [], Some, codes}
 use Rattle.clap.specs.Words.{App, IsAmong, Rule, Text, fault_of, found_of, matches_of, new_app, new_rule, rows_of}
 use Rattle.clap.specs.Words.{with_rule}
-use Rattle.clap.specs.declared.builder.action.ArgAction.TheVariants.{Set}
+use Rattle.clap.specs.declared.builder.action.ArgAction.TheVariants.{Set, SetTrue}
 use Rattle.clap.specs.declared.error.kind.ErrorKind.{ErrorKind}
 use Rattle.explain_words.specs.declared.line.Parse.{Parse}
 use Rattle.explain_words.specs.declared.line.Parse.TheVariants.{Words, Refused}
@@ -20,12 +20,25 @@ abbrev pub fail_rule : Rule
 fail_rule =
     record (new_rule (codes "fail")) { long = Some (codes "fail"); action = Some Set; value_names = 1 }
 
+-- `--from` and `--to`, each with one value
+abbrev pub from_rule : Rule
+from_rule =
+    record (new_rule (codes "from")) { long = Some (codes "from"); action = Some Set; value_names = 1 }
+
+abbrev pub to_rule : Rule
+to_rule = record (new_rule (codes "to")) { long = Some (codes "to"); action = Some Set; value_names = 1 }
+
+-- `--json`, a flag
+abbrev pub json_rule : Rule
+json_rule = record (new_rule (codes "json")) { long = Some (codes "json"); action = Some SetTrue }
+
 -- a program that has a version, which `--version` asks for
 abbrev pub versioned : App → App
 versioned app = record app { top = record app.top { has_version = true } }
 
 abbrev pub the_line : App
-the_line = with_rule (with_rule (with_rule (versioned (new_app (codes "explain"))) mode_rule) file_rule) fail_rule
+the_line = with_rule (with_rule (with_rule (with_rule (with_rule (with_rule (versioned (new_app (codes "explain")))
+    mode_rule) file_rule) fail_rule) from_rule) to_rule) json_rule
 
 -- what clap makes of the words, the program's name first: it takes them, or refuses them for one of these kinds
 abbrev pub IsParse : List Text → Parse → Type 0

@@ -1,12 +1,14 @@
 ghost use Rattle.std.specs.Prelude.{◌≡◌, IfOk, map, option_map, string_bytes};
 ghost use Rattle.clap.specs.Words.{found_of, rows_of};
-ghost use Rattle.explain_words.specs.Asked.{IsAsked, IsFileAsked, breaks_as, kind_question, left_as};
-ghost use Rattle.explain_words.specs.Asked.{question_as, question_in, why_as};
+ghost use Rattle.explain_words.specs.Asked.{IsAsked, IsFileAsked, asks_for_json, breaks_as, event_number};
+ghost use Rattle.explain_words.specs.Asked.{left_as, question_as, question_in, told_as, trace_as, trace_within, why_as};
+ghost use Rattle.explain_words.specs.Asked.{kind_question, without_events};
 
 use crate::line::{Parse, parsed, text_of};
 use clap::ArgMatches;
 use clap::error::ErrorKind;
 use command_words::stop_of;
+use deck_lines::written_number;
 use gd_words::NoMemory;
 use player::ProcessorStop;
 use std::alloc::Global;
@@ -20,6 +22,14 @@ pub enum Question {
     Left(Option<ProcessorStop>),
     /// Of a deck whose programs are refused, a run of it that breaks.
     Breaks,
+    /// Of a deck, what each event of its run did, with this stop of a processor where there is one, from the event of a
+    /// number, which counts from 1, to that of another, as JSON or as text.
+    Trace {
+        stop: Option<ProcessorStop>,
+        from: u32,
+        to: u32,
+        json: bool,
+    },
     /// What the program does and which words it takes.
     Help,
     /// The program's version.
@@ -54,11 +64,58 @@ fn question_in(matches: &ArgMatches) -> Option<Question>
 {
     let mode = text_of(matches, "mode")?;
     let fail = text_of(matches, "fail");
-    question_as(mode, fail)
+    let from = text_of(matches, "from");
+    let to = text_of(matches, "to");
+    let json = asks_for_json(matches);
+    question_as(mode, fail, from, to, json)
 }
 
-fn question_as(mode: &str, fail: Option<&str>) -> Option<Question>
-    ensures { result ≡ question_as mode.now (option_map (λ text. text.now) fail.entry) }
+/// Whether `--json` is there. Not by `get_flag`, which promises nothing of other values than `true` and `false`.
+fn asks_for_json(matches: &ArgMatches) -> bool
+    ensures { result ≡ asks_for_json (rows_of (found_of matches.now)) }
+{
+    match text_of(matches, "json") {
+        Some(text) => text == "true",
+        None => false,
+    }
+}
+
+fn question_as(
+    mode: &str,
+    fail: Option<&str>,
+    from: Option<&str>,
+    to: Option<&str>,
+    json: bool,
+) -> Option<Question>
+    ensures { result ≡ question_as mode.now (option_map (λ text. text.now) fail.entry)
+        (option_map (λ text. text.now) from.entry) (option_map (λ text. text.now) to.entry) json }
+{
+    match mode {
+        "trace" => trace_as(fail, from, to, json),
+        _ => without_events(mode, fail, from, to, json),
+    }
+}
+
+fn without_events(
+    mode: &str,
+    fail: Option<&str>,
+    from: Option<&str>,
+    to: Option<&str>,
+    json: bool,
+) -> Option<Question>
+    ensures { result ≡ without_events mode.now (option_map (λ text. text.now) fail.entry)
+        (option_map (λ text. text.now) from.entry) (option_map (λ text. text.now) to.entry) json }
+{
+    match (from, to, json) {
+        (None, None, false) => told_as(mode, fail),
+        (None, None, true) => None,
+        (None, Some(_), _) => None,
+        (Some(_), _, _) => None,
+    }
+}
+
+fn told_as(mode: &str, fail: Option<&str>) -> Option<Question>
+    ensures { result ≡ told_as mode.now (option_map (λ text. text.now) fail.entry) }
 {
     match mode {
         "why" => why_as(fail),
@@ -95,6 +152,62 @@ fn breaks_as(fail: Option<&str>) -> Option<Question>
     match fail {
         None => Some(Question::Breaks),
         Some(_) => None,
+    }
+}
+
+fn trace_as(
+    fail: Option<&str>,
+    from: Option<&str>,
+    to: Option<&str>,
+    json: bool,
+) -> Option<Question>
+    ensures { result ≡ trace_as (option_map (λ text. text.now) fail.entry) (option_map (λ text. text.now) from.entry)
+        (option_map (λ text. text.now) to.entry) json }
+{
+    trace_within(
+        fail,
+        event_number(from, 1),
+        event_number(to, u32::MAX),
+        json,
+    )
+}
+
+/// The number of an event, or this one where the words give none.
+fn event_number(text: Option<&str>, missing: u32) -> Option<u32>
+    ensures { result ≡ event_number (option_map (λ text. text.now) text.entry) missing }
+{
+    match text {
+        None => Some(missing),
+        Some(text) => written_number(text.as_bytes()),
+    }
+}
+
+fn trace_within(
+    fail: Option<&str>,
+    from: Option<u32>,
+    to: Option<u32>,
+    json: bool,
+) -> Option<Question>
+    ensures { result ≡ trace_within (option_map (λ text. text.now) fail.entry) from to json }
+{
+    let from = from?;
+    let to = to?;
+    match fail {
+        None => Some(Question::Trace {
+            stop: None,
+            from,
+            to,
+            json,
+        }),
+        Some(fail) => {
+            let stop = stop_of(fail)?;
+            Some(Question::Trace {
+                stop: Some(stop),
+                from,
+                to,
+                json,
+            })
+        }
     }
 }
 

@@ -1,7 +1,8 @@
-ghost use Rattle.std.specs.Prelude.{◌≡◌, [], ◌∷◌, Option, Some, None, codes};
+ghost use Rattle.std.specs.Prelude.{◌≡◌, true, false, [], ◌∷◌, Option, Some, None, codes};
 ghost use Rattle.explain_words.specs.Asked.{IsAsked, IsAskedAfter, IsFileAfter, left_with_stop};
+ghost use Rattle.explain_words.specs.Asked.{trace_with_stop};
 ghost use Rattle.explain_words.specs.declared.asked.Question.{Question};
-ghost use Rattle.explain_words.specs.declared.asked.Question.TheVariants.{Why, Left, Breaks};
+ghost use Rattle.explain_words.specs.declared.asked.Question.TheVariants.{Why, Left, Breaks, Trace};
 
 /// `why`, alone or with a file, before `--` or after it.
 pub fn why_is_asked_for()
@@ -36,6 +37,30 @@ pub fn a_run_that_breaks_is_asked_for()
     ensures file { IsAskedAfter (codes "break" ∷ codes "a.deck" ∷ []) (Some Breaks) }
     ensures fail { IsAskedAfter (codes "break" ∷ codes "--fail" ∷ codes "1:7" ∷ []) None }
     ensures longer { IsAskedAfter (codes "breaks" ∷ []) None }
+{}
+
+/// `trace`, alone or with a file, with a stop, from an event to another, and as JSON. The other modes take no event and
+/// no `--json`.
+pub fn a_trace_is_asked_for()
+    ensures alone { IsAskedAfter (codes "trace" ∷ []) (Some (Trace None 1 4294967295 false)) }
+    ensures file { IsAskedAfter (codes "trace" ∷ codes "a.deck" ∷ []) (Some (Trace None 1 4294967295 false)) }
+    ensures fail { IsAskedAfter (codes "trace" ∷ codes "--fail" ∷ codes "1:7" ∷ [])
+        (Some (trace_with_stop 1 7 1 4294967295)) }
+    ensures first { IsAskedAfter (codes "trace" ∷ codes "--from" ∷ codes "20" ∷ [])
+        (Some (Trace None 20 4294967295 false)) }
+    ensures last { IsAskedAfter (codes "trace" ∷ codes "--to=40" ∷ codes "a.deck" ∷ []) (Some (Trace None 1 40 false)) }
+    ensures both { IsAskedAfter (codes "trace" ∷ codes "--from=20" ∷ codes "--fail=0:9" ∷ codes "--to=40" ∷ [])
+        (Some (trace_with_stop 0 9 20 40)) }
+    ensures json { IsAskedAfter (codes "trace" ∷ codes "--json" ∷ codes "a.deck" ∷ [])
+        (Some (Trace None 1 4294967295 true)) }
+    ensures number { IsAskedAfter (codes "trace" ∷ codes "--from" ∷ codes "x" ∷ []) None }
+    ensures colon { IsAskedAfter (codes "trace" ∷ codes "--fail" ∷ codes "1" ∷ []) None }
+    ensures left { IsAskedAfter (codes "left" ∷ codes "--to" ∷ codes "40" ∷ []) None }
+    ensures why { IsAskedAfter (codes "why" ∷ codes "--from" ∷ codes "1" ∷ []) None }
+    ensures why_json { IsAskedAfter (codes "why" ∷ codes "--json" ∷ []) None }
+    ensures longer { IsAskedAfter (codes "traces" ∷ []) None }
+    ensures no_value { (question : Option Question) → IsAskedAfter (codes "trace" ∷ codes "--from" ∷ []) question
+        → question ≡ None }
 {}
 
 /// The second word is the file.

@@ -1,6 +1,7 @@
 ghost use Rattle.std.specs.Prelude.{◌≡◌, ◌≢◌, false, IfOk, map, option_map, string_bytes};
 ghost use Rattle.clap.specs.Words.{FailsBy, HasMatchesOf, app_of, fault_of, first_of, found_of, rows_of, rule_of};
-ghost use Rattle.explain_words.specs.Line.{IsParse, IsRefusedFor, fail_rule, file_rule, mode_rule, the_line};
+ghost use Rattle.explain_words.specs.Line.{IsParse, IsRefusedFor, fail_rule, file_rule, from_rule};
+ghost use Rattle.explain_words.specs.Line.{json_rule, mode_rule, the_line, to_rule};
 
 use clap::error::ErrorKind;
 use clap::{Arg, ArgAction, ArgMatches, Command, Error};
@@ -23,7 +24,7 @@ fn mode_argument<'a>(alloc: Global) -> Arg<'a>
         .required(true)
         .action(ArgAction::Set)
         .help(
-            "why: tells why a deck can't be read, or why its programs are refused; left: runs a deck and tells what is left; break: looks for a run that breaks if a program is refused",
+            "why: tells why a deck can't be read, or why its programs are refused; left: runs a deck and tells what is left; break: looks for a run that breaks if a program is refused; trace: runs a deck and tells of each event what it did",
         )
 }
 
@@ -44,7 +45,39 @@ fn fail_argument<'a>(alloc: Global) -> Arg<'a>
         .long("fail")
         .action(ArgAction::Set)
         .value_name("P:K")
-        .help("Of left: stops processor P just before the event that K events precede")
+        .help("Of left and trace: stops processor P just before the event that K events precede")
+}
+
+fn from_argument<'a>(alloc: Global) -> Arg<'a>
+    ensures rule { rule_of result ≡ from_rule }
+    ensures local { result.global ≡ false }
+{
+    Arg::new(alloc, "from")
+        .long("from")
+        .action(ArgAction::Set)
+        .value_name("E")
+        .help("Of trace: the first event that is told, by its number from 1")
+}
+
+fn to_argument<'a>(alloc: Global) -> Arg<'a>
+    ensures rule { rule_of result ≡ to_rule }
+    ensures local { result.global ≡ false }
+{
+    Arg::new(alloc, "to")
+        .long("to")
+        .action(ArgAction::Set)
+        .value_name("E")
+        .help("Of trace: the last event that is told")
+}
+
+fn json_argument<'a>(alloc: Global) -> Arg<'a>
+    ensures rule { rule_of result ≡ json_rule }
+    ensures local { result.global ≡ false }
+{
+    Arg::new(alloc, "json")
+        .long("json")
+        .action(ArgAction::SetTrue)
+        .help("Of trace: writes each line as an object of JSON")
 }
 
 /// The words that a command line may have, as one simple command.
@@ -56,7 +89,10 @@ fn the_line<'a>(alloc: Global) -> Result<Command<'a>, AllocError>
         .version("1")
         .arg(mode_argument(alloc))?
         .arg(file_argument(alloc))?
-        .arg(fail_argument(alloc))
+        .arg(fail_argument(alloc))?
+        .arg(from_argument(alloc))?
+        .arg(to_argument(alloc))?
+        .arg(json_argument(alloc))
 }
 
 fn matches_of<'a>(alloc: Global, words: &'a [String]) -> Result<ArgMatches<'a>, Error>

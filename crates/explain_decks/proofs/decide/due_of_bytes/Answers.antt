@@ -1,5 +1,5 @@
 use Rattle.std.proofs.Common.{Err, ap, ◌∙◌}
-use Rattle.explain_decks.proofs.DecidedLemmas.{deck_is_due, deck_is_written, fault_is_due, fault_is_written}
+use Rattle.explain_decks.proofs.DecidedLemmas.{deck_is_due, fault_is_due, fault_is_written}
 use Rattle.explain_decks.proofs.decide.due_of_bytes.Goals as goal
 
 pub returns-in-Err-clause-due : goal.returns-in-Err-clause-due
@@ -15,8 +15,4 @@ returns-in-Err-clause-written c =
 pub returns-in-Ok-clause-due : goal.returns-in-Ok-clause-due
 returns-in-Ok-clause-due c =
     deck_is_due c.args.telling c.args.bytes.now c.in-Ok.deck c.due_of_deck.result c.in-Ok.ensures.ok
-    c.due_of_deck.ensures
-
-pub returns-in-Ok-clause-written : goal.returns-in-Ok-clause-written
-returns-in-Ok-clause-written c =
-    deck_is_written c.args.telling c.args.bytes.now c.in-Ok.deck c.due_of_deck.result c.due_of_deck.ensures
+    c.due_of_deck.ensures.due

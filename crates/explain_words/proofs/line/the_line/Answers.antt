@@ -16,4 +16,10 @@ returns c =
     let fail = c.fail_argument.ensures in
     let one = c.in_ok-arg.ensures.shape mode.local ∙ ap₂ with_rule version_is mode.rule in
     let two = c.in_ok-arg-2.ensures.shape file.local ∙ ap₂ with_rule one file.rule in
-    IfOk-weaker c.arg-3.result _ _ (λ line h. h.shape fail.local ∙ ap₂ with_rule two fail.rule) c.arg-3.ensures
+    let from = c.from_argument.ensures in
+    let to = c.to_argument.ensures in
+    let three = c.in_ok-arg-3.ensures.shape fail.local ∙ ap₂ with_rule two fail.rule in
+    let four = c.in_ok-arg-4.ensures.shape from.local ∙ ap₂ with_rule three from.rule in
+    let json = c.json_argument.ensures in
+    let five = c.in_ok-arg-5.ensures.shape to.local ∙ ap₂ with_rule four to.rule in
+    IfOk-weaker c.arg-6.result _ _ (λ line h. h.shape json.local ∙ ap₂ with_rule five json.rule) c.arg-6.ensures

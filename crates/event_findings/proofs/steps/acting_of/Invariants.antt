@@ -1,0 +1,9 @@
+use Rattle.std.proofs.Common.{◌≡◌, length}
+use Rattle.event_findings.specs.Steps.{acting_of}
+use Rattle.event_findings.proofs.steps.acting_of.Given as goal
+
+abbrev pub invariant-loop-copy : goal.invariant-loop-copy
+invariant-loop-copy l = acting_of l.process l.left ≡ acting_of l.process l.copies
+
+abbrev pub decreases-loop-copy : goal.decreases-loop-copy
+decreases-loop-copy l = length l.left

@@ -1,0 +1,20 @@
+-- How the drive stands that an event names, after it.
+use Rattle.std.specs.Prelude.{[], slice_get, Option, Some, None}
+use Rattle.std.specs.Option.{unwrap_or}
+use Rattle.machine_states.specs.disc_device.specs.mirror.specs.States.{standing}
+use Rattle.schedule.specs.declared.event.Event.{Event}
+use Rattle.schedule.specs.declared.event.Event.TheVariants.{Run, Enter, Deliver, Lose, Repeat, Tick, Fail, Drive}
+use Rattle.site_machine.specs.packet_wires.specs.Play.{Packeted}
+use Rattle.trace_lines.specs.declared.finding.Finding.{Finding}
+use Rattle.trace_lines.specs.declared.finding.Finding.TheVariants as finding
+
+abbrev pub drive_found : Event → Packeted → Option Finding
+drive_found (Drive one) next =
+    Some (finding.Drive (standing (unwrap_or (slice_get next.drives one.process) []) one.drive))
+drive_found (Run process) next = None
+drive_found (Enter terminal) next = None
+drive_found (Deliver y k) next = None
+drive_found (Lose y k) next = None
+drive_found (Repeat y k) next = None
+drive_found (Tick node) next = None
+drive_found (Fail processor) next = None

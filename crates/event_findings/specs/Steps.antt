@@ -1,0 +1,91 @@
+-- The step that a process made, by the views before it and after it.
+use Rattle.std.specs.Prelude.{ℕ, ◌==◌, Bool, true, false, if◌then◌else◌, List, [], ◌∷◌, slice_get, Option, Some, None}
+use Rattle.image_places.specs.Running.{next_in}
+use Rattle.machine_views.specs.declared.views.CopyView.{CopyView}
+use Rattle.process_semantics.specs.declared.point.Point.{Point}
+use Rattle.process_semantics.specs.declared.point.Point.TheVariants as point
+use Rattle.tal_tree.specs.declared.program.Program.{Program}
+use Rattle.tal_tree.specs.declared.site.Kind.{Kind}
+use Rattle.tal_tree.specs.declared.site.Kind.TheVariants as kind
+use Rattle.tal_tree.specs.declared.site.ProcessSpec.{ProcessSpec}
+use Rattle.tal_tree.specs.declared.site.Site.{Site}
+use Rattle.trace_lines.specs.declared.finding.Finding.{Finding}
+use Rattle.trace_lines.specs.declared.finding.Finding.TheVariants as finding
+use Rattle.world_semantics.specs.declared.role.Role.{Role}
+use Rattle.world_semantics.specs.declared.role.Role.TheVariants as role
+
+-- Statements
+
+-- the number of what a copy makes next that stands at this point. At a checkpoint its image is of the state after it,
+-- and tells another one
+abbrev pub statement_at : Program → CopyView → Point → Option ℕ
+statement_at program copy point.AtCheckpoint = None
+statement_at program copy point.Ended = None
+statement_at program copy point.Inner = Some (next_in program copy.state)
+statement_at program copy point.Take = Some (next_in program copy.state)
+statement_at program copy point.Ask = Some (next_in program copy.state)
+statement_at program copy point.Await = Some (next_in program copy.state)
+statement_at program copy point.Answer = Some (next_in program copy.state)
+statement_at program copy point.Device = Some (next_in program copy.state)
+
+-- a disc makes no statements
+abbrev pub statement_in : Kind → CopyView → Option ℕ
+statement_in (kind.Disc sectors mirrored) copy = None
+statement_in (kind.Pair program) copy = statement_at program copy copy.point
+
+abbrev pub statement_by : Option ProcessSpec → CopyView → Option ℕ
+statement_by None copy = None
+statement_by (Some spec) copy = statement_in spec.what copy
+
+-- the number of what a copy makes next in its program, if its image tells it
+abbrev pub statement_of : Site → CopyView → Option ℕ
+statement_of site copy = statement_by (slice_get site.processes copy.process) copy
+
+-- Steps
+
+abbrev pub is_acting : Role → Bool
+is_acting role.Acting = true
+is_acting role.Watching = false
+is_acting role.Gone = false
+
+-- whether a copy acts for this process
+abbrev pub acts_for : ℕ → CopyView → Bool
+acts_for process copy = if copy.process == process then is_acting copy.role else false
+
+-- the copy that acts for a process
+abbrev pub acting_of : ℕ → List CopyView → Option CopyView
+acting_of process [] = None
+acting_of process (copy ∷ copies) = if acts_for process copy then Some copy else acting_of process copies
+
+-- where a process stands still that was to run
+abbrev pub still_of : Option CopyView → Option Finding
+still_of None = None
+still_of (Some copy) = Some (finding.StandsStill copy.point)
+
+-- at its checkpoint a process sends it, or goes on behind it
+abbrev pub checkpoint_step : CopyView → Finding
+checkpoint_step after = if after.sent then finding.SendsCheckpoint after.number else finding.PassesCheckpoint
+
+abbrev pub made : ℕ → Point → Option ℕ → Finding
+made process stood None = finding.DiscGoesOn stood
+made process stood (Some statement) = finding.Makes process statement
+
+abbrev pub step_at : Site → ℕ → CopyView → CopyView → Point → Finding
+step_at site process before after point.AtCheckpoint = checkpoint_step after
+step_at site process before after point.Inner = made process point.Inner (statement_of site before)
+step_at site process before after point.Take = made process point.Take (statement_of site before)
+step_at site process before after point.Ask = made process point.Ask (statement_of site before)
+step_at site process before after point.Await = made process point.Await (statement_of site before)
+step_at site process before after point.Answer = made process point.Answer (statement_of site before)
+step_at site process before after point.Device = made process point.Device (statement_of site before)
+step_at site process before after point.Ended = made process point.Ended (statement_of site before)
+
+abbrev pub step_between : Site → ℕ → Option CopyView → Option CopyView → Option Finding
+step_between site process (Some before) (Some after) = Some (step_at site process before after before.point)
+step_between site process (Some before) None = None
+step_between site process None after = None
+
+-- the step of a process between the copies before it and after it
+abbrev pub step_found : Site → ℕ → List CopyView → List CopyView → Option Finding
+step_found site process before after =
+    step_between site process (acting_of process before) (acting_of process after)

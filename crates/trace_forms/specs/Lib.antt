@@ -1,0 +1,3 @@
+pub mod Forms
+pub mod Pieces
+pub use Rattle.trace_lines

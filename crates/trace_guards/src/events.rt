@@ -1,0 +1,77 @@
+//! What is told of events of worked runs.
+ghost use Rattle.std.specs.Prelude.{◌≡◌, true, false, pos, [], ◌∷◌, Some};
+ghost use Rattle.event_findings.specs.Told.{shown_by};
+ghost use Rattle.process_semantics.specs.declared.point.Point.TheVariants as point;
+ghost use Rattle.mirror.specs.declared.state.DriveState.TheVariants.{Failed, Reviving, Working};
+ghost use Rattle.schedule.specs.declared.event.DriveChange.TheVariants.{Break, Copy, Revive};
+ghost use Rattle.schedule.specs.declared.event.Event.TheVariants as event;
+ghost use Rattle.site_machine.specs.packet_wires.specs.Examples.{adder_at_boot, before_third_piece, next_x, served};
+ghost use Rattle.site_machine.specs.packet_wires.specs.Examples.{taken_over};
+ghost use Rattle.trace_lines.specs.declared.finding.Fate.TheVariants as fate;
+ghost use Rattle.trace_lines.specs.declared.finding.Finding.TheVariants as finding;
+ghost use Rattle.trace_lines.specs.declared.finding.PacketSort.TheVariants as sort;
+ghost use Rattle.trace_guards.specs.Runs.{acknowledged, after_take, at_checkpoint, before_last_piece, before_take};
+ghost use Rattle.trace_guards.specs.Runs.{before_takeover, checkpoint_sent, driven, entered, packet, replied, told_in};
+ghost use Rattle.trace_guards.specs.Runs.{with_drives};
+ghost use Rattle.world_semantics.specs.Examples.{reply, run};
+
+/// A terminal enters its first request, and has no second one. A process that can't run is skipped, as is a packet that
+/// isn't there.
+pub fn entries_and_skips_are_told()
+    ensures enters { told_in adder_at_boot (event.Enter 0) ≡ finding.Enters 1 ∷ [] }
+    ensures again { told_in entered (event.Enter 0) ≡ finding.Skipped ∷ [] }
+    ensures nobody { told_in adder_at_boot (event.Run 1) ≡ finding.Skipped ∷ [] }
+    ensures no_packet { told_in adder_at_boot next_x ≡ finding.Skipped ∷ [] }
+{}
+
+/// A process makes the statement at which it stands, and what that sets is told. At its CHECKPOINT it sends the
+/// checkpoint, and once that was acknowledged it goes on.
+pub fn steps_are_told()
+    ensures first { told_in adder_at_boot run ≡ finding.Makes 0 1 ∷ [] }
+    ensures takes { told_in before_take run
+        ≡ finding.Makes 0 4 ∷ finding.Sets 0 1 0 (pos 1) ∷ finding.Sets 0 3 0 (pos 5) ∷ [] }
+    ensures adds { told_in after_take run ≡ finding.Makes 0 5 ∷ finding.Sets 0 0 0 (pos 5) ∷ [] }
+    ensures sends { told_in at_checkpoint run ≡ finding.SendsCheckpoint 1 ∷ [] }
+    ensures passes { told_in acknowledged run ≡ finding.PassesCheckpoint ∷ [] }
+    ensures still { told_in checkpoint_sent run ≡ finding.Skipped ∷ finding.StandsStill point.AtCheckpoint ∷ [] }
+{}
+
+/// A packet comes, is lost or goes once more. With its last piece a request waits, and a checkpoint is put in. What
+/// comes of a processor that was marked is dropped, and so is what comes to one that has stopped.
+pub fn packets_are_told()
+    ensures comes { told_in entered next_x ≡ packet (sort.LastPiece 1) 16 0 fate.Came ∷ finding.Waits 0 0 1 ∷ [] }
+    ensures lost { told_in entered (event.Lose false 0) ≡ packet (sort.LastPiece 1) 16 0 fate.Lost ∷ [] }
+    ensures repeated { told_in entered (event.Repeat false 0) ≡ packet (sort.LastPiece 1) 16 0 fate.Repeated ∷ [] }
+    ensures whole { told_in before_last_piece next_x
+        ≡ packet (sort.LastPiece 3) 0 1 fate.Came ∷ finding.AppliesCheckpoint 0 1 1 ∷ [] }
+    ensures refused { told_in taken_over next_x ≡ packet (sort.LastPiece 3) 0 1 fate.Refused ∷ [] }
+    ensures dropped { told_in taken_over (event.Deliver false 1) ≡ packet sort.Alive 1 0 fate.Dropped ∷ [] }
+{}
+
+/// A reply is shown by the event that prints it, once.
+pub fn a_reply_is_shown_as_it_is_printed()
+    ensures printed { shown_by replied next_x ≡ reply 0 (pos 5) ∷ [] }
+    ensures told { told_in replied next_x ≡ packet (sort.LastPiece 1) 0 16 fate.Came ∷ [] }
+    ensures nothing { shown_by served run ≡ [] }
+{}
+
+/// A processor stops, the other one marks it at its fourth tick, and the copy there takes over from the beginning. A
+/// second processor isn't stopped.
+pub fn a_takeover_is_told()
+    ensures stops { told_in before_last_piece (event.Fail 0) ≡ finding.Stops 0 ∷ [] }
+    ensures takes_over { told_in before_takeover (event.Tick 1)
+        ≡ finding.Marks 1 0 ∷ finding.TakesOver 0 1 1 (Some 1) ∷ [] }
+    ensures second { told_in before_third_piece (event.Fail 1) ≡ finding.WouldStopSecond 1 ∷ [] }
+    ensures quiet { told_in before_third_piece (event.Tick 1) ≡ [] }
+{}
+
+/// How a drive stands after its event is told. A disc's last drive isn't broken, and a process without two drives has
+/// none that breaks.
+pub fn events_of_drives_are_told()
+    ensures breaks { told_in (with_drives (Working ∷ Working ∷ [])) (driven 1 Break) ≡ finding.Drive Failed ∷ [] }
+    ensures revives { told_in (with_drives (Failed ∷ Working ∷ [])) (driven 0 Revive)
+        ≡ finding.Drive (Reviving 0) ∷ [] }
+    ensures lost { told_in (with_drives (Working ∷ Failed ∷ [])) (driven 0 Break) ≡ finding.WouldLoseDisc 0 ∷ [] }
+    ensures skipped { told_in (with_drives (Working ∷ Working ∷ [])) (driven 0 Copy) ≡ finding.Skipped ∷ [] }
+    ensures program { told_in adder_at_boot (driven 0 Break) ≡ finding.Skipped ∷ [] }
+{}

@@ -1,0 +1,7 @@
+pub mod EventLine
+pub mod FindingWords
+pub mod Names
+pub mod PacketFates
+pub mod SetWords
+pub mod ShownWords
+pub mod Statements

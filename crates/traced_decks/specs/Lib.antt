@@ -1,0 +1,2 @@
+pub mod PlacesOf
+pub use Rattle.traced_runs
