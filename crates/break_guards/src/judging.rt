@@ -1,8 +1,11 @@
 ghost use Rattle.std.specs.Prelude.{◌≡◌, [], ◌∷◌, true, false, None, ℕ, List};
-ghost use Rattle.break_guards.specs.Sites.{replied, written};
+ghost use Rattle.break_guards.specs.Sites.{answered, asking, entered, replied, written};
 ghost use Rattle.break_text.specs.break_runs.specs.Breaks.{is_idle_end, places_of};
-ghost use Rattle.break_text.specs.unfailing_judge.specs.Apart.{DifferAt, IsApartIf};
-ghost use Rattle.break_text.specs.unfailing_judge.specs.Turns.{IsNextIn, KeepsTurns, is_same_actor};
+ghost use Rattle.break_text.specs.unfailing_judge.specs.Order.{CanGo, GoesOn, Way, way_of};
+ghost use Rattle.break_text.specs.unfailing_judge.specs.Sound.{IsApart, IsLacking};
+ghost use Rattle.break_text.specs.unfailing_judge.specs.Turns.{HasTurn, KeepsTurns, is_same_actor};
+ghost use Rattle.break_text.specs.unfailing_judge.specs.declared.wrong.Apart.{Apart};
+ghost use Rattle.break_text.specs.unfailing_judge.specs.plain_semantics.specs.Machine.{plain_start};
 ghost use Rattle.break_text.specs.schedule_runs.specs.declared.ran.Ending.TheVariants as ending;
 ghost use Rattle.tal_tree.specs.declared.act.Act.TheVariants.{Step, Take, Enter, Print};
 ghost use Rattle.tal_tree.specs.declared.act.Shown.{Shown};
@@ -28,22 +31,55 @@ pub fn each_keeps_its_turns()
     ensures added { KeepsTurns [] (Print 0 ∷ []) → ⊥ }
 {}
 
-/// An act is next if no act of its process or terminal stands before it.
-pub fn the_first_of_its_actor_is_next()
-    ensures first { IsNextIn (Step 0) (Step 0 ∷ Take 0 1 ∷ []) }
-    ensures behind { IsNextIn (Step 1) (Step 0 ∷ Take 0 1 ∷ Step 1 ∷ []) }
-    ensures later { IsNextIn (Take 0 1) (Step 0 ∷ Take 0 1 ∷ []) → ⊥ }
-    ensures absent { IsNextIn (Step 1) (Step 0 ∷ []) → ⊥ }
+/// An act has its turn if none before it is of its process or terminal.
+pub fn an_act_has_its_turn()
+    ensures first { HasTurn [] (Step 0) }
+    ensures others { HasTurn (Step 1 ∷ Enter 0 ∷ []) (Step 0) }
+    ensures own { HasTurn (Step 1 ∷ Take 0 1 ∷ []) (Step 0) → ⊥ }
 {}
 
-/// Two lists differ in the first place where one has something else than the other, or ends.
-pub fn lists_differ_at_a_first_place()
-    ensures unlike { DifferAt (written 5 ∷ written 6 ∷ []) (written 5 ∷ written 7 ∷ []) 1 }
-    ensures ended { DifferAt (written 5 ∷ replied 5 ∷ []) (written 5 ∷ []) 1 }
-    ensures early { DifferAt (written 5 ∷ written 6 ∷ []) (written 5 ∷ written 7 ∷ []) 0 → ⊥ }
-    ensures late { DifferAt (written 5 ∷ written 6 ∷ []) (written 5 ∷ written 7 ∷ []) 2 → ⊥ }
-    ensures same { (shown : List Shown) (before : ℕ) → DifferAt shown shown before → ⊥ }
-    ensures nowhere { IsApartIf (written 5 ∷ []) [] None → ⊥ }
+/// An act can go that is possible, and shows nothing or what is to be shown next.
+pub fn an_act_goes_if_it_can()
+    ensures enters { CanGo asking (plain_start asking) [] (Enter 0) }
+    ensures impossible { CanGo asking (plain_start asking) [] (Take 0 0) → ⊥ }
+    ensures prints { CanGo asking answered (replied 5 ∷ written 6 ∷ []) (Print 0) }
+    ensures other { CanGo asking answered (replied 6 ∷ replied 5 ∷ []) (Print 0) → ⊥ }
+    ensures nothing { CanGo asking answered [] (Print 0) → ⊥ }
+{}
+
+/// Of the acts that are left the first goes that can, and one that has to wait stays.
+pub fn the_first_goes_that_can()
+    ensures goes { GoesOn asking (Enter 0) (way_of asking (Take 0 0 ∷ Enter 0 ∷ []) (replied 5 ∷ []))
+        (record { plain = entered; left = Take 0 0 ∷ []; due = replied 5 ∷ [] }) }
+    ensures waits { (new : Way) → GoesOn asking (Take 0 0) (way_of asking (Take 0 0 ∷ Enter 0 ∷ []) []) new → ⊥ }
+    ensures own { (new : Way) → GoesOn asking (Enter 0) (way_of asking (Print 0 ∷ Enter 0 ∷ []) []) new → ⊥ }
+    ensures later { (new : Way) → GoesOn asking (Enter 0) (record {
+      plain = plain_start asking;
+      left = Step 0 ∷ [];
+      due = [];
+    }) new → ⊥ }
+{}
+
+/// What the run showed next stands beside what would be shown there.
+pub fn what_is_to_be_shown_stands_apart()
+    ensures next { IsApart (written 5 ∷ written 6 ∷ []) (written 6 ∷ []) (Some (written 7)) (record {
+      before = 1;
+      shown = Some (written 6);
+      due = Some (written 7);
+    }) }
+    ensures nothing { IsApart (written 5 ∷ []) [] (Some (written 7)) (record {
+      before = 1;
+      shown = None;
+      due = Some (written 7);
+    }) }
+    ensures early { IsApart (written 5 ∷ written 6 ∷ []) (written 6 ∷ []) None (record {
+      before = 0;
+      shown = Some (written 6);
+      due = None;
+    }) → ⊥ }
+    ensures all_shown { IsLacking (written 5 ∷ []) [] None }
+    ensures lacks { IsLacking (written 5 ∷ []) (written 5 ∷ []) None → ⊥ }
+    ensures lacks_nothing { (apart : Apart) → IsLacking (written 5 ∷ []) [] (Some apart) → ⊥ }
 {}
 
 /// Each processor is stopped before each event, at most before the first 1,000; and a run ends idle or not.
