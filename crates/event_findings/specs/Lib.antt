@@ -1,8 +1,13 @@
+pub mod Acts
 pub mod Changes
 pub mod Drives
+pub mod HandedOver
+pub mod Messages
 pub mod Packets
+pub mod Sends
 pub mod Sets
 pub mod Steps
 pub mod Told
+pub mod Watches
 pub use Rattle.site_machine
 pub use Rattle.trace_lines

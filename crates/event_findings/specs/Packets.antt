@@ -1,21 +1,25 @@
 -- The packet that an event names, and what became of it.
-use Rattle.std.specs.Prelude.{ℕ, Bool, true, false, if◌then◌else◌, Option, Some, None}
-use Rattle.std.specs.Option.{option_map}
+use Rattle.std.specs.Prelude.{ℕ, ◌==◌, nat_le, ℤ, Bool, true, false, if◌then◌else◌, List, slice_get, Option, Some, None}
+use Rattle.std.specs.Option.{option_and_then, option_map}
+use Rattle.link_control.specs.Ends.{End}
 use Rattle.packet_words.specs.declared.packet.Packet.{Packet}
 use Rattle.packet_words.specs.declared.packet.PacketKind.{PacketKind}
 use Rattle.packet_words.specs.declared.packet.PacketKind.TheVariants as kind
 use Rattle.schedule.specs.declared.event.Event.{Event}
 use Rattle.schedule.specs.declared.event.Event.TheVariants.{Run, Enter, Deliver, Lose, Repeat, Tick, Fail, Drive}
+use Rattle.site_machine.specs.packet_wires.specs.Nodes.{end_at}
 use Rattle.site_machine.specs.packet_wires.specs.Play.{Packeted, packet_at}
 use Rattle.site_machine.specs.packet_wires.specs.Wires.{bus_named}
 use Rattle.trace_lines.specs.declared.finding.Fate.{Fate}
 use Rattle.trace_lines.specs.declared.finding.Fate.TheVariants as fate
 use Rattle.trace_lines.specs.declared.finding.Finding.{Finding}
 use Rattle.trace_lines.specs.declared.finding.Finding.TheVariants as finding
+use Rattle.trace_lines.specs.declared.finding.MessageName.{MessageName}
 use Rattle.trace_lines.specs.declared.finding.PacketSight.{PacketSight}
 use Rattle.trace_lines.specs.declared.finding.PacketSort.{PacketSort}
 use Rattle.trace_lines.specs.declared.finding.PacketSort.TheVariants as sort
-use Rattle.world_semantics.specs.World.{World, has_noted, is_running}
+use Rattle.world_semantics.specs.World.{has_noted, is_running}
+use Rattle.event_findings.specs.Messages.{message_named}
 
 abbrev pub sort_of : PacketKind → PacketSort
 sort_of kind.Alive = sort.Alive
@@ -36,28 +40,61 @@ named_packet s (Tick node) = None
 named_packet s (Fail processor) = None
 named_packet s (Drive one) = None
 
+-- whether a piece of this number came to an end before: its pieces come in the order of their numbers
+abbrev pub has_piece : ℕ → Option End → Bool
+has_piece number None = false
+has_piece number (Some e) = nat_le number e.receiving.kept
+
+abbrev pub had_come : PacketSort → Option End → Bool
+had_come sort.Alive e = false
+had_come (sort.Piece number) e = has_piece number e
+had_come (sort.LastPiece number) e = has_piece number e
+had_come (sort.Acknowledgement number) e = false
+
+-- what becomes of a packet that a node takes in
+abbrev pub taken_in : Bool → Fate
+taken_in before = if before then fate.CameAgain else fate.Came
+
 -- a processor that has stopped drops what is delivered to it, and a node what comes of a processor that it has marked
-abbrev pub delivered_fate : World → PacketSight → Fate
-delivered_fate w packet =
-    if is_running w.stopped packet.receiver
-    then (if has_noted w.marks packet.receiver packet.sender then fate.Refused else fate.Came) else fate.Dropped
+abbrev pub delivered_fate : Packeted → PacketSight → Fate
+delivered_fate s packet =
+    if is_running s.world.stopped packet.receiver
+    then (if has_noted s.world.marks packet.receiver packet.sender then fate.Refused
+    else taken_in (had_come packet.sort (end_at s.wires.nodes packet.receiver packet.sender))) else fate.Dropped
 
-abbrev pub fate_of : World → Event → PacketSight → Fate
-fate_of w (Lose y k) packet = fate.Lost
-fate_of w (Repeat y k) packet = fate.Repeated
-fate_of w (Deliver y k) packet = delivered_fate w packet
-fate_of w (Run process) packet = fate.Came
-fate_of w (Enter terminal) packet = fate.Came
-fate_of w (Tick node) packet = fate.Came
-fate_of w (Fail processor) packet = fate.Came
-fate_of w (Drive one) packet = fate.Came
+abbrev pub fate_of : Packeted → Event → PacketSight → Fate
+fate_of s (Lose y k) packet = fate.Lost
+fate_of s (Repeat y k) packet = fate.Repeated
+fate_of s (Deliver y k) packet = delivered_fate s packet
+fate_of s (Run process) packet = fate.Came
+fate_of s (Enter terminal) packet = fate.Came
+fate_of s (Tick node) packet = fate.Came
+fate_of s (Fail processor) packet = fate.Came
+fate_of s (Drive one) packet = fate.Came
 
-abbrev pub packet_found : World → Event → Packet → Finding
-packet_found w event packet = finding.Packet (sight_of packet) (fate_of w event (sight_of packet))
+-- the words of the message of which its sender has the piece of this number outstanding
+abbrev pub outstanding_at : ℕ → Option End → Option (List ℤ)
+outstanding_at number None = None
+outstanding_at number (Some e) = if number == e.sending.numbered then slice_get e.sending.queue 0 else None
+
+abbrev pub words_for : PacketKind → Option End → Option (List ℤ)
+words_for kind.Alive e = None
+words_for (kind.Piece number piece) e = outstanding_at number e
+words_for (kind.Acknowledgement number) e = None
+
+-- the message of which a packet is a piece, if its sender has that outstanding
+abbrev pub message_of : Packeted → Packet → Option MessageName
+message_of s packet =
+    option_and_then (message_named s.site)
+    (words_for packet.kind (end_at s.wires.nodes packet.sender packet.receiver))
+
+abbrev pub packet_found : Packeted → Event → Packet → Finding
+packet_found s event packet =
+    finding.Packet (sight_of packet) (fate_of s event (sight_of packet)) (message_of s packet)
 
 -- what became of the packet that an event names, if there is one
 abbrev pub named_found : Packeted → Event → Option Finding
-named_found s event = option_map (packet_found s.world event) (named_packet s event)
+named_found s event = option_map (packet_found s event) (named_packet s event)
 
 abbrev pub is_last_sort : PacketSort → Bool
 is_last_sort (sort.LastPiece number) = true

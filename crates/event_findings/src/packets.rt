@@ -2,13 +2,18 @@ ghost use Rattle.std.specs.Prelude.{◌≡◌};
 ghost use Rattle.std.specs.Option.{option_copied};
 ghost use Rattle.world_semantics.specs.World.{is_running};
 ghost use Rattle.event_findings.specs.Packets as spec;
-ghost use Rattle.event_findings.specs.Packets.{delivered_fate, fate_of, is_last, is_last_sort, named_packet, packet_found};
-ghost use Rattle.event_findings.specs.Packets.{sight_of, sort_of};
+ghost use Rattle.event_findings.specs.Packets.{delivered_fate, fate_of, had_come, has_piece, is_last, is_last_sort};
+ghost use Rattle.event_findings.specs.Packets.{message_of, named_packet, outstanding_at, packet_found, sight_of};
+ghost use Rattle.event_findings.specs.Packets.{sort_of};
+ghost use Rattle.event_findings.specs.Packets.{taken_in, words_for};
 
+use crate::messages::message_named;
+use gd_words::List;
+use link_control::Channel;
 use packet_words::{Packet, PacketKind};
 use schedule::Event;
 use site_machine::Machine;
-use trace_lines::{Fate, Finding, PacketSight, PacketSort};
+use trace_lines::{Fate, Finding, MessageName, PacketSight, PacketSort};
 
 /// The node of the terminals, which doesn't stop.
 const TERMINALS: u8 = 16;
@@ -40,16 +45,51 @@ fn named_packet(machine: &Machine, event: Event) -> Option<&Packet>
 }
 
 fn packet_found(machine: &Machine, event: Event, packet: &Packet) -> Finding
-    ensures { result ≡ packet_found machine.now.state.world event packet.now }
+    ensures { result ≡ packet_found machine.now.state event packet.now }
 {
-    let packet = sight_of(packet);
+    let sight = sight_of(packet);
     Finding::Packet {
-        packet,
-        fate: fate_of(machine, event, packet),
+        packet: sight,
+        fate: fate_of(machine, event, sight),
+        message: message_of(machine, packet),
     }
 }
 
-fn sight_of(packet: &Packet) -> PacketSight
+/// The message of which a packet is a piece, if its sender has that outstanding.
+pub(crate) fn message_of(machine: &Machine, packet: &Packet) -> Option<MessageName>
+    ensures { result ≡ message_of machine.now.state packet.now }
+{
+    let words = words_for(&packet.kind, machine.end_at(packet.sender, packet.receiver))?;
+    message_named(machine, words.as_slice())
+}
+
+fn words_for<'a>(kind: &PacketKind, end: Option<&'a Channel>) -> Option<&'a List<i16>>
+    ensures { option_copied result ≡ words_for kind.now (option_copied end.entry) }
+{
+    match kind {
+        PacketKind::Alive => None,
+        PacketKind::Piece { number, piece: _ } => outstanding_at(*number, end),
+        PacketKind::Acknowledgement { number: _ } => None,
+    }
+}
+
+/// The words of the message of which its sender has the piece of this number outstanding.
+fn outstanding_at(number: u32, end: Option<&Channel>) -> Option<&List<i16>>
+    ensures { option_copied result ≡ outstanding_at number (option_copied end.entry) }
+{
+    match end {
+        None => None,
+        Some(end) => {
+            if number == end.sender().numbered() {
+                end.sender().message(0)
+            } else {
+                None
+            }
+        }
+    }
+}
+
+pub(crate) fn sight_of(packet: &Packet) -> PacketSight
     ensures { result ≡ sight_of packet.now }
 {
     PacketSight {
@@ -59,7 +99,7 @@ fn sight_of(packet: &Packet) -> PacketSight
     }
 }
 
-fn sort_of(kind: &PacketKind) -> PacketSort
+pub(crate) fn sort_of(kind: &PacketKind) -> PacketSort
     ensures { result ≡ sort_of kind.now }
 {
     match kind {
@@ -75,8 +115,8 @@ fn sort_of(kind: &PacketKind) -> PacketSort
     }
 }
 
-fn fate_of(machine: &Machine, event: Event, packet: PacketSight) -> Fate
-    ensures { result ≡ fate_of machine.now.state.world event packet }
+pub(crate) fn fate_of(machine: &Machine, event: Event, packet: PacketSight) -> Fate
+    ensures { result ≡ fate_of machine.now.state event packet }
 {
     match event {
         Event::Lose { y: _, k: _ } => Fate::Lost,
@@ -92,14 +132,42 @@ fn fate_of(machine: &Machine, event: Event, packet: PacketSight) -> Fate
 
 /// What becomes of a packet that is delivered.
 fn delivered_fate(machine: &Machine, packet: PacketSight) -> Fate
-    ensures { result ≡ delivered_fate machine.now.state.world packet }
+    ensures { result ≡ delivered_fate machine.now.state packet }
 {
     if !is_running(machine.stopped(), packet.receiver) {
         Fate::Dropped
     } else if machine.marks().has(packet.receiver, packet.sender) {
         Fate::Refused
     } else {
-        Fate::Came
+        taken_in(had_come(packet.sort, machine.end_at(packet.receiver, packet.sender)))
+    }
+}
+
+/// What becomes of a packet that a node takes in.
+fn taken_in(before: bool) -> Fate
+    ensures { result ≡ taken_in before }
+{
+    if before { Fate::CameAgain } else { Fate::Came }
+}
+
+fn had_come(sort: PacketSort, end: Option<&Channel>) -> bool
+    ensures { result ≡ had_come sort (option_copied end.entry) }
+{
+    match sort {
+        PacketSort::Alive => false,
+        PacketSort::Piece(number) => has_piece(number, end),
+        PacketSort::LastPiece(number) => has_piece(number, end),
+        PacketSort::Acknowledgement(_) => false,
+    }
+}
+
+/// Whether a piece of this number came to an end before.
+fn has_piece(number: u32, end: Option<&Channel>) -> bool
+    ensures { result ≡ has_piece number (option_copied end.entry) }
+{
+    match end {
+        None => false,
+        Some(end) => number <= end.kept(),
     }
 }
 

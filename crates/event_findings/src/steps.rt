@@ -61,7 +61,8 @@ fn acts_for(process: u8, copy: &CopyView) -> bool
     }
 }
 
-fn is_acting(role: Role) -> bool
+/// Whether a copy acts.
+pub(crate) fn is_acting(role: Role) -> bool
     ensures { result ≡ is_acting role }
 {
     match role {

@@ -1,11 +1,14 @@
-ghost use Rattle.std.specs.Prelude.{◌≡◌, ◌++◌, option_to_list, IfOk, OnOk};
-ghost use Rattle.event_findings.specs.Drives as drives;
+ghost use Rattle.std.specs.Prelude.{◌≡◌, ◌++◌, IfOk, OnOk};
 ghost use Rattle.machine_views.specs.Views.{view_of};
-ghost use Rattle.event_findings.specs.Told.{changes_since, found, shown_after, still_noted};
+ghost use Rattle.event_findings.specs.Told.{changed_of, changes_since, found, seen_of, shown_after, still_noted};
 
+use crate::acts::{put_held, put_kept};
 use crate::changes::{put_any, put_changes, still_found};
 use crate::drives::drive_found;
+use crate::handed_over::handed_since;
 use crate::noting::Noted;
+use crate::sends::put_sends;
+use crate::watches::put_ticks;
 use gd_words::{List, NoMemory};
 use machine_states::Effect;
 use machine_views::{View, view};
@@ -49,7 +52,7 @@ fn still_noted(event: Event, view: &Option<View>) -> Option<Finding>
     }
 }
 
-/// Puts behind the findings what became of the packet that an event named, how its drive stands, and what changed.
+/// Puts behind the findings what an event shows of itself, and what has changed with it.
 fn put_done(
     alloc: Global,
     findings: &mut List<Finding>,
@@ -58,13 +61,44 @@ fn put_done(
     event: Event,
     machine: &Machine,
 ) -> Result<(), NoMemory>
-    ensures { OnOk result (findings.new ≡ findings.old ++ (option_to_list noted.now.packet
-        ++ option_to_list (drives.drive_found event machine.now.state)
-        ++ changes_since site.now event noted.now.view (view_of machine.now.state.world))) }
+    ensures { OnOk result (findings.new ≡ findings.old ++ (seen_of noted.now event machine.now.state
+        ++ changed_of site.now noted.now event machine.now.state)) }
+{
+    put_seen(findings, noted, event, machine)?;
+    put_changed(alloc, findings, site, noted, event, machine)
+}
+
+/// Puts what became of the packet that an event named, how its drive stands, what its tick found out, and what is told
+/// of the message that it handed over.
+fn put_seen(
+    findings: &mut List<Finding>,
+    noted: &Noted,
+    event: Event,
+    machine: &Machine,
+) -> Result<(), NoMemory>
+    ensures { OnOk result (findings.new ≡ findings.old ++ seen_of noted.now event machine.now.state) }
 {
     put_any(findings, noted.packet)?;
     put_any(findings, drive_found(event, machine))?;
-    put_changes_since(alloc, findings, site, event, &noted.view, machine)
+    put_ticks(findings, noted.ticking)?;
+    put_any(findings, handed_since(noted.handed, &noted.view))
+}
+
+/// Puts what the views show to have changed, what was sent, and which acts are kept and held back.
+fn put_changed(
+    alloc: Global,
+    findings: &mut List<Finding>,
+    site: &Site,
+    noted: &Noted,
+    event: Event,
+    machine: &Machine,
+) -> Result<(), NoMemory>
+    ensures { OnOk result (findings.new ≡ findings.old ++ changed_of site.now noted.now event machine.now.state) }
+{
+    put_changes_since(alloc, findings, site, event, &noted.view, machine)?;
+    put_sends(findings, machine, noted.queued.as_slice())?;
+    put_kept(findings, machine, noted.acts)?;
+    put_held(findings, machine, noted.holding)
 }
 
 fn put_changes_since(

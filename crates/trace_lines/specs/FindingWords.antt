@@ -5,8 +5,10 @@ use Rattle.mirror.specs.declared.state.DriveState.TheVariants.{Working, Failed, 
 use Rattle.process_semantics.specs.declared.point.Point.{Point}
 use Rattle.process_semantics.specs.declared.point.Point.TheVariants as point
 use Rattle.tal_tree.specs.declared.site.Site.{Site}
-use Rattle.trace_lines.specs.Names.{numbered_text, process_name}
-use Rattle.trace_lines.specs.PacketFates.{packet_text}
+use Rattle.trace_lines.specs.ActWords.{act_text}
+use Rattle.trace_lines.specs.CheckpointWords.{hears_taken_text, ignores_text}
+use Rattle.trace_lines.specs.MessageNames.{packet_of_text, reports_text, sends_text}
+use Rattle.trace_lines.specs.Names.{numbered_text, pair_text, process_name}
 use Rattle.trace_lines.specs.SetWords.{set_text}
 use Rattle.trace_lines.specs.Statements.{statement_text}
 use Rattle.trace_lines.specs.declared.finding.Finding.{Finding}
@@ -71,20 +73,35 @@ found_text site places (finding.StandsStill point) = still_text point
 found_text site places (finding.WouldStopSecond processor) =
     numbered_text (codes "processor ") processor (codes " would be the second to stop: the run ends here")
 found_text site places (finding.WouldLoseDisc process) = loses_text (process_name site process)
-found_text site places (finding.Packet packet fate) = packet_text packet fate
+found_text site places (finding.Packet packet fate message) = packet_of_text site packet fate message
+found_text site places (finding.Sends sender receiver last message again) =
+    sends_text site sender receiver last message again
 found_text site places (finding.Makes process statement) = statement_text places process statement
 found_text site places (finding.Sets process item place value) = set_text site process item place value
 found_text site places (finding.DiscGoesOn point) = disc_text point
-found_text site places (finding.SendsCheckpoint number) = numbered_text (codes "sends checkpoint ") number []
+found_text site places (finding.SendsCheckpoint number) = codes "comes to its CHECKPOINT"
 found_text site places finding.PassesCheckpoint = codes "goes on behind its CHECKPOINT"
 found_text site places (finding.AppliesCheckpoint process processor number) =
     applies_text (process_name site process) processor number
+found_text site places (finding.IgnoresCheckpoint process processor number why) =
+    ignores_text (process_name site process) processor number why
+found_text site places (finding.HearsTaken process processor number) =
+    hears_taken_text (process_name site process) processor number
 found_text site places (finding.Waits process processor number) =
     waits_text (process_name site process) processor number
 found_text site places (finding.TakesOver process processor era statement) =
     takes_over_text (process_name site process) processor era ++ from_text places process statement
+found_text site places (finding.Keeps act) = act_text site (codes "keeps ") act
+found_text site places (finding.HoldsBack act) = act_text site (codes "holds back ") act
 found_text site places (finding.Stops processor) = numbered_text (codes "processor ") processor (codes " stops")
 found_text site places (finding.Marks node processor) = marks_text node processor
+found_text site places (finding.Misses node processor) =
+    pair_text (codes "node ") node (codes " misses processor ") processor
+found_text site places (finding.FindsSilent node processor) =
+    pair_text (codes "processor ") processor (codes " is silent to node ") node
+found_text site places (finding.Reports node silent) = reports_text node silent
+found_text site places (finding.PullsLine node processor) =
+    pair_text (codes "node ") node (codes " pulls the hold line of processor ") processor
 found_text site places (finding.Enters number) = numbered_text (codes "enters request ") number []
 found_text site places (finding.Drive state) = drive_text state
 

@@ -1,5 +1,8 @@
+pub mod ActWords
+pub mod CheckpointWords
 pub mod EventLine
 pub mod FindingWords
+pub mod MessageNames
 pub mod Names
 pub mod PacketFates
 pub mod SetWords

@@ -22,3 +22,7 @@ terminal_name site terminal = named_terminal (slice_get site.terminals terminal)
 -- a number with what stands around it
 abbrev pub numbered_text : List ℕ → ℕ → List ℕ → List ℕ
 numbered_text lead number tail = lead ++ decimal number ++ tail
+
+-- two numbers, each with what stands before it
+abbrev pub pair_text : List ℕ → ℕ → List ℕ → ℕ → List ℕ
+pair_text lead first middle second = numbered_text lead first [] ++ numbered_text middle second []

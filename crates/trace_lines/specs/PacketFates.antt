@@ -18,6 +18,7 @@ nodes_text sender receiver = numbered_text (codes " from ") sender [] ++ numbere
 
 abbrev pub fate_text : Fate → List ℕ
 fate_text fate.Came = codes " comes"
+fate_text fate.CameAgain = codes " comes again"
 fate_text fate.Dropped = codes " is dropped, since its receiver has stopped"
 fate_text fate.Refused = codes " is dropped, since its receiver has marked its sender"
 fate_text fate.Lost = codes " is lost"

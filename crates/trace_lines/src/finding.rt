@@ -1,5 +1,7 @@
+use alive_regroup::ProcessorSet;
 use mirror::DriveState;
 use process_semantics::Point;
+use tal_tree::Who;
 
 /// One thing that an event of a run did. Processes and terminals are named by their places in the deck, and what a
 /// program makes by its number in the program.
@@ -13,10 +15,19 @@ pub enum Finding {
     WouldStopSecond(u8),
     /// It would have lost the disc that is this process, and the run ended before it.
     WouldLoseDisc(u8),
-    /// A packet met its fate.
+    /// A packet met its fate. If it is a piece that its sender has outstanding, it is of this message.
     Packet {
         packet: PacketSight,
         fate: Fate,
+        message: Option<MessageName>,
+    },
+    /// A node sent a message to a node, and perhaps once more; its last piece has this number between the two.
+    Sends {
+        sender: u8,
+        receiver: u8,
+        last: u32,
+        message: Option<MessageName>,
+        again: bool,
     },
     /// A process made a statement, or came to the end of a procedure where the number is 0.
     Makes {
@@ -42,6 +53,19 @@ pub enum Finding {
         processor: u8,
         number: u32,
     },
+    /// The copy of a process in a processor ignored the checkpoint of this number that came.
+    IgnoresCheckpoint {
+        process: u8,
+        processor: u8,
+        number: u32,
+        why: WhyIgnored,
+    },
+    /// The copy of a process in a processor heard that its checkpoint of this number was taken.
+    HearsTaken {
+        process: u8,
+        processor: u8,
+        number: u32,
+    },
     /// The request of this number waits at the copy of a process in a processor.
     Waits {
         process: u8,
@@ -55,6 +79,10 @@ pub enum Finding {
         era: u32,
         statement: Option<u16>,
     },
+    /// This act is kept now.
+    Keeps(ActName),
+    /// The copy that acts for the process that ran holds this act back now.
+    HoldsBack(ActName),
     /// A processor stopped.
     Stops(u8),
     /// A node marked a processor as down.
@@ -62,10 +90,84 @@ pub enum Finding {
         node: u8,
         processor: u8,
     },
+    /// A check of a node missed a processor that the check before it hadn't missed.
+    Misses {
+        node: u8,
+        processor: u8,
+    },
+    /// Two checks of a node in a row have missed a processor now.
+    FindsSilent {
+        node: u8,
+        processor: u8,
+    },
+    /// A node reports which processors are silent to it.
+    Reports {
+        node: u8,
+        silent: ProcessorSet,
+    },
+    /// A node pulls the hold line of a processor.
+    PullsLine {
+        node: u8,
+        processor: u8,
+    },
     /// A terminal entered its request of this number.
     Enters(u32),
     /// The drive that the event names stands so now.
     Drive(DriveState),
+}
+
+/// Why a checkpoint is ignored that comes to a copy: that one acts itself, or the checkpoint is of another era, or it
+/// isn't the next one.
+#[derive(Clone, Copy, PartialEq, Eq, Drop)]
+pub enum WhyIgnored {
+    Acts,
+    OtherEra,
+    NotNext,
+}
+
+/// An act of the machine of single unfailing processes, with who asks for what is taken.
+#[derive(Clone, Copy, PartialEq, Eq, Drop)]
+pub enum ActName {
+    Step(u8),
+    Take { process: u8, asker: Option<Who> },
+    Enter(u8),
+    Print(u8),
+}
+
+/// Which message it is.
+#[derive(Clone, Copy, PartialEq, Eq, Drop)]
+pub enum MessageName {
+    /// The request of this number to a process, and who asks if it has such an opener.
+    Request {
+        asker: Option<Who>,
+        process: u8,
+        number: u32,
+    },
+    /// The reply of a process to that request.
+    Reply {
+        asker: Option<Who>,
+        process: u8,
+        number: u32,
+    },
+    /// The checkpoint of this number in an era of a process.
+    Checkpoint {
+        process: u8,
+        era: u32,
+        number: u32,
+    },
+    /// That this checkpoint was taken.
+    Taken {
+        process: u8,
+        era: u32,
+        number: u32,
+    },
+    /// Which processors are silent to a node.
+    Report {
+        node: u8,
+        silent: ProcessorSet,
+    },
+    /// That this processor is down.
+    Down(u8),
 }
 
 /// A packet as it is told: from which node to which, and what it is.
@@ -89,6 +191,8 @@ pub enum PacketSort {
 #[derive(Clone, Copy, PartialEq, Eq, Drop)]
 pub enum Fate {
     Came,
+    /// It is a piece that had come before.
+    CameAgain,
     /// It came to a processor that has stopped.
     Dropped,
     /// It came to a node that has marked its sender as down.

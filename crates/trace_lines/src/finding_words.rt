@@ -3,9 +3,11 @@ ghost use Rattle.trace_lines.specs.FindingWords.{applies_text, disc_text, drive_
 ghost use Rattle.trace_lines.specs.FindingWords.{from_text, loses_text, marks_text, still_text, takes_over_text};
 ghost use Rattle.trace_lines.specs.FindingWords.{waits_text};
 
+use crate::act_words::put_act;
+use crate::checkpoint_words::{put_hears_taken, put_ignores};
 use crate::finding::Finding;
-use crate::names::{process_name, put_numbered};
-use crate::packet_fates::put_packet;
+use crate::message_names::{put_packet_of, put_reports, put_sends};
+use crate::names::{process_name, put_numbered, put_pair};
 use crate::places::Places;
 use crate::set_words::put_set;
 use crate::statements::put_statement;
@@ -61,7 +63,18 @@ pub fn put_found(
             b" would be the second to stop: the run ends here",
         ),
         Finding::WouldLoseDisc(process) => put_loses(text, process_name(site, process)),
-        Finding::Packet { packet, fate } => put_packet(text, packet, fate),
+        Finding::Packet {
+            packet,
+            fate,
+            message,
+        } => put_packet_of(text, site, packet, fate, message),
+        Finding::Sends {
+            sender,
+            receiver,
+            last,
+            message,
+            again,
+        } => put_sends(text, site, sender, receiver, last, message, again),
         Finding::Makes { process, statement } => put_statement(text, places, process, statement),
         Finding::Sets {
             process,
@@ -70,15 +83,24 @@ pub fn put_found(
             value,
         } => put_set(text, site, process, item, place, value),
         Finding::DiscGoesOn(point) => put(text, disc_text(point)),
-        Finding::SendsCheckpoint(number) => {
-            put_numbered(text, b"sends checkpoint ", u64::from(number), b"")
-        }
+        Finding::SendsCheckpoint(_) => put(text, b"comes to its CHECKPOINT"),
         Finding::PassesCheckpoint => put(text, b"goes on behind its CHECKPOINT"),
         Finding::AppliesCheckpoint {
             process,
             processor,
             number,
         } => put_applies(text, process_name(site, process), processor, number),
+        Finding::IgnoresCheckpoint {
+            process,
+            processor,
+            number,
+            why,
+        } => put_ignores(text, process_name(site, process), processor, number, why),
+        Finding::HearsTaken {
+            process,
+            processor,
+            number,
+        } => put_hears_taken(text, process_name(site, process), processor, number),
         Finding::Waits {
             process,
             processor,
@@ -93,10 +115,30 @@ pub fn put_found(
             put_takes_over(text, process_name(site, process), processor, era)?;
             put_from(text, places, process, statement)
         }
+        Finding::Keeps(act) => put_act(text, site, b"keeps ", act),
+        Finding::HoldsBack(act) => put_act(text, site, b"holds back ", act),
         Finding::Stops(processor) => {
             put_numbered(text, b"processor ", u64::from(processor), b" stops")
         }
         Finding::Marks { node, processor } => put_marks(text, node, processor),
+        Finding::Misses { node, processor } => {
+            put_pair(text, b"node ", node, b" misses processor ", processor)
+        }
+        Finding::FindsSilent { node, processor } => put_pair(
+            text,
+            b"processor ",
+            processor,
+            b" is silent to node ",
+            node,
+        ),
+        Finding::Reports { node, silent } => put_reports(text, node, silent),
+        Finding::PullsLine { node, processor } => put_pair(
+            text,
+            b"node ",
+            node,
+            b" pulls the hold line of processor ",
+            processor,
+        ),
         Finding::Enters(number) => put_numbered(text, b"enters request ", u64::from(number), b""),
         Finding::Drive(state) => put_drive(text, state),
     }

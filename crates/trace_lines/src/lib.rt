@@ -5,9 +5,12 @@
 //! `put_event`, whose text is `event_line` of `specs/EventLine.antt`.
 #![tactic(auto)]
 
+mod act_words;
+mod checkpoint_words;
 pub mod event_line;
 pub mod finding;
 pub mod finding_words;
+mod message_names;
 mod names;
 mod packet_fates;
 pub mod places;
@@ -15,8 +18,9 @@ mod set_words;
 pub mod shown_words;
 mod statements;
 
+pub use alive_regroup;
 pub use event_line::{EventTold, put_event, put_event_name};
-pub use finding::{Fate, Finding, PacketSight, PacketSort};
+pub use finding::{ActName, Fate, Finding, MessageName, PacketSight, PacketSort, WhyIgnored};
 pub use finding_words::put_found;
 pub use places::Places;
 pub use process_semantics;

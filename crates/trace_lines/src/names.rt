@@ -1,6 +1,6 @@
 ghost use Rattle.std.specs.Prelude.{◌≡◌, ◌++◌, OnOk};
 ghost use Rattle.std.specs.Fmt.{decimal};
-ghost use Rattle.trace_lines.specs.Names.{numbered_text, process_name, terminal_name};
+ghost use Rattle.trace_lines.specs.Names.{numbered_text, pair_text, process_name, terminal_name};
 
 use gd_words::{List, NoMemory};
 use tal_tree::Site;
@@ -38,4 +38,18 @@ pub(crate) fn put_numbered(
     put(text, lead)?;
     put_number(text, number)?;
     put(text, tail)
+}
+
+/// Puts two numbers behind the text, each with what stands before it.
+pub(crate) fn put_pair(
+    text: &mut List<u8>,
+    lead: &[u8],
+    first: u8,
+    middle: &[u8],
+    second: u8,
+) -> Result<(), NoMemory>
+    ensures { OnOk result (text.new ≡ text.old ++ pair_text lead.now first middle.now second) }
+{
+    put_numbered(text, lead, u64::from(first), b"")?;
+    put_numbered(text, middle, u64::from(second), b"")
 }

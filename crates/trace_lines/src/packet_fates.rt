@@ -34,7 +34,8 @@ fn put_sort(text: &mut List<u8>, sort: PacketSort) -> Result<(), NoMemory>
     }
 }
 
-fn put_nodes(text: &mut List<u8>, sender: u8, receiver: u8) -> Result<(), NoMemory>
+/// Puts from which node a packet goes to which behind the text.
+pub(crate) fn put_nodes(text: &mut List<u8>, sender: u8, receiver: u8) -> Result<(), NoMemory>
     ensures { OnOk result (text.new ≡ text.old ++ nodes_text sender receiver) }
 {
     put_numbered(text, b" from ", u64::from(sender), b"")?;
@@ -46,6 +47,7 @@ fn fate_text(fate: Fate) -> &'static [u8]
 {
     match fate {
         Fate::Came => b" comes",
+        Fate::CameAgain => b" comes again",
         Fate::Dropped => b" is dropped, since its receiver has stopped",
         Fate::Refused => b" is dropped, since its receiver has marked its sender",
         Fate::Lost => b" is lost",

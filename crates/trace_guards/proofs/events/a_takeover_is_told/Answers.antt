@@ -20,3 +20,11 @@ returns-clause-second c = refl
 pub returns-clause-quiet : goal.returns-clause-quiet
 unfolding out-What shown-the_row-Statement-0 shown out int_wrap
 returns-clause-quiet c = refl
+
+pub returns-clause-misses : goal.returns-clause-misses
+unfolding out-What shown-the_row-Statement-0 shown out int_wrap
+returns-clause-misses c = refl
+
+pub returns-clause-asks_again : goal.returns-clause-asks_again
+unfolding out-What shown-the_row-Statement-0 shown out int_wrap
+returns-clause-asks_again c = refl

@@ -16,3 +16,19 @@ returns-clause-refused c = refl
 pub returns-clause-dropped : goal.returns-clause-dropped
 unfolding out-What shown-the_row-Statement-0 shown out int_wrap
 returns-clause-dropped c = refl
+
+pub returns-clause-comes : goal.returns-clause-comes
+unfolding out-What shown-the_row-Statement-0 shown out int_wrap
+returns-clause-comes c = refl
+
+pub returns-clause-again : goal.returns-clause-again
+unfolding out-What shown-the_row-Statement-0 shown out int_wrap
+returns-clause-again c = refl
+
+pub returns-clause-lost : goal.returns-clause-lost
+unfolding out-What shown-the_row-Statement-0 shown out int_wrap
+returns-clause-lost c = refl
+
+pub returns-clause-repeated : goal.returns-clause-repeated
+unfolding out-What shown-the_row-Statement-0 shown out int_wrap
+returns-clause-repeated c = refl

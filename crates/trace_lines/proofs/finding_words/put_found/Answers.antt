@@ -7,10 +7,10 @@ use Rattle.trace_lines.proofs.finding_words.put_found.Goals as goal
 
 pub returns-in-SendsCheckpoint : goal.returns-in-SendsCheckpoint
 returns-in-SendsCheckpoint c =
-    subst (λ (finding : Finding). OnOk c.put_numbered-in-SendsCheckpoint.result
-    (c.put_numbered-in-SendsCheckpoint.new.text
+    subst (λ (finding : Finding). OnOk c.put-in-SendsCheckpoint.result
+    (c.put-in-SendsCheckpoint.new.text
     ≡ c.args.text.now ++ found_text c.args.site.now c.args.places.now finding)) (sym c.in-SendsCheckpoint.is)
-    (rw c.from-in-SendsCheckpoint.ensures at c.put_numbered-in-SendsCheckpoint.ensures)
+    c.put-in-SendsCheckpoint.ensures
 
 pub returns-in-PassesCheckpoint : goal.returns-in-PassesCheckpoint
 returns-in-PassesCheckpoint c =
