@@ -1,4 +1,5 @@
 pub mod Arrivals
+pub mod Calm
 pub mod Ends
 pub mod Lines
 pub mod Loops

@@ -1,9 +1,9 @@
-ghost use Rattle.std.specs.Prelude.{◌≡◌, ◌<◌, ◌==◌, ◌&&◌, not, length, slice_get, IfOk, OnOk};
+ghost use Rattle.std.specs.Prelude.{◌≡◌, ◌≤◌, ◌<◌, ◌==◌, ◌&&◌, ℕ, true, not, length, slice_get, IfSome, IfNone, IfOk, OnOk};
 ghost use Rattle.std.specs.Bool.{OnTrue};
 ghost use Rattle.std.specs.List.{list_all};
 ghost use Rattle.std.specs.Option.{option_copied};
 ghost use Rattle.alive_regroup.specs.Watching as watching;
-ghost use Rattle.alive_regroup.specs.Watching.{changed_at, is_held, told_by_tick};
+ghost use Rattle.alive_regroup.specs.Watching.{changed_at, is_held, misses_none, told_by_tick};
 ghost use Rattle.link_control.specs.Ends.{after_down, after_packet, after_push, after_tick, alive_of, handed_by_packet};
 ghost use Rattle.link_control.specs.Ends.{is_empty, sent_by_packet, sent_by_push, sent_by_tick};
 ghost use Rattle.packet_wires.specs.Idle.{holds_nothing};
@@ -36,19 +36,23 @@ pub struct Node {
     watch: Watch,
     /// Whether an end may hold something. Where none does, a tick looks at none.
     busy: bool,
+    /// Whether the last check may have missed a processor. Where it missed none, a tick pulls no line.
+    misses: bool,
 }
 
 impl Model for Node {
     ghost use Rattle.std.specs.Prelude.{◌≡◌, true, false};
     ghost use Rattle.std.specs.List.{list_all};
     ghost use Rattle.link_control.specs.Ends.{is_empty};
+    ghost use Rattle.alive_regroup.specs.Watching.{misses_none};
     ghost use Rattle.packet_wires.specs.Nodes as nodes;
 
     ghost Value = { nodes.Node };
 
     ghost view = { λ node. record { ends = node.ends.items; watch = node.watch } };
 
-    ghost invariant = { λ node. node.busy ≡ false → list_all is_empty node.ends.items ≡ true };
+    ghost invariant = { λ node. (node.busy ≡ false → list_all is_empty node.ends.items ≡ true)
+        × (node.misses ≡ false → misses_none node.watch ≡ true) };
 }
 
 impl Node {
@@ -64,6 +68,7 @@ impl Node {
             ends,
             watch: Watch::new(me, processors),
             busy: true,
+            misses: true,
         })
     }
 
@@ -163,6 +168,22 @@ impl Node {
         self.watch
     }
 
+    /// The first node from a number on, the end with which has something outstanding or queued.
+    pub fn held_from(&self, first: u8) -> Option<u8>
+        ensures held { IfSome result (λ held. (first ≤ held) × (held < 17)) }
+        ensures skipped { IfSome result (λ held. (other : ℕ) → first ≤ other → other < held
+            → holds_nothing (slice_get self.now.ends other) ≡ true) }
+        ensures none { IfNone result ((other : ℕ) → first ≤ other → other < 17
+            → holds_nothing (slice_get self.now.ends other) ≡ true) }
+    {
+        for other in first..NODES {
+            if !self.holds_nothing(other) {
+                return Some(other);
+            }
+        }
+        None
+    }
+
     /// Whether the node is known to hold nothing at any end: no message to send, and no piece that isn't acknowledged.
     pub fn is_quiet(&self) -> bool
         ensures { OnTrue result (IsQuiet self.now) }
@@ -182,7 +203,38 @@ impl Node {
         ensures told { result ≡ told_by_tick self.old.watch }
         ensures after { self.new ≡ with_watch_changed watching.after_tick self.old }
     {
+        if self.misses {
+            return self.check_now();
+        }
+        if self.watch.does_check() {
+            return self.check_now();
+        }
         self.watch.tick()
+    }
+
+    /// A tick, after which it is found out whether the last check missed a processor.
+    fn check_now(&mut self) -> Option<ProcessorSet>
+        ensures told { result ≡ told_by_tick self.old.watch }
+        ensures after { self.new ≡ with_watch_changed watching.after_tick self.old }
+    {
+        self.misses = true;
+        let told = self.watch.tick();
+        self.look();
+        told
+    }
+
+    /// Finds out whether the last check missed a processor.
+    fn look(&mut self)
+        ensures { self.new ≡ self.old }
+    {
+        self.misses = !self.watch.misses_none();
+    }
+
+    /// Whether the node is known to miss no processor.
+    fn is_calm(&self) -> bool
+        ensures { OnTrue result (misses_none self.now.watch ≡ true) }
+    {
+        !self.misses
     }
 
     /// An alive packet came from a processor.
@@ -196,6 +248,7 @@ impl Node {
     pub fn note(&mut self, from: u8, silent: ProcessorSet)
         ensures { self.new ≡ with_watch_changed (changed_at from (watching.neighbour_after_report silent)) self.old }
     {
+        self.misses = true;
         self.watch.on_report(from, silent);
     }
 
@@ -203,6 +256,7 @@ impl Node {
     pub fn mark(&mut self, processor: u8)
         ensures { self.new ≡ with_watch_changed (changed_at processor watching.neighbour_after_down) self.old }
     {
+        self.misses = true;
         self.watch.on_down(processor);
     }
 
@@ -217,7 +271,7 @@ impl Node {
     pub fn line_after_tick(&self, me: u8) -> Option<u8>
         ensures { result ≡ line_pulled me (with_watch_changed watching.after_tick self.now) }
     {
-        if self.watch.misses_none() {
+        if self.is_calm() {
             return None;
         }
         let mut later = self.watch;

@@ -1,5 +1,5 @@
 ghost use Rattle.std.specs.Prelude.{◌≡◌, ◌<◌, ◌≤◌, ◌==◌, ◌++◌, ◌∷◌, [], ℕ, None, Some, length, slice_get};
-ghost use Rattle.std.specs.Prelude.{if◌then◌else◌, IfOk, OnOk};
+ghost use Rattle.std.specs.Prelude.{true, if◌then◌else◌, IfSome, IfNone, IfOk, OnOk};
 ghost use Rattle.std.specs.Bool.{OnTrue};
 ghost use Rattle.std.specs.Option.{option_and_then, option_copied, option_map};
 ghost use Rattle.packet_words.specs.declared.packet.Packet.{Packet};
@@ -406,8 +406,18 @@ impl PacketWires {
         if self.is_quiet(from) {
             return;
         }
-        self.resend_all(from);
         self.settle(from);
+        self.resend_held(from);
+    }
+
+    /// What is outstanding at a node is sent again, after it was found out whether the node holds something.
+    fn resend_held(&mut self, from: u8)
+        ensures { self.new ≡ carried_out (resends from) self.old }
+    {
+        if self.is_quiet(from) {
+            return;
+        }
+        self.resend_all(from);
     }
 
     /// Whether a node, where there is one, is known to hold nothing.
@@ -432,8 +442,24 @@ impl PacketWires {
     fn resend_all(&mut self, from: u8)
         ensures { self.new ≡ carried_out (resends from) self.old }
     {
-        for to in 0..NODES {
+        let mut next = 0;
+        while let Some(to) = self.held_from(from, next) {
             self.resend_to(from, to);
+            next = to + 1;
+        }
+    }
+
+    /// The first node from a number on, the end of a node with which holds something.
+    fn held_from(&self, node: u8, first: u8) -> Option<u8>
+        ensures held { IfSome result (λ held. (first ≤ held) × (held < 17)) }
+        ensures skipped { IfSome result (λ held. (other : ℕ) → first ≤ other → other < held
+            → holds_nothing (end_at self.now.nodes node other) ≡ true) }
+        ensures none { IfNone result ((other : ℕ) → first ≤ other → other < 17
+            → holds_nothing (end_at self.now.nodes node other) ≡ true) }
+    {
+        match self.nodes.get(usize::from(node)) {
+            None => None,
+            Some(node) => node.held_from(first),
         }
     }
 

@@ -1,6 +1,7 @@
 use Rattle.std.proofs.Common.{◌∙◌, ap}
 use Rattle.alive_regroup.specs.Watching as watching
 use Rattle.alive_regroup.specs.Watching.{Watching}
+use Rattle.alive_regroup.proofs.NoneMissed.{none-held}
 use Rattle.packet_wires.specs.Lines.{first_held, line_pulled}
 use Rattle.packet_wires.specs.Nodes.{Node}
 use Rattle.node.specs.Calls.{with_watch_changed}
@@ -13,7 +14,7 @@ returns c =
     ∙ ap (λ (watch : Watching). first_held c.args.me watch 0 16) c.tick.ensures.after
     ∙ ap (λ (node : Node). line_pulled c.args.me (with_watch_changed watching.after_tick node)) c.self.view_is
 
-pub returns-then-misses_none : goal.returns-then-misses_none
-returns-then-misses_none c =
-    none-first c.args.me (watching.after_tick c.self.inside.watch) 0 16 c.if-misses_none.ensures.held
-    ∙ ap (λ (node : Node). line_pulled c.args.me (with_watch_changed watching.after_tick node)) c.self.view_is
+pub returns-then-is_calm : goal.returns-then-is_calm
+returns-then-is_calm c =
+    none-first c.args.me (watching.after_tick c.args.self.now.watch) 0 16
+    (none-held c.args.self.now.watch c.if-is_calm.ensures)

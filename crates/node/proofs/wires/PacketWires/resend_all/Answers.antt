@@ -1,22 +1,24 @@
-use Rattle.std.proofs.Common.{◌≡◌, ◌-◌, ◌+◌, ℕ, suc, ◌∙◌, ap, sym, arith}
-use Rattle.packet_wires.specs.Nodes.{numbers}
-use Rattle.packet_wires.specs.Wires.{at_end, for_each, tick_at}
-use Rattle.event_parts.specs.Parts.{carried_out}
+use Rattle.std.proofs.Common.{◌≡◌, ◌-◌, ◌+◌, suc, ◌∙◌, sym, arith}
+use Rattle.packet_wires.specs.Wires.{at_end, tick_at}
 use Rattle.event_parts.proofs.Adds.{adds-tick}
 use Rattle.node.proofs.Loops.{each-turn}
+use Rattle.node.proofs.Quiet.{skipped-ticks}
 use Rattle.node.proofs.wires.PacketWires.resend_all.Goals as goal
 
 pub loop-to-preserved : goal.loop-to-preserved
 loop-to-preserved c =
-    let count : 17 - c.loop-to.to ≡ suc (17 - (c.loop-to.to + 1)) = omega (arith, c.loop-to-test.true) in
-    each-turn (λ y. at_end c.args.from y (tick_at c.args.from y)) (adds-tick c.args.from) (17 - c.loop-to.to)
-    (17 - (c.loop-to.to + 1)) c.loop-to.to
-    c.loop-to.self _ count c.resend_to.ensures
-    ∙ c.loop-to.invariant
+    let count : 17 - c.in-Some.to ≡ suc (17 - (c.in-Some.to + 1)) = omega (arith, c.in-Some.ensures.held.1) in (
+      each-turn (λ y. at_end c.args.from y (tick_at c.args.from y)) (adds-tick c.args.from) (17 - c.in-Some.to)
+          (17 - (c.in-Some.to + 1)) c.in-Some.to
+          c.loop-to.self _ count c.resend_to.ensures
+          ∙ sym (skipped-ticks c.args.from c.loop-to.next c.in-Some.to c.loop-to.self c.in-Some.ensures.held.0
+          (omega (arith, c.in-Some.ensures.held.1)) c.in-Some.ensures.skipped)
+          ∙ c.loop-to.invariant.0,
+      omega (arith, c.in-Some.ensures.held.1),
+    )
 
 pub returns : goal.returns
 returns c =
-    let none : 17 - c.loop-to.to ≡ 0 = omega (arith, c.loop-to-test.false) in
-    sym (ap (λ (k : ℕ). carried_out
-    (for_each (λ y. at_end c.args.from y (tick_at c.args.from y)) (numbers c.loop-to.to k)) c.loop-to.self) none)
-    ∙ c.loop-to.invariant
+    sym (skipped-ticks c.args.from c.loop-to.next 17 c.loop-to.self c.loop-to.invariant.1 (omega arith)
+    c.in_default.ensures.none)
+    ∙ c.loop-to.invariant.0

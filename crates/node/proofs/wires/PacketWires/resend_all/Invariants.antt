@@ -1,4 +1,4 @@
-use Rattle.std.proofs.Common.{◌≡◌, ◌-◌}
+use Rattle.std.proofs.Common.{◌≡◌, ◌-◌, ◌≤◌}
 use Rattle.packet_wires.specs.Nodes.{numbers}
 use Rattle.packet_wires.specs.Wires.{at_end, for_each, resends, tick_at}
 use Rattle.event_parts.specs.Parts.{carried_out}
@@ -6,5 +6,8 @@ use Rattle.node.proofs.wires.PacketWires.resend_all.Given as goal
 
 abbrev pub invariant-loop-to : goal.invariant-loop-to
 invariant-loop-to l =
-    carried_out (for_each (λ y. at_end l.from y (tick_at l.from y)) (numbers l.to (17 - l.to))) l.self
-    ≡ carried_out (resends l.fn.from) l.fn.self
+    (carried_out (for_each (λ y. at_end l.from y (tick_at l.from y)) (numbers l.next (17 - l.next))) l.self
+    ≡ carried_out (resends l.fn.from) l.fn.self) × (l.next ≤ 17)
+
+abbrev pub decreases-loop-to : goal.decreases-loop-to
+decreases-loop-to l = 17 - l.next
