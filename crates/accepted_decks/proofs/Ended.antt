@@ -11,9 +11,9 @@ use Rattle.plain_semantics.specs.Machine.{IsNoneLeft, IsPossible, shown_by}
 use Rattle.world_semantics.specs.Kept.{acts_of, closed}
 use Rattle.world_semantics.specs.World.{World}
 use Rattle.agendas.specs.Agendas.{Agenda}
-use Rattle.packet_wires.specs.Idle.{is_idle}
-use Rattle.packet_wires.specs.Play.{Packeted}
-use Rattle.packet_wires.specs.Runs.{IsPlayed}
+use Rattle.packet_lengths.specs.packet_wires.specs.Idle.{is_idle}
+use Rattle.packet_lengths.specs.packet_wires.specs.Play.{Packeted}
+use Rattle.packet_lengths.specs.packet_wires.specs.Runs.{IsPlayed}
 use Rattle.packet_lengths.specs.world_copies.specs.Closed.{closed_world}
 use Rattle.schedule_loop.specs.Ends.{EndsBy, Plays}
 use Rattle.schedule_loop.specs.declared.ran.Ending.{Ending}

@@ -14,10 +14,10 @@ use Rattle.loading_laws.proofs.Loading.{read-is-loadable}
 use Rattle.plain_semantics.specs.Openers.{files_of}
 use Rattle.plain_semantics.specs.SiteLimits.{KeepsSiteLimits}
 use Rattle.packet_lengths.specs.process_copies.specs.Starting.{HasDepths, HasSectors, IsStartable}
-use Rattle.processes.specs.Seen.{IsLoadableKind}
+use Rattle.packet_lengths.specs.processes.specs.Seen.{IsLoadableKind}
 use Rattle.sync_ids.specs.Tables.{IsDepth}
-use Rattle.tal_interp.specs.Sound.{IsLoadable}
-use Rattle.tal_reader.specs.Reads.{Reads}
+use Rattle.loading_laws.specs.tal_interp.specs.Sound.{IsLoadable}
+use Rattle.loading_laws.specs.tal_reader.specs.Reads.{Reads}
 use Rattle.tal_tree.specs.Limits.{IsFileWithinLimits}
 use Rattle.tal_tree.specs.declared.program.FileUse.{FileUse}
 use Rattle.tal_tree.specs.declared.program.Program.{Program}

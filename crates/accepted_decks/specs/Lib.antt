@@ -1,1 +1,2 @@
 pub mod Left
+pub use Rattle.packet_lengths.specs.deck_reader

@@ -5,7 +5,7 @@ use Rattle.tal_tree.specs.declared.site.Kind.TheVariants as kind
 use Rattle.tal_tree.specs.declared.site.ProcessSpec.{ProcessSpec}
 use Rattle.plain_semantics.specs.Machine.{next_request}
 use Rattle.path_semantics.specs.Accepted.{IsAccepted}
-use Rattle.tal_reader.specs.Reads.{Reads}
+use Rattle.tal_laws.specs.tal_reader.specs.Reads.{Reads}
 use Rattle.world_semantics.specs.Examples.{adder, adder_for, bank, bank_site}
 use Rattle.world_semantics.proofs.Lists.{some-same}
 use Rattle.accepted_sites.specs.Premises.{IsAcceptedSite}

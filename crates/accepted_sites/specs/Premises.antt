@@ -6,7 +6,7 @@ use Rattle.tal_tree.specs.declared.site.ProcessSpec.{ProcessSpec}
 use Rattle.tal_tree.specs.declared.site.Site.{Site}
 use Rattle.plain_semantics.specs.Machine.{next_request}
 use Rattle.path_semantics.specs.Accepted.{IsAccepted}
-use Rattle.tal_reader.specs.Reads.{Reads}
+use Rattle.tal_laws.specs.tal_reader.specs.Reads.{Reads}
 
 -- each pair of the site runs a program that some text reads as and that is accepted, and no request of its terminals
 -- has more than 16 words

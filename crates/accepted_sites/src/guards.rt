@@ -7,7 +7,7 @@ ghost use Rattle.world_semantics.specs.Follows.{IsRun};
 ghost use Rattle.world_semantics.specs.Kept.{acts_of};
 ghost use Rattle.world_semantics.specs.World.{World};
 ghost use Rattle.path_semantics.specs.Accepted.{IsAccepted};
-ghost use Rattle.tal_reader.specs.Reads.{Reads};
+ghost use Rattle.tal_laws.specs.tal_reader.specs.Reads.{Reads};
 ghost use Rattle.accepted_sites.specs.Premises.{IsAcceptedSite};
 ghost use Rattle.accepted_sites.specs.Sites.{asked_with};
 ghost use Rattle.accepted_sites.specs.Texts.{adder_text, bank_text};

@@ -10,8 +10,8 @@ use Rattle.world_semantics.specs.World.{Copy, Pair, Down, copy_of}
 use Rattle.world_semantics.specs.declared.role.Role.TheVariants.{Acting, Gone}
 use Rattle.world_semantics.specs.declared.which.Which.{Which}
 use Rattle.world_semantics.specs.declared.which.Which.TheVariants.{First, Second}
-use Rattle.process_histories.specs.Histories.{HasDone}
-use Rattle.process_histories.specs.Words.{take_from, answer_to, taken_from, answered_to}
+use Rattle.takeover_laws.specs.process_histories.specs.Histories.{HasDone}
+use Rattle.takeover_laws.specs.process_histories.specs.Words.{take_from, answer_to, taken_from, answered_to}
 use Rattle.takeover_laws.specs.plain_histories.specs.Booking.{AreHeld, none_held, take_held, step_held}
 use Rattle.takeover_laws.specs.plain_histories.specs.Ledgers.{Ledger}
 use Rattle.takeover_laws.specs.Invariant.{AreRepeatable, Stage, IsLead, is_level, is_applied, is_behind, Watches}

@@ -15,11 +15,12 @@ use Rattle.world_semantics.specs.Core.{Core, Deed, Went, Checkpointed, Took, Ask
 use Rattle.world_semantics.specs.Core.{takes, asks, gets, answers, acts, next_on}
 use Rattle.world_semantics.specs.World.{Copy, World, copy_of}
 use Rattle.world_semantics.proofs.Lists.{some-same}
-use Rattle.process_histories.specs.Histories.{HasDone, nothing_done, one_more}
-use Rattle.process_histories.specs.Words.{ask_on, get_on, requests_on, replies_on, awaits_on, one_if}
-use Rattle.process_histories.proofs.Counts.{asked-count, none-awaited, one-awaited}
-use Rattle.process_histories.proofs.Deeds.{done-last, stands-there}
-use Rattle.process_histories.proofs.Steady.{calm-away, marked-calm, done-steady}
+use Rattle.takeover_laws.specs.process_histories.specs.Histories.{HasDone, nothing_done, one_more}
+use Rattle.takeover_laws.specs.process_histories.specs.Words.{ask_on, get_on, requests_on, replies_on, awaits_on}
+use Rattle.takeover_laws.specs.process_histories.specs.Words.{one_if}
+use Rattle.takeover_laws.specs.process_histories.proofs.Counts.{asked-count, none-awaited, one-awaited}
+use Rattle.takeover_laws.specs.process_histories.proofs.Deeds.{done-last, stands-there}
+use Rattle.takeover_laws.specs.process_histories.proofs.Steady.{calm-away, marked-calm, done-steady}
 use Rattle.takeover_laws.specs.discipline_laws.specs.Disciplined.{AreUncheckpointed}
 use Rattle.takeover_laws.specs.plain_histories.specs.Agreeing.{StandsFor}
 use Rattle.takeover_laws.specs.plain_histories.specs.Booking.{AreBooked, AreHeld, none_held, take_held, step_held}

@@ -14,8 +14,8 @@ use Rattle.link_control.specs.Ends.{End, packet_of, sent_by_push, after_push, se
 use Rattle.alive_regroup.specs.declared.set.ProcessorSet.{ProcessorSet}
 use Rattle.world_semantics.specs.World.{is_running, terminal_node}
 use Rattle.world_semantics.proofs.Lists.{set-there, set-other}
-use Rattle.letters.specs.Routes.{Letter}
-use Rattle.message_layout.specs.Messages.{NodeMessage, Carrying, Declaring, Reporting}
+use Rattle.message_layout.specs.Messages.{NodeMessage, Declaring, Reporting}
+use Rattle.packet_wires.specs.Parcels.{Parcel}
 use Rattle.packet_wires.specs.Nodes.{Node, all_nodes, others, with_end}
 use Rattle.packet_wires.specs.Wires.{Midst, Outgoing, alive_at, all_posted, any_goes_over, arrive_at, at_end, at_end_of}
 use Rattle.packet_wires.specs.Wires.{at_node, bus_of_answer, declares, down_at, end_changed, for_each, goes_again}
@@ -92,20 +92,19 @@ sends-still x y message m = at-end-still x y (push_at x y _) m (λ node e there.
 sends-all-still : (x : ℕ) (message : NodeMessage) (ys : List ℕ) (m : Midst) → IsStill m (sends_all x message ys m)
 sends-all-still x message ys m = each-still (λ y. sends x y message) (λ y m. sends-still x y message m) ys m
 
-posted-still : (stopped : List Bool) (letter : Letter) (m : Midst) → IsStill m (posted stopped letter m)
-posted-still stopped letter m = by (is_running stopped letter.sender)
+posted-still : (stopped : List Bool) (parcel : Parcel) (m : Midst) → IsStill m (posted stopped parcel m)
+posted-still stopped parcel m = by (is_running stopped parcel.sender)
   where
-    by : (test : Bool)
-        → IsStill m (if test then sends letter.sender letter.receiver (Carrying letter.message) m else m)
-    by true = sends-still letter.sender letter.receiver (Carrying letter.message) m
+    by : (test : Bool) → IsStill m (if test then sends parcel.sender parcel.receiver parcel.content m else m)
+    by true = sends-still parcel.sender parcel.receiver parcel.content m
     by false = still-none m
 
-pub all-posted-still : (stopped : List Bool) (letters : List Letter) (m : Midst)
-    → IsStill m (all_posted stopped letters m)
+pub all-posted-still : (stopped : List Bool) (parcels : List Parcel) (m : Midst)
+    → IsStill m (all_posted stopped parcels m)
 all-posted-still stopped [] m = still-none m
-all-posted-still stopped (letter ∷ letters) m =
-    still-on m (posted stopped letter m) (all_posted stopped letters (posted stopped letter m))
-    (posted-still stopped letter m) (all-posted-still stopped letters (posted stopped letter m))
+all-posted-still stopped (parcel ∷ parcels) m =
+    still-on m (posted stopped parcel m) (all_posted stopped parcels (posted stopped parcel m))
+    (posted-still stopped parcel m) (all-posted-still stopped parcels (posted stopped parcel m))
 
 pub declares-still : (processors node processor : ℕ) (m : Midst) → IsStill m (declares processors node processor m)
 declares-still processors node processor m =

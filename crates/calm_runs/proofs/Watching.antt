@@ -10,15 +10,19 @@ use Rattle.packet_words.specs.declared.packet.PacketKind.TheVariants as kind
 use Rattle.alive_regroup.specs.declared.neighbour.Neighbour.{Neighbour}
 use Rattle.alive_regroup.specs.Watching.{Watching, changed_at, neighbour_after_alive, neighbour_after_report}
 use Rattle.alive_regroup.specs.Watching.{neighbour_after_down}
+use Rattle.world_semantics.specs.Messages.{Checkpointing}
 use Rattle.world_semantics.specs.World.{is_running, runs_by}
 use Rattle.world_semantics.specs.Running.{Done}
 use Rattle.world_semantics.proofs.Lists.{set-there, set-other}
+use Rattle.computed_changes.specs.Changed.{change_done}
 use Rattle.computed_changes.specs.Handed.{handed_done}
+use Rattle.computed_changes.proofs.Changed.{change-each}
 use Rattle.computed_changes.specs.Stopped.{may_note, marked_where, mark_where, world_at_down}
 use Rattle.letters.specs.Routes.{letters_of}
 use Rattle.letters.specs.Again.{sent_again}
 use Rattle.single_stops.specs.message_wires_laws.proofs.Stopping.{StopsNone, handed-none}
-use Rattle.message_layout.specs.Messages.{NodeMessage, Carrying, Reporting, Declaring}
+use Rattle.message_layout.specs.Messages.{NodeMessage, Carrying, Changing, Reporting, Declaring}
+use Rattle.packet_wires.specs.Parcels.{parcels_of}
 use Rattle.message_layout.specs.Reading.{understood}
 use Rattle.packet_wires.specs.Nodes.{Node, end_at}
 use Rattle.packet_wires.specs.Wires.{Midst, Outgoing, arrive_at, arrived, at_end, at_node, cut_off, down_at, heard_of}
@@ -186,7 +190,8 @@ any-keeps s None none = state-none s
 any-keeps s (Some done) none = record {
   stopped = none;
   keep = still-keeps s.world.stopped s.wires _
-      (all-posted-still done.world.stopped (letters_of s.site done.world done.sendings) s.wires);
+      (all-posted-still done.world.stopped (parcels_of done.world (letters_of s.site done.world done.sendings))
+      s.wires);
 }
 
 gone : (stopped : List Bool) (k : ℕ) → slice_get stopped k ≡ Some true → is_running stopped k ≡ true → ⊥
@@ -208,7 +213,8 @@ marks-keep node k s = by (slice_get s.world.stopped k) refl
           (changed-keeps s.world.stopped k neighbour_after_down
           (λ runs. absurd (gone s.world.stopped k there runs)))))
           (still-keeps s.world.stopped (cut_off node k s.wires) _ (all-posted-still done.world.stopped
-          (letters_of s.site done.world (done.sendings ++ sent_again s.site s.world done.world node k))
+          (parcels_of done.world
+          (letters_of s.site done.world (done.sendings ++ sent_again s.site s.world done.world node k)))
           (cut_off node k s.wires)));
     }
 
@@ -221,6 +227,10 @@ marks-keep node k s = by (slice_get s.world.stopped k) refl
 handed-keeps : (node : ℕ) (message : NodeMessage) (s : Underway) → StateKeeps s (handed node message s)
 handed-keeps node (Carrying message) s =
     any-keeps s (handed_done s.site node message s.world) (handed-none s.site s.world node message)
+handed-keeps node (Changing change) s =
+    any-keeps s (change_done s.site node change s.world)
+    (change-each s.site node change s.world (StopsNone s.world) tt
+    (λ message. handed-none s.site s.world node (Checkpointing message)))
 handed-keeps node (Reporting from silent) s = record {
   stopped = refl;
   keep = learns-keep s.world.stopped node (changed_at from (neighbour_after_report silent)) s.wires

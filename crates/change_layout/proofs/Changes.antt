@@ -5,12 +5,13 @@ use Rattle.std.proofs.Common.{option_and_then}
 use Rattle.std.proofs.lemmas.Bool.{le-leb, leb-true}
 use Rattle.std.specs.List.{All}
 use Rattle.std.specs.Option.{option_map}
-use Rattle.process_semantics.specs.Words.{Front, counted, long}
-use Rattle.checkpoint_image.specs.Reading.{both_in, many_in, pair_in, reply_in}
-use Rattle.checkpoint_image.proofs.Messages.{AreFew, reply-reads}
-use Rattle.checkpoint_image.proofs.Patterns.{pair-reads}
-use Rattle.checkpoint_image.proofs.Readers.{IsReader, WasWritten, both-reads, many-reads, sized-reads}
-use Rattle.receive_changes.specs.declared.change.OpenerChange.{OpenerChange}
+use Rattle.receive_changes.specs.process_semantics.specs.Words.{Front, counted, long}
+use Rattle.receive_changes.specs.checkpoint_image.specs.Reading.{both_in, many_in, pair_in, reply_in}
+use Rattle.receive_changes.specs.checkpoint_image.proofs.Messages.{AreFew, reply-reads}
+use Rattle.receive_changes.specs.checkpoint_image.proofs.Patterns.{pair-reads}
+use Rattle.receive_changes.specs.checkpoint_image.proofs.Readers.{IsReader, WasWritten, both-reads, many-reads}
+use Rattle.receive_changes.specs.checkpoint_image.proofs.Readers.{sized-reads}
+use Rattle.receive_changes.specs.sync_ids.specs.declared.change.OpenerChange.{OpenerChange}
 use Rattle.change_layout.specs.Layout.{change_words, place_and_count, taken_and_added}
 use Rattle.change_layout.specs.Reading.{added_in, change_by, change_in}
 

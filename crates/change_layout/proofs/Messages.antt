@@ -1,14 +1,16 @@
 -- The words of checkpoints that carry changes are read back, and what is read has its words.
 use Rattle.std.proofs.Common.{◌≡◌, ◌≤◌, ℤ, List, length, Some, refl, arith, ap, sym, ◌∙◌}
 use Rattle.std.specs.List.{All}
-use Rattle.checkpoint_image.specs.declared.reading.Heading.{Heading}
-use Rattle.checkpoint_image.specs.Layout.{IsPlace}
-use Rattle.checkpoint_image.specs.Reading.{both_in, heading_in}
-use Rattle.checkpoint_image.proofs.Messages.{AreFew, AreFilesRead, IsNamedRead, contents-reads, heading-reads}
-use Rattle.checkpoint_image.proofs.Messages.{place-reads}
-use Rattle.checkpoint_image.proofs.Readers.{IsReader, both-reads, listed-reads, whole-again, whole-exact}
-use Rattle.receive_changes.specs.declared.change.OpenerChange.{OpenerChange}
-use Rattle.receive_changes.specs.declared.change.ReceiveChange.{ReceiveChange}
+use Rattle.receive_changes.specs.checkpoint_image.specs.declared.reading.Heading.{Heading}
+use Rattle.receive_changes.specs.checkpoint_image.specs.Layout.{IsPlace}
+use Rattle.receive_changes.specs.checkpoint_image.specs.Reading.{both_in, heading_in}
+use Rattle.receive_changes.specs.checkpoint_image.proofs.Messages.{AreFew, AreFilesRead, IsNamedRead, contents-reads}
+use Rattle.receive_changes.specs.checkpoint_image.proofs.Messages.{heading-reads}
+use Rattle.receive_changes.specs.checkpoint_image.proofs.Messages.{place-reads}
+use Rattle.receive_changes.specs.checkpoint_image.proofs.Readers.{IsReader, both-reads, listed-reads, whole-again}
+use Rattle.receive_changes.specs.checkpoint_image.proofs.Readers.{whole-exact}
+use Rattle.receive_changes.specs.sync_ids.specs.declared.change.OpenerChange.{OpenerChange}
+use Rattle.receive_changes.specs.sync_ids.specs.declared.change.ReceiveChange.{ReceiveChange}
 use Rattle.change_layout.specs.declared.message.ChangeImage.{ChangeImage}
 use Rattle.change_layout.specs.declared.message.ChangeMessage.{ChangeMessage}
 use Rattle.change_layout.specs.Layout.{HasShortLists, IsWithinLayout, image_words, message_words}

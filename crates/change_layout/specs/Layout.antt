@@ -2,10 +2,10 @@
 -- layout is this project's own.
 use Rattle.std.specs.List.{All, flat_map}
 use Rattle.std.specs.Prelude.{ℕ, ◌+◌, ◌*◌, ◌<◌, ◌≤◌, ◌^◌, ℤ, pos, List, [], ◌∷◌, ◌++◌, length}
-use Rattle.process_semantics.specs.Words.{long, counted}
-use Rattle.checkpoint_image.specs.Layout.{IsFile, IsPlace, file_words, listed, place_word}
-use Rattle.receive_changes.specs.declared.change.OpenerChange.{OpenerChange}
-use Rattle.receive_changes.specs.declared.change.ReceiveChange.{ReceiveChange}
+use Rattle.receive_changes.specs.process_semantics.specs.Words.{long, counted}
+use Rattle.receive_changes.specs.checkpoint_image.specs.Layout.{IsFile, IsPlace, file_words, listed, place_word}
+use Rattle.receive_changes.specs.sync_ids.specs.declared.change.OpenerChange.{OpenerChange}
+use Rattle.receive_changes.specs.sync_ids.specs.declared.change.ReceiveChange.{ReceiveChange}
 use Rattle.change_layout.specs.declared.message.ChangeImage.{ChangeImage}
 use Rattle.change_layout.specs.declared.message.ChangeMessage.{ChangeMessage}
 

@@ -1,11 +1,12 @@
 -- Reading the words of a checkpoint that carries changes from their front.
 use Rattle.std.specs.Prelude.{ℕ, ◌/◌, ◌%◌, ℤ, if◌then◌else◌, nat_le, List, Option, None}
-use Rattle.process_semantics.specs.Words.{Front, whole}
-use Rattle.checkpoint_image.specs.declared.reading.Heading.{Heading}
-use Rattle.checkpoint_image.specs.Reading.{both_in, contents_in, heading_in, listed_in, many_in, pair_in, place_in}
-use Rattle.checkpoint_image.specs.Reading.{reply_in, sized_in}
-use Rattle.receive_changes.specs.declared.change.OpenerChange.{OpenerChange}
-use Rattle.receive_changes.specs.declared.change.ReceiveChange.{ReceiveChange}
+use Rattle.receive_changes.specs.process_semantics.specs.Words.{Front, whole}
+use Rattle.receive_changes.specs.checkpoint_image.specs.declared.reading.Heading.{Heading}
+use Rattle.receive_changes.specs.checkpoint_image.specs.Reading.{both_in, contents_in, heading_in, listed_in, many_in}
+use Rattle.receive_changes.specs.checkpoint_image.specs.Reading.{pair_in, place_in}
+use Rattle.receive_changes.specs.checkpoint_image.specs.Reading.{reply_in, sized_in}
+use Rattle.receive_changes.specs.sync_ids.specs.declared.change.OpenerChange.{OpenerChange}
+use Rattle.receive_changes.specs.sync_ids.specs.declared.change.ReceiveChange.{ReceiveChange}
 use Rattle.change_layout.specs.declared.message.ChangeImage.{ChangeImage}
 use Rattle.change_layout.specs.declared.message.ChangeMessage.{ChangeMessage}
 

@@ -1,12 +1,16 @@
-ghost use Rattle.std.specs.Prelude.{◌≡◌, ◌≢◌, IfOk, IfSome, IfNone};
+ghost use Rattle.std.specs.Prelude.{◌≡◌, ◌≢◌, ◌≤◌, IfOk, IfSome, IfNone, length};
+ghost use Rattle.change_layout.specs.Changing.{change_of};
 ghost use Rattle.change_layout.specs.Layout.{HasShortLists, IsWithinLayout, message_words};
+ghost use Rattle.change_layout.specs.Reading.{message_in};
 ghost use Rattle.change_layout.specs.declared.message.ChangeMessage.{ChangeMessage};
 
 use crate::message::ChangeMessage;
-use crate::putting::{put_heading, put_image};
+use crate::putting::{put_contents, put_heading, put_receive};
 use crate::reading::message_in;
-use checkpoint_image::reading::ReadingFault;
-use gd_words::{List, NoMemory};
+use receive_changes::checkpoint_image::ImageMessage;
+use receive_changes::checkpoint_image::reading::ReadingFault;
+use receive_changes::gd_words::{List, NoMemory};
+use receive_changes::sync_ids::change_between;
 use std::alloc::Global;
 
 /// The words of a checkpoint whose counts and places each fit their words.
@@ -14,14 +18,37 @@ pub fn to_words(alloc: Global, message: &ChangeMessage) -> Result<List<i16>, NoM
     requires { HasShortLists message.now }
     ensures { IfOk result (λ words. words ≡ message_words message.now) }
 {
+    let image = &message.image;
     let mut words = List::new(alloc);
-    put_heading(message, &mut words)?;
-    put_image(&message.image, &mut words)?;
+    put_heading(message.process, message.era, message.number, &mut words)?;
+    put_contents(image.body.as_slice(), image.files.as_slice(), &mut words)?;
+    put_receive(&image.receive, &mut words)?;
+    Ok(words)
+}
+
+/// The words of a checkpoint as what changed since the one before it. Memory is taken for what changed alone, and for
+/// the words.
+pub fn words_since(
+    alloc: Global,
+    before: &ImageMessage,
+    message: &ImageMessage,
+) -> Result<List<i16>, NoMemory>
+    requires few { length message.now.image.receive.openers ≤ 65536 }
+    requires short { HasShortLists (change_of before.now message.now) }
+    ensures { IfOk result (λ words. words ≡ message_words (change_of before.now message.now)) }
+{
+    let image = &message.image;
+    let receive = change_between(alloc, &before.image.receive, &image.receive)?;
+    let mut words = List::new(alloc);
+    put_heading(message.process, message.era, message.number, &mut words)?;
+    put_contents(image.body.as_slice(), image.files.as_slice(), &mut words)?;
+    put_receive(&receive, &mut words)?;
     Ok(words)
 }
 
 /// The checkpoint that has these words; none where no such checkpoint within the layout has them.
 pub fn from_words(alloc: Global, words: &[i16]) -> Result<Option<ChangeMessage>, NoMemory>
+    ensures told { IfOk result (λ read. read ≡ message_in words.now) }
     ensures within { IfOk result (λ read. IfSome read IsWithinLayout) }
     ensures words { IfOk result (λ read. IfSome read (λ message. message_words message ≡ words.now)) }
     ensures none { IfOk result (λ read. IfNone read

@@ -1,14 +1,15 @@
 ghost use Rattle.std.specs.List.{All};
-ghost use Rattle.std.specs.Prelude.{◌≡◌, ◌≤◌, ◌++◌, length, OnOk};
-ghost use Rattle.checkpoint_image.specs.Layout.{IsPlace, listed};
-ghost use Rattle.change_layout.specs.Layout.{IsShort, change_words, heading_words, image_words, receive_words};
+ghost use Rattle.std.specs.Prelude.{◌≡◌, ◌≤◌, ◌∷◌, ◌++◌, length, OnOk, pos};
+ghost use Rattle.receive_changes.specs.process_semantics.specs.Words.{counted, long};
+ghost use Rattle.receive_changes.specs.checkpoint_image.specs.Layout.{IsPlace, file_words, listed};
+ghost use Rattle.change_layout.specs.Layout.{IsShort, change_words, receive_words};
 
-use crate::message::{ChangeImage, ChangeMessage};
-use checkpoint_image::putting::{
+use receive_changes::checkpoint_image::FileNumber;
+use receive_changes::checkpoint_image::putting::{
     put_count, put_counted, put_files, put_long, put_place, put_replies,
 };
-use gd_words::{List, NoMemory};
-use receive_changes::{OpenerChange, ReceiveChange};
+use receive_changes::gd_words::{List, NoMemory};
+use receive_changes::sync_ids::{OpenerChange, ReceiveChange};
 
 fn put_change(change: &OpenerChange, out: &mut List<i16>) -> Result<(), NoMemory>
     requires { IsShort change.now }
@@ -33,7 +34,8 @@ fn put_changes(changes: &[OpenerChange], out: &mut List<i16>) -> Result<(), NoMe
     Ok(())
 }
 
-fn put_receive(change: &ReceiveChange, out: &mut List<i16>) -> Result<(), NoMemory>
+/// Puts what changed in a receive table behind words.
+pub fn put_receive(change: &ReceiveChange, out: &mut List<i16>) -> Result<(), NoMemory>
     requires changes { length change.now.changes ≤ 32767 }
     requires short { All IsShort change.now.changes }
     requires in_hand { IsPlace change.now.in_hand }
@@ -44,26 +46,24 @@ fn put_receive(change: &ReceiveChange, out: &mut List<i16>) -> Result<(), NoMemo
     Ok(())
 }
 
-pub fn put_image(image: &ChangeImage, out: &mut List<i16>) -> Result<(), NoMemory>
-    requires body { length image.now.body ≤ 32767 }
-    requires files { length image.now.files ≤ 32767 }
-    requires changes { length image.now.receive.changes ≤ 32767 }
-    requires short { All IsShort image.now.receive.changes }
-    requires in_hand { IsPlace image.now.receive.in_hand }
-    ensures { OnOk result (out.new ≡ out.old ++ image_words image.now) }
+/// Puts the body and the files behind words.
+pub fn put_contents(body: &[i16], files: &[FileNumber], out: &mut List<i16>) -> Result<(), NoMemory>
+    requires body { length body.now ≤ 32767 }
+    requires files { length files.now ≤ 32767 }
+    ensures { OnOk result (out.new ≡ out.old ++ (counted body.now ++ listed file_words files.now)) }
 {
-    put_counted(image.body.as_slice(), out)?;
-    put_files(image.files.as_slice(), out)?;
-    put_receive(&image.receive, out)?;
+    put_counted(body, out)?;
+    put_files(files, out)?;
     Ok(())
 }
 
-pub fn put_heading(message: &ChangeMessage, out: &mut List<i16>) -> Result<(), NoMemory>
-    ensures { OnOk result (out.new ≡ out.old ++ heading_words message.now) }
+/// Puts the words before an image behind words.
+pub fn put_heading(process: u8, era: u32, number: u32, out: &mut List<i16>) -> Result<(), NoMemory>
+    ensures { OnOk result (out.new ≡ out.old ++ (pos 7 ∷ pos process ∷ long era ++ long number)) }
 {
     out.push(7)?;
-    out.push(i16::from(message.process))?;
-    put_long(message.era, out)?;
-    put_long(message.number, out)?;
+    out.push(i16::from(process))?;
+    put_long(era, out)?;
+    put_long(number, out)?;
     Ok(())
 }

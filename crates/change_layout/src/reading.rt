@@ -1,12 +1,12 @@
-ghost use Rattle.checkpoint_image.specs.Reading.{Tells, listed_in, many_in};
+ghost use Rattle.receive_changes.specs.checkpoint_image.specs.Reading.{Tells, listed_in, many_in};
 ghost use Rattle.change_layout.specs.Reading.{added_in, change_in, image_in, message_in, receive_in};
 
 use crate::message::{ChangeImage, ChangeMessage};
-use checkpoint_image::reading::{
+use receive_changes::checkpoint_image::reading::{
     ReadingFault, contents_in, count_in, heading_in, many_replies, pair_in, place_in,
 };
-use gd_words::List;
-use receive_changes::{OpenerChange, ReceiveChange};
+use receive_changes::gd_words::List;
+use receive_changes::sync_ids::{OpenerChange, ReceiveChange};
 use std::alloc::Global;
 
 /// What changed of the opener at a place, to which so many replies were added.

@@ -5,3 +5,4 @@ pub mod Receive
 pub use Rattle.whole_states.specs.process_semantics
 pub use Rattle.whole_states.specs.tal_tree
 pub use Rattle.whole_states
+pub use Rattle.whole_states.specs.gd_words

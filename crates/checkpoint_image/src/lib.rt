@@ -20,4 +20,4 @@ pub use behaviour::{Behaviour, Listed};
 pub use layout::{from_words, to_words, words_tell_their_message};
 pub use message::{FileNumber, Image, ImageMessage, TakenMessage};
 pub use receive::{OpenerBlock, ReceiveBlock, RequestStanding};
-pub use whole_states::tal_tree;
+pub use whole_states::{gd_words, tal_tree};

@@ -88,6 +88,33 @@ fn other_words_have_none(rt: HostRuntime) -> Result<(), Fail> {
     Ok(())
 }
 
+/// Whether the words are no checkpoint's, or those of the checkpoint that is read from them.
+fn are_refused_or_told(alloc: Global, words: &[i16]) -> Result<bool, NoMemory> {
+    match from_words(alloc, words)? {
+        None => Ok(true),
+        Some(message) => {
+            let again = to_words(alloc, &message)?;
+            Ok(again.as_slice() == words)
+        }
+    }
+}
+
+/// Each word in turn goes through all 65,536 values, and is as before at the end.
+#[test]
+fn each_value_of_each_word_is_refused_or_told(rt: HostRuntime) -> Result<(), Fail> {
+    let alloc = rt.alloc();
+    let mut words: [i16; 30] = WORDS;
+    for place in 0..30 {
+        for _value in 0..65_536 {
+            let word = words[place].wrapping_add(1);
+            words[place] = word;
+            assert!(rt; are_refused_or_told(alloc, &words)?, "{place} {word}");
+        }
+    }
+    assert!(rt; words == WORDS);
+    Ok(())
+}
+
 #[test]
 fn replies_have_at_most_16_words(rt: HostRuntime) -> Result<(), Fail> {
     let alloc = rt.alloc();

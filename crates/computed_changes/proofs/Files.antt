@@ -10,11 +10,11 @@ use Rattle.tal_tree.specs.declared.site.Site.{Site}
 use Rattle.tal_tree.specs.declared.site.ProcessSpec.{ProcessSpec}
 use Rattle.tal_tree.specs.declared.site.OpenerSpec.{OpenerSpec}
 use Rattle.schedule.specs.declared.event.Event.{Event}
-use Rattle.checkpoint_image.specs.process_semantics.specs.Image.{restored}
+use Rattle.world_semantics.specs.checkpoint_image.specs.process_semantics.specs.Image.{restored}
 use Rattle.world_semantics.specs.plain_semantics.specs.Openers.{files_of}
-use Rattle.checkpoint_image.specs.declared.message.FileNumber.{FileNumber}
-use Rattle.checkpoint_image.specs.declared.message.Image.{Image}
-use Rattle.checkpoint_image.specs.declared.message.ImageMessage.{ImageMessage}
+use Rattle.world_semantics.specs.checkpoint_image.specs.declared.message.FileNumber.{FileNumber}
+use Rattle.world_semantics.specs.checkpoint_image.specs.declared.message.Image.{Image}
+use Rattle.world_semantics.specs.checkpoint_image.specs.declared.message.ImageMessage.{ImageMessage}
 use Rattle.world_semantics.specs.Core.{Core, Deed, Advances, goes, marks, takes, asks, gets, answers, acts, next_on}
 use Rattle.world_semantics.specs.Core.{with_files, put_in}
 use Rattle.world_semantics.specs.declared.which.Which.{Which}

@@ -10,16 +10,17 @@ use Rattle.tal_tree.specs.declared.site.Site.{Site}
 use Rattle.tal_tree.specs.declared.site.ProcessSpec.{ProcessSpec}
 use Rattle.tal_tree.specs.declared.site.OpenerSpec.{OpenerSpec}
 use Rattle.schedule.specs.declared.event.Event.{Event}
-use Rattle.checkpoint_image.specs.process_semantics.specs.Image.{restored}
+use Rattle.world_semantics.specs.checkpoint_image.specs.process_semantics.specs.Image.{restored}
 use Rattle.world_semantics.specs.plain_semantics.specs.Openers.{files_of, openers_of}
-use Rattle.checkpoint_image.specs.declared.receive.OpenerBlock.{OpenerBlock}
-use Rattle.checkpoint_image.specs.declared.receive.ReceiveBlock.{ReceiveBlock}
-use Rattle.checkpoint_image.specs.declared.message.FileNumber.{FileNumber}
-use Rattle.checkpoint_image.specs.declared.message.Image.{Image}
-use Rattle.checkpoint_image.specs.declared.message.ImageMessage.{ImageMessage}
-use Rattle.checkpoint_image.specs.Receive.{after_taking, after_answering, last_ones}
-use Rattle.sync_ids.specs.Tables.{is_of_depth, are_of_depths, is_unanswered, can_hold}
-use Rattle.sync_ids.proofs.Tables.{and-left, and-right, depth-at, depths-set, more-taken, one-more-kept}
+use Rattle.world_semantics.specs.checkpoint_image.specs.declared.receive.OpenerBlock.{OpenerBlock}
+use Rattle.world_semantics.specs.checkpoint_image.specs.declared.receive.ReceiveBlock.{ReceiveBlock}
+use Rattle.world_semantics.specs.checkpoint_image.specs.declared.message.FileNumber.{FileNumber}
+use Rattle.world_semantics.specs.checkpoint_image.specs.declared.message.Image.{Image}
+use Rattle.world_semantics.specs.checkpoint_image.specs.declared.message.ImageMessage.{ImageMessage}
+use Rattle.world_semantics.specs.checkpoint_image.specs.Receive.{after_taking, after_answering, last_ones}
+use Rattle.change_layout.specs.sync_ids.specs.Tables.{is_of_depth, are_of_depths, is_unanswered, can_hold}
+use Rattle.change_layout.specs.sync_ids.proofs.Tables.{and-left, and-right, depth-at, depths-set, more-taken}
+use Rattle.change_layout.specs.sync_ids.proofs.Tables.{one-more-kept}
 use Rattle.world_semantics.specs.Core.{Core, Deed, Advances, goes, marks, takes, asks, gets, answers, acts, put_in}
 use Rattle.world_semantics.specs.declared.which.Which.{Which}
 use Rattle.world_semantics.specs.declared.which.Which.TheVariants.{First, Second}

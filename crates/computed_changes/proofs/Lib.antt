@@ -1,8 +1,10 @@
 pub mod Causes
+pub mod Changed
 pub mod Entered
 pub mod Files
 pub mod Fitting
 pub mod Homes
+pub mod Late
 pub mod Lifted
 pub mod Made
 pub mod Only

@@ -6,11 +6,11 @@ use Rattle.gd_words.specs.declared.message.Reply.{Reply}
 use Rattle.tal_tree.specs.declared.act.Act.{Act}
 use Rattle.tal_tree.specs.declared.site.Site.{Site}
 use Rattle.tal_tree.specs.declared.site.Who.TheVariants as who
-use Rattle.checkpoint_image.specs.process_semantics.specs.declared.point.Point.TheVariants as point
-use Rattle.checkpoint_image.specs.process_semantics.specs.Process as process
+use Rattle.world_semantics.specs.checkpoint_image.specs.process_semantics.specs.declared.point.Point.TheVariants as point
+use Rattle.world_semantics.specs.checkpoint_image.specs.process_semantics.specs.Process as process
 use Rattle.world_semantics.specs.plain_semantics.specs.Openers.{openers_of, opener_of}
-use Rattle.checkpoint_image.specs.declared.message.ImageMessage.{ImageMessage}
-use Rattle.checkpoint_image.specs.declared.message.TakenMessage.{TakenMessage}
+use Rattle.world_semantics.specs.checkpoint_image.specs.declared.message.ImageMessage.{ImageMessage}
+use Rattle.world_semantics.specs.checkpoint_image.specs.declared.message.TakenMessage.{TakenMessage}
 use Rattle.world_semantics.specs.declared.role.Role.TheVariants.{Acting, Watching}
 use Rattle.world_semantics.specs.Core.{Core, Deed, next_on, put_in, Advances, gets}
 use Rattle.world_semantics.specs.Kept.{Enters}

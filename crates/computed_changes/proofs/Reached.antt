@@ -7,8 +7,8 @@ use Rattle.tal_tree.specs.declared.act.Act.{Act}
 use Rattle.tal_tree.specs.declared.site.Site.{Site}
 use Rattle.tal_tree.specs.declared.site.ProcessSpec.{ProcessSpec}
 use Rattle.schedule.specs.declared.event.Event.{Event}
-use Rattle.checkpoint_image.specs.declared.message.ImageMessage.{ImageMessage}
-use Rattle.checkpoint_image.specs.declared.message.TakenMessage.{TakenMessage}
+use Rattle.world_semantics.specs.checkpoint_image.specs.declared.message.ImageMessage.{ImageMessage}
+use Rattle.world_semantics.specs.checkpoint_image.specs.declared.message.TakenMessage.{TakenMessage}
 use Rattle.world_semantics.specs.declared.which.Which.{Which}
 use Rattle.world_semantics.specs.declared.which.Which.TheVariants.{First, Second}
 use Rattle.world_semantics.specs.World.{Copy, Pair, World, copy_of, pairs_at_boot, boot}

@@ -4,9 +4,9 @@ use Rattle.std.specs.Prelude.{ℕ, ◌&&◌, Bool, true, false, List, length, ma
 use Rattle.std.specs.List.{list_all}
 use Rattle.tal_tree.specs.declared.site.Site.{Site}
 use Rattle.world_semantics.specs.plain_semantics.specs.Openers.{openers_of}
-use Rattle.checkpoint_image.specs.declared.message.FileNumber.{FileNumber}
-use Rattle.checkpoint_image.specs.declared.message.Image.{Image}
-use Rattle.sync_ids.specs.Tables as tables
+use Rattle.world_semantics.specs.checkpoint_image.specs.declared.message.FileNumber.{FileNumber}
+use Rattle.world_semantics.specs.checkpoint_image.specs.declared.message.Image.{Image}
+use Rattle.change_layout.specs.sync_ids.specs.Tables as tables
 use Rattle.world_semantics.specs.Core.{Core, put_in}
 
 -- how many replies are kept at most of each opener of a process

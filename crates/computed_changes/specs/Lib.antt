@@ -1,3 +1,4 @@
+pub mod Changed
 pub mod Checkpoints
 pub mod Entered
 pub mod Fitting
@@ -6,5 +7,7 @@ pub mod Laws
 pub mod Replies
 pub mod Requests
 pub mod Stopped
-pub use Rattle.checkpoint_image.specs.process_semantics
+pub use Rattle.change_layout
+pub use Rattle.world_semantics.specs.checkpoint_image.specs.process_semantics
 pub use Rattle.world_semantics
+pub use Rattle.world_semantics.specs.checkpoint_image

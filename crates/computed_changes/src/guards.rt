@@ -1,16 +1,16 @@
-ghost use Rattle.std.specs.Prelude.{◌≡◌, ◌≢◌, ℕ, ◌+◌, ◌==◌, ℤ, true, false, pos, List, [], ◌∷◌, slice_get, Some, None};
+ghost use Rattle.std.specs.Prelude.{◌≡◌, ◌≢◌, ℕ, ◌+◌, ℤ, true, false, pos, List, [], ◌∷◌, slice_get, Some, None};
 ghost use Rattle.gd_words.specs.declared.message.Request.{Request};
 ghost use Rattle.gd_words.specs.declared.message.Reply.{Reply};
 ghost use Rattle.tal_tree.specs.declared.site.Site.{Site};
 ghost use Rattle.tal_tree.specs.declared.site.Who.TheVariants.{File, Terminal};
-ghost use Rattle.checkpoint_image.specs.process_semantics.specs.declared.point.Point.TheVariants.{Await};
-ghost use Rattle.checkpoint_image.specs.process_semantics.specs.Process.{point, asked_file};
+ghost use Rattle.world_semantics.specs.checkpoint_image.specs.process_semantics.specs.declared.point.Point.TheVariants.{Await};
+ghost use Rattle.world_semantics.specs.checkpoint_image.specs.process_semantics.specs.Process.{point, asked_file};
 ghost use Rattle.world_semantics.specs.plain_semantics.specs.Machine.{next_request};
 ghost use Rattle.world_semantics.specs.plain_semantics.specs.Openers.{opener_of};
-ghost use Rattle.checkpoint_image.specs.declared.message.ImageMessage.{ImageMessage};
-ghost use Rattle.checkpoint_image.specs.declared.message.TakenMessage.{TakenMessage};
-ghost use Rattle.checkpoint_image.specs.declared.receive.RequestStanding.TheVariants.{Kept};
-ghost use Rattle.checkpoint_image.specs.Receive.{standing, reply_to};
+ghost use Rattle.world_semantics.specs.checkpoint_image.specs.declared.message.ImageMessage.{ImageMessage};
+ghost use Rattle.world_semantics.specs.checkpoint_image.specs.declared.message.TakenMessage.{TakenMessage};
+ghost use Rattle.world_semantics.specs.checkpoint_image.specs.declared.receive.RequestStanding.TheVariants.{Kept};
+ghost use Rattle.world_semantics.specs.checkpoint_image.specs.Receive.{standing, reply_to};
 ghost use Rattle.world_semantics.specs.declared.role.Role.TheVariants.{Acting, Watching, Gone};
 ghost use Rattle.world_semantics.specs.Core.{Core, next_on};
 ghost use Rattle.world_semantics.specs.declared.which.Which.{Which};
@@ -18,7 +18,10 @@ ghost use Rattle.world_semantics.specs.declared.which.Which.TheVariants.{First, 
 ghost use Rattle.world_semantics.specs.World.{Pair, World, copy_of, terminal_node, is_running, has_noted};
 ghost use Rattle.world_semantics.specs.World.{Terminal as AtTerminal};
 ghost use Rattle.world_semantics.specs.Messages.{Asking, Replying, Checkpointing, Taking};
-ghost use Rattle.world_semantics.specs.Running.{sendings_of};
+ghost use Rattle.world_semantics.specs.Running.{Done, sendings_of};
+ghost use Rattle.change_layout.specs.declared.message.ChangeMessage.{ChangeMessage};
+ghost use Rattle.change_layout.specs.sync_ids.specs.Changes.{fits_change};
+ghost use Rattle.computed_changes.specs.Changed.{change_done};
 ghost use Rattle.computed_changes.specs.Entered.{enter_done};
 ghost use Rattle.computed_changes.specs.Fitting.{depths_of, fits};
 ghost use Rattle.computed_changes.specs.Handed.{copy_in, handed_done};
@@ -50,6 +53,28 @@ pub fn only_the_next_checkpoint_is_applied()
     ensures role { (site : Site) (w : World) (node : ℕ) (message : ImageMessage) (k : Which) (pair : Pair)
         → IsCopyAt w node message.process k pair
         → (copy_of k pair).role ≢ Watching → handed_done site node (Checkpointing message) w ≡ None }
+{}
+
+/// A checkpoint that comes as what changed isn't applied if it is of another era or of another number than the next, if
+/// the change doesn't fit the table of the copy to which it comes, or if that copy doesn't watch. So one that comes out
+/// of order, or after another was missed, does nothing; and what was applied does nothing if it comes again.
+pub fn only_the_next_change_is_applied()
+    ensures era { (site : Site) (w : World) (node : ℕ) (change : ChangeMessage) (k : Which) (pair : Pair)
+        → IsCopyAt w node change.process k pair
+        → change.era ≢ (copy_of k pair).era → change_done site node change w ≡ None }
+    ensures number { (site : Site) (w : World) (node : ℕ) (change : ChangeMessage) (k : Which) (pair : Pair)
+        → IsCopyAt w node change.process k pair
+        → change.number ≢ (copy_of k pair).number + 1 → change_done site node change w ≡ None }
+    ensures misfit { (site : Site) (w : World) (node : ℕ) (change : ChangeMessage) (k : Which) (pair : Pair)
+        → IsCopyAt w node change.process k pair
+        → fits_change (record { table = (copy_of k pair).core.receive; depths = depths_of site change.process })
+        change.image.receive ≡ false
+        → change_done site node change w ≡ None }
+    ensures role { (site : Site) (w : World) (node : ℕ) (change : ChangeMessage) (k : Which) (pair : Pair)
+        → IsCopyAt w node change.process k pair
+        → (copy_of k pair).role ≢ Watching → change_done site node change w ≡ None }
+    ensures again { (site : Site) (w : World) (node : ℕ) (change : ChangeMessage) (done : Done)
+        → change_done site node change w ≡ Some done → change_done site node change done.world ≡ None }
 {}
 
 /// That another checkpoint was taken than the one that a copy sent last tells the copy nothing, nor is a copy told that

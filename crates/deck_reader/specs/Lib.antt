@@ -9,3 +9,5 @@ pub mod Outlined
 pub mod Refusals
 pub mod Schedules
 pub mod Sizes
+pub use Rattle.tal_laws
+pub use Rattle.tal_laws.specs.tal_reader

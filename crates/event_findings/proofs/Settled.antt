@@ -1,11 +1,11 @@
 -- What the machine answers to an event, and the state after it, are those of what the event makes.
-use Rattle.std.proofs.Common.{◌≡◌, List, ap, ap₂}
+use Rattle.std.proofs.Common.{◌≡◌, ap, ap₂}
 use Rattle.machine_states.specs.States.{Makes, Played, Settles, Skips, Would}
 use Rattle.machine_states.specs.declared.effect.Effect.{Effect}
 use Rattle.schedule.specs.declared.event.Event.{Event}
-use Rattle.site_machine.specs.packet_wires.specs.Play.{Packeted}
-use Rattle.site_machine.specs.packet_wires.specs.Sights.{state_after}
-use Rattle.site_machine.specs.packet_wires.specs.Wires.{Wires}
+use Rattle.machine_views.specs.site_machine.specs.packet_wires.specs.Play.{Packeted}
+use Rattle.machine_views.specs.site_machine.specs.packet_wires.specs.Sights.{state_after}
+use Rattle.machine_views.specs.site_machine.specs.packet_wires.specs.Wires.{Wires}
 use Rattle.tal_tree.specs.declared.site.Site.{Site}
 use Rattle.event_findings.specs.Told.{answer_of, found, shown_after}
 use Rattle.event_findings.specs.declared.noting.Noted.{Noted}

@@ -1,12 +1,12 @@
 -- The acts that an event keeps, and those that the copy which ran holds back since: by the acts that were kept before
 -- it, and by what that copy held.
-use Rattle.std.specs.Prelude.{ℕ, List, [], ◌++◌, length, map, drop, reverse, if◌then◌else◌, slice_get, Option, Some}
+use Rattle.std.specs.Prelude.{ℕ, List, [], length, map, drop, reverse, if◌then◌else◌, slice_get, Option, Some}
 use Rattle.std.specs.Prelude.{None}
 use Rattle.std.specs.Option.{option_and_then, option_map}
 use Rattle.plain_semantics.specs.Openers.{openers_of}
 use Rattle.schedule.specs.declared.event.Event.{Event}
 use Rattle.schedule.specs.declared.event.Event.TheVariants.{Run, Enter, Deliver, Lose, Repeat, Tick, Fail, Drive}
-use Rattle.site_machine.specs.packet_wires.specs.Play.{Packeted}
+use Rattle.machine_views.specs.site_machine.specs.packet_wires.specs.Play.{Packeted}
 use Rattle.tal_tree.specs.declared.act.Act.{Act}
 use Rattle.tal_tree.specs.declared.act.Act.TheVariants.{Step, Take, Enter as Entry, Print}
 use Rattle.tal_tree.specs.declared.site.Site.{Site}

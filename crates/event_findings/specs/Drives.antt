@@ -4,7 +4,7 @@ use Rattle.std.specs.Option.{unwrap_or}
 use Rattle.machine_states.specs.disc_device.specs.mirror.specs.States.{standing}
 use Rattle.schedule.specs.declared.event.Event.{Event}
 use Rattle.schedule.specs.declared.event.Event.TheVariants.{Run, Enter, Deliver, Lose, Repeat, Tick, Fail, Drive}
-use Rattle.site_machine.specs.packet_wires.specs.Play.{Packeted}
+use Rattle.machine_views.specs.site_machine.specs.packet_wires.specs.Play.{Packeted}
 use Rattle.trace_lines.specs.declared.finding.Finding.{Finding}
 use Rattle.trace_lines.specs.declared.finding.Finding.TheVariants as finding
 

@@ -8,9 +8,9 @@ use Rattle.machine_views.specs.declared.views.View.{View}
 use Rattle.packet_words.specs.declared.packet.Packet.{Packet}
 use Rattle.schedule.specs.declared.event.Event.{Event}
 use Rattle.schedule.specs.declared.event.Event.TheVariants.{Run, Enter, Deliver, Lose, Repeat, Tick, Fail, Drive}
-use Rattle.site_machine.specs.packet_wires.specs.Nodes.{end_at}
-use Rattle.site_machine.specs.packet_wires.specs.Play.{Packeted, packet_at}
-use Rattle.site_machine.specs.packet_wires.specs.Wires.{bus_named}
+use Rattle.machine_views.specs.site_machine.specs.packet_wires.specs.Nodes.{end_at}
+use Rattle.machine_views.specs.site_machine.specs.packet_wires.specs.Play.{Packeted, packet_at}
+use Rattle.machine_views.specs.site_machine.specs.packet_wires.specs.Wires.{bus_named}
 use Rattle.trace_lines.specs.declared.finding.Fate.{Fate}
 use Rattle.trace_lines.specs.declared.finding.Fate.TheVariants as fate
 use Rattle.trace_lines.specs.declared.finding.Finding.{Finding}

@@ -9,5 +9,6 @@ pub mod Sets
 pub mod Steps
 pub mod Told
 pub mod Watches
-pub use Rattle.site_machine
+pub use Rattle.machine_views.specs.site_machine
 pub use Rattle.trace_lines
+pub use Rattle.machine_views

@@ -28,16 +28,20 @@ asker_in site words =
 abbrev pub silent_in : List ℤ → ProcessorSet
 silent_in words = record { members = bits_of 16 (number_at 2 words) }
 
+-- a checkpoint, whole or as what changed
+abbrev pub checkpoint_in : List ℤ → MessageName
+checkpoint_in words = name.Checkpoint (small_at 1 words) (long_at 2 words) (long_at 4 words)
+
 -- the message of a kind
 abbrev pub name_of : Site → List ℤ → ℕ → Option MessageName
 name_of site words (suc zero) = Some (name.Request (asker_in site words) (small_at 1 words) (long_at 3 words))
 name_of site words (suc (suc zero)) = Some (name.Reply (asker_in site words) (small_at 1 words) (long_at 3 words))
-name_of site words (suc (suc (suc zero))) =
-    Some (name.Checkpoint (small_at 1 words) (long_at 2 words) (long_at 4 words))
+name_of site words (suc (suc (suc zero))) = Some (checkpoint_in words)
 name_of site words (suc (suc (suc (suc zero)))) =
     Some (name.Taken (small_at 1 words) (long_at 2 words) (long_at 4 words))
 name_of site words (suc (suc (suc (suc (suc zero))))) = Some (name.Report (small_at 1 words) (silent_in words))
 name_of site words (suc (suc (suc (suc (suc (suc zero)))))) = Some (name.Down (small_at 1 words))
+name_of site words (suc (suc (suc (suc (suc (suc (suc zero))))))) = Some (checkpoint_in words)
 name_of site words _ = None
 
 -- the message that words are of, or the first of its words

@@ -8,12 +8,11 @@ use Rattle.link_control.specs.Ends.{End, Sending}
 use Rattle.machine_views.specs.declared.views.CopyView.{CopyView}
 use Rattle.machine_views.specs.declared.views.View.{View}
 use Rattle.packet_words.specs.Pieces.{pieces}
-use Rattle.packet_words.specs.declared.packet.Packet.{Packet}
 use Rattle.schedule.specs.declared.event.Event.{Event}
 use Rattle.schedule.specs.declared.event.Event.TheVariants.{Run, Enter, Deliver, Lose, Repeat, Tick, Fail, Drive}
-use Rattle.site_machine.specs.packet_wires.specs.Nodes.{Node, all_nodes, end_at}
-use Rattle.site_machine.specs.packet_wires.specs.Play.{Packeted, packet_at}
-use Rattle.site_machine.specs.packet_wires.specs.Wires.{bus_named}
+use Rattle.machine_views.specs.site_machine.specs.packet_wires.specs.Nodes.{Node, all_nodes, end_at}
+use Rattle.machine_views.specs.site_machine.specs.packet_wires.specs.Play.{Packeted, packet_at}
+use Rattle.machine_views.specs.site_machine.specs.packet_wires.specs.Wires.{bus_named}
 use Rattle.tal_tree.specs.declared.site.Site.{Site}
 use Rattle.trace_lines.specs.declared.finding.Finding.{Finding}
 use Rattle.trace_lines.specs.declared.finding.Finding.TheVariants as finding

@@ -1,6 +1,6 @@
 -- What is told of an event: a function of the state before it, and so of the state after it, which playing it gives.
 -- Our own.
-use Rattle.std.specs.Prelude.{ℕ, if◌then◌else◌, List, [], ◌∷◌, ◌++◌, length, drop, reverse, option_to_list, Option}
+use Rattle.std.specs.Prelude.{if◌then◌else◌, List, [], ◌∷◌, ◌++◌, length, drop, reverse, option_to_list, Option}
 use Rattle.std.specs.Prelude.{Some, None}
 use Rattle.machine_states.specs.States.{Makes, Played, Skips, Would, effect_of}
 use Rattle.machine_states.specs.declared.effect.Effect.{Effect}
@@ -8,9 +8,9 @@ use Rattle.machine_states.specs.declared.effect.Effect.TheVariants as effect
 use Rattle.machine_views.specs.Views.{view_of}
 use Rattle.machine_views.specs.declared.views.View.{View}
 use Rattle.schedule.specs.declared.event.Event.{Event}
-use Rattle.site_machine.specs.packet_wires.specs.Play.{Packeted, play}
-use Rattle.site_machine.specs.packet_wires.specs.Sights.{state_after}
-use Rattle.site_machine.specs.packet_wires.specs.Wires.{Wires}
+use Rattle.machine_views.specs.site_machine.specs.packet_wires.specs.Play.{Packeted, play}
+use Rattle.machine_views.specs.site_machine.specs.packet_wires.specs.Sights.{state_after}
+use Rattle.machine_views.specs.site_machine.specs.packet_wires.specs.Wires.{Wires}
 use Rattle.tal_tree.specs.declared.act.Shown.{Shown}
 use Rattle.tal_tree.specs.declared.site.Site.{Site}
 use Rattle.trace_lines.specs.declared.finding.Finding.{Finding}

@@ -8,9 +8,9 @@ use Rattle.alive_regroup.specs.declared.neighbour.Neighbour.{Neighbour}
 use Rattle.alive_regroup.specs.declared.set.ProcessorSet.{ProcessorSet}
 use Rattle.schedule.specs.declared.event.Event.{Event}
 use Rattle.schedule.specs.declared.event.Event.TheVariants.{Run, Enter, Deliver, Lose, Repeat, Tick, Fail, Drive}
-use Rattle.site_machine.specs.packet_wires.specs.Lines.{line_pulled}
-use Rattle.site_machine.specs.packet_wires.specs.Play.{Packeted}
-use Rattle.site_machine.specs.packet_wires.specs.Wires.{nothing_sent, ticked}
+use Rattle.machine_views.specs.site_machine.specs.packet_wires.specs.Lines.{line_pulled}
+use Rattle.machine_views.specs.site_machine.specs.packet_wires.specs.Play.{Packeted}
+use Rattle.machine_views.specs.site_machine.specs.packet_wires.specs.Wires.{nothing_sent, ticked}
 use Rattle.trace_lines.specs.declared.finding.Finding.{Finding}
 use Rattle.trace_lines.specs.declared.finding.Finding.TheVariants as finding
 use Rattle.event_findings.specs.declared.noting.Ticking.{Ticking}

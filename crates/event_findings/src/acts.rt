@@ -1,6 +1,5 @@
-ghost use Rattle.std.specs.Prelude.{◌≡◌, ◌++◌, drop, map, reverse, OnOk};
+ghost use Rattle.std.specs.Prelude.{◌≡◌, ◌++◌, drop, map, OnOk};
 ghost use Rattle.std.specs.Option.{option_copied, option_map};
-ghost use Rattle.world_semantics.specs.Kept.{acts_of};
 ghost use Rattle.world_semantics.specs.Shares.{share_of};
 ghost use Rattle.event_findings.specs.Acts.{acting_in, act_named, held_beyond, held_since, holding_at, holding_of};
 ghost use Rattle.event_findings.specs.Acts.{holds_back, keeps, kept_since, share_at};
@@ -8,10 +7,10 @@ ghost use Rattle.event_findings.specs.Acts.{holds_back, keeps, kept_since, share
 use crate::noting::Holding;
 use crate::steps::is_acting;
 use gd_words::{List, NoMemory};
+use machine_views::site_machine::Machine;
+use machine_views::site_machine::node_copies::kept_acts::CopyShare;
+use machine_views::site_machine::process_copies::ProcessCopies;
 use schedule::Event;
-use site_machine::Machine;
-use site_machine::node_copies::kept_acts::CopyShare;
-use site_machine::process_copies::ProcessCopies;
 use tal_tree::Act;
 use trace_lines::{ActName, Finding};
 use world_semantics::Which;

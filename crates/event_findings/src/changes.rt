@@ -1,6 +1,5 @@
 ghost use Rattle.std.specs.Prelude.{◌≡◌, ◌++◌, flat_map, option_to_list, slice_get, OnOk};
 ghost use Rattle.std.specs.Option.{option_map};
-ghost use Rattle.event_findings.specs.Changes as spec;
 ghost use Rattle.event_findings.specs.Changes.{applied, changes_found, copies_found, copy_found, entered_found};
 ghost use Rattle.event_findings.specs.Changes.{had_marked, has_stopped, mark_found, marks_found, own_found, stop_found};
 ghost use Rattle.event_findings.specs.Changes.{had_waiting, still_found, stops_found, takeover_of, wait_found};

@@ -1,8 +1,8 @@
 ghost use Rattle.std.specs.Prelude.{◌≡◌};
 ghost use Rattle.event_findings.specs.Drives as spec;
 
+use machine_views::site_machine::Machine;
 use schedule::Event;
-use site_machine::Machine;
 use trace_lines::Finding;
 
 /// How the drive stands that an event names.

@@ -8,10 +8,10 @@ ghost use Rattle.event_findings.specs.HandedOver.{why_as, why_watching};
 use crate::noting::HandedOver;
 use crate::packets::{fate_of, message_of, sight_of, sort_of};
 use link_control::Channel;
+use machine_views::site_machine::Machine;
 use machine_views::{CopyView, View};
 use packet_words::Packet;
 use schedule::Event;
-use site_machine::Machine;
 use trace_lines::{Fate, Finding, MessageName, PacketSort, WhyIgnored};
 use world_semantics::Role;
 

@@ -3,7 +3,7 @@ ghost use Rattle.std.specs.Prelude.{◌≡◌};
 ghost use Rattle.machine_states.specs.States.{Settles};
 ghost use Rattle.machine_states.specs.declared.effect.Effect.{Effect};
 ghost use Rattle.schedule.specs.declared.event.Event.{Event};
-ghost use Rattle.site_machine.specs.packet_wires.specs.Play.{Packeted, play};
+ghost use Rattle.machine_views.specs.site_machine.specs.packet_wires.specs.Play.{Packeted, play};
 ghost use Rattle.tal_tree.specs.declared.site.Site.{Site};
 ghost use Rattle.event_findings.specs.Told.{found, noted_of, shown_after, shown_by, told};
 

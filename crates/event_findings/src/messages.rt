@@ -1,11 +1,11 @@
 ghost use Rattle.std.specs.Prelude.{◌≡◌, ◌≤◌};
 ghost use Rattle.packet_words.specs.Telling.{number_at};
 ghost use Rattle.event_findings.specs.Messages as spec;
-ghost use Rattle.event_findings.specs.Messages.{asker_in, long_at, name_of, silent_in, small_at};
+ghost use Rattle.event_findings.specs.Messages.{asker_in, checkpoint_in, long_at, name_of, silent_in, small_at};
 
 use alive_regroup::ProcessorSet;
+use machine_views::site_machine::Machine;
 use message_words::set_of;
-use site_machine::Machine;
 use tal_tree::Who;
 use trace_lines::MessageName;
 
@@ -31,11 +31,7 @@ fn name_of(machine: &Machine, words: &[i16], kind: u16) -> Option<MessageName>
             process: small_at(1, words),
             number: long_at(3, words),
         }),
-        3 => Some(MessageName::Checkpoint {
-            process: small_at(1, words),
-            era: long_at(2, words),
-            number: long_at(4, words),
-        }),
+        3 => Some(checkpoint_in(words)),
         4 => Some(MessageName::Taken {
             process: small_at(1, words),
             era: long_at(2, words),
@@ -46,7 +42,19 @@ fn name_of(machine: &Machine, words: &[i16], kind: u16) -> Option<MessageName>
             silent: silent_in(words),
         }),
         6 => Some(MessageName::Down(small_at(1, words))),
+        7 => Some(checkpoint_in(words)),
         _ => None,
+    }
+}
+
+/// A checkpoint, whole or as what changed.
+fn checkpoint_in(words: &[i16]) -> MessageName
+    ensures { result ≡ checkpoint_in words.now }
+{
+    MessageName::Checkpoint {
+        process: small_at(1, words),
+        era: long_at(2, words),
+        number: long_at(4, words),
     }
 }
 

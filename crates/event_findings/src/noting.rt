@@ -8,9 +8,9 @@ use crate::sends::queued_by;
 use crate::watches::ticking_of;
 use alive_regroup::Watch;
 use gd_words::{List, NoMemory};
+use machine_views::site_machine::Machine;
 use machine_views::{View, view};
 use schedule::Event;
-use site_machine::Machine;
 use std::alloc::Global;
 use trace_lines::{Finding, MessageName};
 

@@ -10,9 +10,9 @@ ghost use Rattle.event_findings.specs.Packets.{taken_in, words_for};
 use crate::messages::message_named;
 use gd_words::List;
 use link_control::Channel;
+use machine_views::site_machine::Machine;
 use packet_words::{Packet, PacketKind};
 use schedule::Event;
-use site_machine::Machine;
 use trace_lines::{Fate, Finding, MessageName, PacketSight, PacketSort};
 
 /// The node of the terminals, which doesn't stop.

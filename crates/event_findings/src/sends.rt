@@ -1,7 +1,7 @@
-ghost use Rattle.std.specs.Prelude.{◌≡◌, ◌++◌, flat_map, map, IfOk, OnOk};
+ghost use Rattle.std.specs.Prelude.{◌≡◌, ◌++◌, map, IfOk, OnOk};
 ghost use Rattle.std.specs.Option.{option_copied, option_map};
-ghost use Rattle.site_machine.specs.packet_wires.specs.Play.{packet_at};
-ghost use Rattle.site_machine.specs.packet_wires.specs.Wires.{bus_named};
+ghost use Rattle.machine_views.specs.site_machine.specs.packet_wires.specs.Play.{packet_at};
+ghost use Rattle.machine_views.specs.site_machine.specs.packet_wires.specs.Wires.{bus_named};
 ghost use Rattle.event_findings.specs.Sends as spec;
 ghost use Rattle.event_findings.specs.Sends.{before_first, count_at, last_behind, queued_at, queued_for, sender_of};
 ghost use Rattle.event_findings.specs.Sends.{sends, sends_behind, sends_of, sends_since, sends_unless};
@@ -14,8 +14,8 @@ use crate::steps::acting_of;
 use gd_words::{List, NoMemory};
 use link_control::{Channel, Sender};
 use machine_views::View;
+use machine_views::site_machine::Machine;
 use schedule::Event;
-use site_machine::Machine;
 use std::alloc::Global;
 use trace_lines::{Finding, MessageName};
 

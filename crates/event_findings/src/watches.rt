@@ -6,8 +6,8 @@ use crate::changes::put_any;
 use crate::noting::Ticking;
 use alive_regroup::{Neighbour, ProcessorSet, Watch};
 use gd_words::{List, NoMemory};
+use machine_views::site_machine::Machine;
 use schedule::Event;
-use site_machine::Machine;
 use trace_lines::Finding;
 
 /// The numbers of processors.

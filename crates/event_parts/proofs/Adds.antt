@@ -11,11 +11,11 @@ use Rattle.link_control.specs.Ends.{sent_by_tick, after_down}
 use Rattle.alive_regroup.specs.declared.set.ProcessorSet.{ProcessorSet}
 use Rattle.alive_regroup.specs.Watching as watching
 use Rattle.alive_regroup.specs.Watching.{Watching, changed_at, told_by_tick}
-use Rattle.world_semantics.specs.World.{is_running, terminal_node}
-use Rattle.packet_wires.specs.letters.specs.Routes.{Letter}
-use Rattle.packet_wires.specs.message_layout.specs.Messages.{NodeMessage, Carrying, Reporting, Declaring}
+use Rattle.packet_wires.specs.world_semantics.specs.World.{is_running, terminal_node}
+use Rattle.packet_wires.specs.message_layout.specs.Messages.{NodeMessage, Reporting, Declaring}
 use Rattle.packet_wires.specs.message_layout.specs.Layout.{words_of}
 use Rattle.packet_wires.specs.Nodes.{Node, all_nodes, others, with_end, with_watch}
+use Rattle.packet_wires.specs.Parcels.{Parcel}
 use Rattle.packet_wires.specs.Wires.{Midst, Outgoing, nothing_sent, goes_over, any_goes_over, goes_again, at_node}
 use Rattle.packet_wires.specs.Wires.{at_end_of, at_end, end_changed, watch_changed, learns, for_each, push_at, sends}
 use Rattle.packet_wires.specs.Wires.{sends_all, posted, all_posted, bus_of_answer, heard_of, arrive_at, arrived}
@@ -124,17 +124,17 @@ adds-sends x y message = adds-push x y (words_of message)
 pub adds-sends-all : (x : ℕ) (message : NodeMessage) (ys : List ℕ) → OnlyAdds (sends_all x message ys)
 adds-sends-all x message = adds-for-each (λ y. sends x y message) (λ y. adds-sends x y message)
 
-adds-posted : (stopped : List Bool) (letter : Letter) → OnlyAdds (posted stopped letter)
-adds-posted stopped letter =
-    adds-if (is_running stopped letter.sender) (sends letter.sender letter.receiver (Carrying letter.message))
+adds-posted : (stopped : List Bool) (parcel : Parcel) → OnlyAdds (posted stopped parcel)
+adds-posted stopped parcel =
+    adds-if (is_running stopped parcel.sender) (sends parcel.sender parcel.receiver parcel.content)
     (λ midst. midst)
-    (adds-sends letter.sender letter.receiver (Carrying letter.message)) adds-nothing
+    (adds-sends parcel.sender parcel.receiver parcel.content) adds-nothing
 
-pub adds-all-posted : (stopped : List Bool) (letters : List Letter) → OnlyAdds (all_posted stopped letters)
+pub adds-all-posted : (stopped : List Bool) (parcels : List Parcel) → OnlyAdds (all_posted stopped parcels)
 adds-all-posted stopped [] = adds-nothing
-adds-all-posted stopped (letter ∷ letters) =
-    adds-then (posted stopped letter) (all_posted stopped letters) (adds-posted stopped letter)
-    (adds-all-posted stopped letters)
+adds-all-posted stopped (parcel ∷ parcels) =
+    adds-then (posted stopped parcel) (all_posted stopped parcels) (adds-posted stopped parcel)
+    (adds-all-posted stopped parcels)
 
 pub adds-arrived : (name : BusName) (packet : Packet) → OnlyAdds (arrived name packet)
 adds-arrived name packet =

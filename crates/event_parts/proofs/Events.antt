@@ -7,7 +7,7 @@ use Rattle.packet_words.specs.declared.bus_name.BusName.{BusName}
 use Rattle.packet_words.specs.declared.bus_name.BusName.TheVariants as bus
 use Rattle.packet_words.specs.declared.packet.Packet.{Packet}
 use Rattle.packet_wires.specs.machine_states.specs.States.{Makes, Skips}
-use Rattle.world_semantics.specs.World.{is_running}
+use Rattle.packet_wires.specs.world_semantics.specs.World.{is_running}
 use Rattle.packet_wires.specs.Lines.{line_pulled}
 use Rattle.packet_wires.specs.Nodes.{Node}
 use Rattle.packet_wires.specs.Play.{Packeted, Underway, begun, deliver_acted, ended, handed_words, packet_at, play}

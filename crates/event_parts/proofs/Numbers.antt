@@ -15,12 +15,12 @@ use Rattle.link_control.specs.Ends.{sent_by_push, sent_by_tick}
 use Rattle.alive_regroup.specs.declared.set.ProcessorSet.{ProcessorSet}
 use Rattle.alive_regroup.specs.Watching as watching
 use Rattle.alive_regroup.specs.Watching.{Watching, changed_at, told_by_tick}
-use Rattle.world_semantics.specs.World.{is_running, terminal_node}
-use Rattle.world_semantics.proofs.Lists.{set-all}
-use Rattle.packet_wires.specs.letters.specs.Routes.{Letter}
-use Rattle.packet_wires.specs.message_layout.specs.Messages.{NodeMessage, Carrying, Reporting, Declaring}
+use Rattle.packet_wires.specs.world_semantics.specs.World.{is_running, terminal_node}
+use Rattle.packet_wires.specs.world_semantics.proofs.Lists.{set-all}
+use Rattle.packet_wires.specs.message_layout.specs.Messages.{NodeMessage, Reporting, Declaring}
 use Rattle.packet_wires.specs.message_layout.specs.Layout.{words_of}
 use Rattle.packet_wires.specs.Nodes.{Node, all_nodes, others, with_end, with_watch}
+use Rattle.packet_wires.specs.Parcels.{Parcel}
 use Rattle.packet_wires.specs.Wires as wires
 use Rattle.packet_wires.specs.Wires.{Midst, goes_over, any_goes_over, goes_again, at_node, at_end_of, at_end}
 use Rattle.packet_wires.specs.Wires.{end_changed, watch_changed, learns, for_each, push_at, sends, sends_all, posted}
@@ -201,18 +201,18 @@ can-arrived name packet midst left can =
 can-sends-all : (x : ℕ) (message : NodeMessage) (ys : List ℕ) → Keeps (sends_all x message ys)
 can-sends-all x message = can-for-each (λ y. sends x y message) (λ y. can-push x y (words_of message))
 
-can-posted : (stopped : List Bool) (letter : Letter) → Keeps (posted stopped letter)
-can-posted stopped letter midst can = by (is_running stopped letter.sender)
+can-posted : (stopped : List Bool) (parcel : Parcel) → Keeps (posted stopped parcel)
+can-posted stopped parcel midst can = by (is_running stopped parcel.sender)
   where
-    by : (runs : Bool) → CanPush (if runs then sends letter.sender letter.receiver (Carrying letter.message) midst else
+    by : (runs : Bool) → CanPush (if runs then sends parcel.sender parcel.receiver parcel.content midst else
         midst).nodes
-    by true = can-push letter.sender letter.receiver (words_of (Carrying letter.message)) midst can
+    by true = can-push parcel.sender parcel.receiver (words_of parcel.content) midst can
     by false = can
 
-pub can-all-posted : (stopped : List Bool) (letters : List Letter) → Keeps (all_posted stopped letters)
+pub can-all-posted : (stopped : List Bool) (parcels : List Parcel) → Keeps (all_posted stopped parcels)
 can-all-posted stopped [] midst can = can
-can-all-posted stopped (letter ∷ letters) midst can =
-    can-all-posted stopped letters (posted stopped letter midst) (can-posted stopped letter midst can)
+can-all-posted stopped (parcel ∷ parcels) midst can =
+    can-all-posted stopped parcels (posted stopped parcel midst) (can-posted stopped parcel midst can)
 
 pub can-tells-alive : (processors x : ℕ) → Keeps (tells_alive processors x)
 can-tells-alive processors x midst can = by (x == terminal_node)

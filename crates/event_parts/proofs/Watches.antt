@@ -11,8 +11,8 @@ use Rattle.link_control.specs.Ends.{End, packet_of, after_push, sent_by_push, af
 use Rattle.alive_regroup.specs.declared.set.ProcessorSet.{ProcessorSet}
 use Rattle.alive_regroup.specs.Watching as watching
 use Rattle.alive_regroup.specs.Watching.{told_by_tick}
-use Rattle.world_semantics.specs.World.{terminal_node}
-use Rattle.world_semantics.proofs.Lists.{set-there}
+use Rattle.packet_wires.specs.world_semantics.specs.World.{terminal_node}
+use Rattle.packet_wires.specs.world_semantics.proofs.Lists.{set-there}
 use Rattle.packet_wires.specs.message_layout.specs.Messages.{Reporting}
 use Rattle.packet_wires.specs.message_layout.specs.Layout.{words_of}
 use Rattle.packet_wires.specs.Nodes.{Node, all_nodes, others, with_end}

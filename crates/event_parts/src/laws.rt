@@ -6,8 +6,8 @@ ghost use Rattle.packet_words.specs.declared.bus_name.BusName.{BusName};
 ghost use Rattle.packet_words.specs.declared.packet.Packet.{Packet};
 ghost use Rattle.alive_regroup.specs.Watching.{Watching, after_tick};
 ghost use Rattle.packet_wires.specs.machine_states.specs.States.{Makes};
-ghost use Rattle.world_semantics.specs.World.{is_running};
-ghost use Rattle.packet_wires.specs.letters.specs.Routes.{Letter};
+ghost use Rattle.packet_wires.specs.world_semantics.specs.World.{is_running};
+ghost use Rattle.packet_wires.specs.Parcels.{Parcel};
 ghost use Rattle.packet_wires.specs.message_layout.specs.Messages.{NodeMessage};
 ghost use Rattle.packet_wires.specs.Lines.{line_pulled};
 ghost use Rattle.packet_wires.specs.Play.{Packeted, begun, over, packet_at, play};
@@ -52,7 +52,7 @@ pub fn what_nodes_do_only_adds()
     ensures learns { (x : ℕ) (change : Watching → Watching) → OnlyAdds (learns x change) }
     ensures pushes { (x y : ℕ) (words : List ℤ) → OnlyAdds (at_end x y (push_at x y words)) }
     ensures sends { (x y : ℕ) (message : NodeMessage) → OnlyAdds (sends x y message) }
-    ensures posts { (stopped : List Bool) (letters : List Letter) → OnlyAdds (all_posted stopped letters) }
+    ensures posts { (stopped : List Bool) (parcels : List Parcel) → OnlyAdds (all_posted stopped parcels) }
     ensures arrives { (name : BusName) (packet : Packet) → OnlyAdds (arrived name packet) }
     ensures ticks { (processors x : ℕ) → OnlyAdds (ticked processors x) }
     ensures cuts { (x y : ℕ) → OnlyAdds (cut_off x y) }
@@ -66,8 +66,8 @@ pub fn each_push_finds_a_number()
         → CanPush (learns x change midst).nodes }
     ensures pushes { (x y : ℕ) (words : List ℤ) (midst : Midst) → CanPush midst.nodes
         → CanPush (at_end x y (push_at x y words) midst).nodes }
-    ensures posts { (stopped : List Bool) (letters : List Letter) (midst : Midst) → CanPush midst.nodes
-        → CanPush (all_posted stopped letters midst).nodes }
+    ensures posts { (stopped : List Bool) (parcels : List Parcel) (midst : Midst) → CanPush midst.nodes
+        → CanPush (all_posted stopped parcels midst).nodes }
     ensures arrives { (name : BusName) (packet : Packet) (midst : Midst)
         → HasNumbersAt packet.receiver packet.sender midst.nodes → CanPush midst.nodes
         → CanPush (arrived name packet midst).nodes }

@@ -2,10 +2,10 @@
 use Rattle.std.proofs.Common.{◌≡◌, ℕ, List, slice_get, Some, refl}
 use Rattle.std.specs.List.{slice_index_or}
 use Rattle.std.proofs.lemmas.Option.{slice_get-get_or}
-use Rattle.tal_laws.proofs.Ordered.{read_is_ordered}
-use Rattle.tal_laws.proofs.Regular.{read_is_regular}
-use Rattle.tal_laws.proofs.WithinLimits.{read_is_within}
-use Rattle.tal_reader.specs.Reads.{Reads}
+use Rattle.deck_reader.specs.tal_laws.proofs.Ordered.{read_is_ordered}
+use Rattle.deck_reader.specs.tal_laws.proofs.Regular.{read_is_regular}
+use Rattle.deck_reader.specs.tal_laws.proofs.WithinLimits.{read_is_within}
+use Rattle.deck_reader.specs.tal_reader.specs.Reads.{Reads}
 use Rattle.tal_tree.specs.declared.program.Program.{Program}
 use Rattle.tal_tree.specs.declared.site.Kind.{Kind}
 use Rattle.tal_tree.specs.declared.site.Kind.TheVariants as kind

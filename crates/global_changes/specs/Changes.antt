@@ -1,7 +1,7 @@
 -- The words of globals that differ between two images of a program with all of its globals: behind the frames and the
 -- count of the globals that have words, each of these stands with its number and its words.
 use Rattle.std.specs.Ordering.{int_eq}
-use Rattle.std.specs.Prelude.{ℕ, ◌+◌, ℤ, if◌then◌else◌, List, [], ◌∷◌, ◌++◌, take, drop, Option, Some, None}
+use Rattle.std.specs.Prelude.{ℕ, ◌+◌, ℤ, if◌then◌else◌, List, [], ◌∷◌, ◌++◌, take, drop, Some, None}
 use Rattle.image_places.specs.Running.{Running, running_in}
 use Rattle.process_semantics.specs.Words.{Front}
 use Rattle.tal_tree.specs.Shapes.{has_words, width}

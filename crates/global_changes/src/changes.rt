@@ -1,4 +1,4 @@
-ghost use Rattle.std.specs.Prelude.{◌≡◌, ◌++◌, drop, take, IfOk, OnOk};
+ghost use Rattle.std.specs.Prelude.{◌≡◌, ◌++◌, drop, IfOk, OnOk};
 ghost use Rattle.global_changes.specs.Changes as spec;
 ghost use Rattle.global_changes.specs.Changes.{globals_in, item_set, items_set, later_words, own_words, word_set};
 ghost use Rattle.tal_tree.specs.Shapes.{has_words};

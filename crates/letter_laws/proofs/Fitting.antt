@@ -18,7 +18,7 @@ use Rattle.letter_laws.specs.Known.{CheckpointsNameFiles}
 use Rattle.letter_laws.proofs.Honest.{played-honest}
 use Rattle.letter_laws.proofs.Reached.{IsReached}
 
-sent-fit : (site : Site) (events : ℕ) (w : World) → IsReached site w → Invariant site events w
+pub sent-fit : (site : Site) (events : ℕ) (w : World) → IsReached site w → Invariant site events w
     → CheckpointsNameFiles site w → (node : ℕ) (message : Message)
     → IsSent w message → FitsWhereItComes site w node message
 sent-fit site events w reached invariant files node (Asking request) sent = tt

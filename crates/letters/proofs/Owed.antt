@@ -1,8 +1,8 @@
 -- What is owed was sent.
 use Rattle.std.proofs.Common.{◌≡◌, inl, inr, ℕ, List, ◌∷◌, ◌++◌, refl}
-use Rattle.gd_words.specs.Members.{IsAmong}
-use Rattle.gd_words.proofs.Among.{among-left, among-right, among-either}
-use Rattle.tal_tree.specs.declared.site.Site.{Site}
+use Rattle.world_semantics.specs.gd_words.specs.Members.{IsAmong}
+use Rattle.world_semantics.specs.gd_words.proofs.Among.{among-left, among-right, among-either}
+use Rattle.world_semantics.specs.tal_tree.specs.declared.site.Site.{Site}
 use Rattle.schedule.specs.declared.event.Event.{Event}
 use Rattle.world_semantics.proofs.Members.{among-filter}
 use Rattle.letters.specs.Posts.{Post, with_letters, without_those_between, IsTaken, takes_first, takes_later}

@@ -1,6 +1,6 @@
 -- What is done to posts is done to their worlds as well.
 use Rattle.std.proofs.Common.{List, [], ◌∷◌, ◌++◌}
-use Rattle.tal_tree.specs.declared.site.Site.{Site}
+use Rattle.world_semantics.specs.tal_tree.specs.declared.site.Site.{Site}
 use Rattle.schedule.specs.declared.event.Event.{Event}
 use Rattle.world_semantics.specs.Follows.{Follows, NotesDowns, marks_none, marks_one, Leads, stays, goes_on, IsRun}
 use Rattle.world_semantics.specs.Follows as follows

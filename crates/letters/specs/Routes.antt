@@ -3,10 +3,10 @@
 -- own form of it.
 use Rattle.std.specs.Prelude.{ℕ, ◌==◌, ◌&&◌, ◌||◌, Bool, if◌then◌else◌, List, filter_map, slice_get, Option, Some, None}
 use Rattle.std.specs.Option.{option_map, option_and_then}
-use Rattle.tal_tree.specs.declared.site.Site.{Site}
-use Rattle.tal_tree.specs.declared.site.OpenerSpec.{OpenerSpec}
-use Rattle.tal_tree.specs.declared.site.Who.{Who}
-use Rattle.tal_tree.specs.declared.site.Who.TheVariants as who
+use Rattle.world_semantics.specs.tal_tree.specs.declared.site.Site.{Site}
+use Rattle.world_semantics.specs.tal_tree.specs.declared.site.OpenerSpec.{OpenerSpec}
+use Rattle.world_semantics.specs.tal_tree.specs.declared.site.Who.{Who}
+use Rattle.world_semantics.specs.tal_tree.specs.declared.site.Who.TheVariants as who
 use Rattle.world_semantics.specs.plain_semantics.specs.Openers.{openers_of}
 use Rattle.world_semantics.specs.World.{Pair, Down, World, terminal_node, has_noted}
 use Rattle.world_semantics.specs.Messages.{Message, Asking, Replying, Checkpointing, Taking, Sending}

@@ -43,9 +43,11 @@ use Rattle.letters_layout.proofs.Replies.{done-answers}
 use Rattle.computed_changes.specs.Laws.{IsSent}
 use Rattle.letter_laws.specs.takeover_laws.specs.Fit.{IsFit}
 use Rattle.letter_laws.specs.takeover_laws.proofs.Kept.{run-keeps}
-use Rattle.message_layout.specs.Messages.{Carrying}
+use Rattle.change_layout.specs.Changing.{change_of}
+use Rattle.message_layout.specs.Messages.{Carrying, Changing}
 use Rattle.letters_layout.specs.Fitting.{IsSmall}
 use Rattle.message_layout.specs.Layout.{Fits}
+use Rattle.letters_layout.proofs.Changes.{HasFewKept, change-within}
 use Rattle.letters_layout.proofs.Numbered.{WasMade, run-known}
 use Rattle.letters_layout.proofs.Requests.{few-of}
 
@@ -155,7 +157,7 @@ module _ (site : Site) (fit : IsFit site) (small : IsSmall site) (n before numbe
       by (opener ∷ openers) (suc place) low = by openers place (omega (arith, low))
 
   kept-few : (place : ℕ) (block : OpenerBlock) → slice_get core.receive.openers place ≡ Some block
-      → length block.kept ≤ 32767
+      → length block.kept ≤ 4
   kept-few place block there =
       let opener = opener-there place block there in
       let is = kept-last made.done place block there opener.0 opener.1 in
@@ -200,7 +202,8 @@ module _ (site : Site) (fit : IsFit site) (small : IsSmall site) (n before numbe
       openers = subst (λ (i : Image). length i.receive.openers ≤ 32767) (sym is)
           (let l = openers-same made.done in let few = small.openers number in omega (arith, l, few));
       kept = subst (λ (i : Image). All (λ block. length block.kept ≤ 32767) i.receive.openers) (sym is)
-          (at-each (λ block. length block.kept ≤ 32767) core.receive.openers kept-few);
+          (at-each (λ block. length block.kept ≤ 32767) core.receive.openers (λ place block there.
+          let few = kept-few place block there in omega (arith, few)));
       in_hand = subst (λ (i : Image). IsPlace i.receive.in_hand) (sym is) hand-place;
     };
     process = let low = number-there in let few = small.processes in omega (arith, same, low, few);
@@ -212,6 +215,14 @@ module _ (site : Site) (fit : IsFit site) (small : IsSmall site) (n before numbe
     openers = subst (λ (i : Image). All IsOpener i.receive.openers) (sym is)
         (at-each IsOpener core.receive.openers (λ place block there.
         record { taken = taken-few place block there; replies = kept-short place block there }));
+  }
+
+  image-few : (message : ImageMessage) → message.image ≡ carried core → HasFewKept message
+  image-few message is = record {
+    openers = subst (λ (i : Image). length i.receive.openers < 4096) (sym is)
+        (let l = openers-same made.done in let few = small.openers number in omega (arith, l, few));
+    kept = subst (λ (i : Image). All (λ block. length block.kept ≤ 4) i.receive.openers) (sym is)
+        (at-each (λ block. length block.kept ≤ 4) core.receive.openers kept-few);
   }
 
 module _ (site : Site) (fit : IsFit site) (small : IsSmall site) (events : List Event) (w : World)
@@ -228,6 +239,17 @@ module _ (site : Site) (fit : IsFit site) (small : IsSmall site) (events : List 
         within = image-lies site fit small (length events) one.before message.process few one.less one.core one.made
             message refl one.era one.count one.same;
         known = le-leb (suc message.process) (length site.processes) (there-spec message.process pair there);
+      }
+
+  pub change-fits : (before message : ImageMessage) → IsSent w (Checkpointing message)
+      → Fits site (Changing (change_of before message))
+  change-fits before message (pair, there, among) =
+      let one = (run-known site fit events w few run message.process pair there).checkpoints message among in
+      let whole = checkpoint-fits message (pair, there, among) in record {
+        within = change-within before message whole.within
+            (image-few site fit small (length events) one.before message.process few one.less one.core one.made message
+            one.same);
+        known = whole.known;
       }
 
   pub taken-fits : (taken : TakenMessage) → IsSent w (Taking taken) → Fits site (Carrying (Taking taken))

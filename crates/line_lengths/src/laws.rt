@@ -6,7 +6,7 @@ ghost use Rattle.player.specs.declared.player.Player.{Player};
 ghost use Rattle.player.specs.declared.standing.Sizes.{Sizes};
 ghost use Rattle.player.specs.declared.stop.ProcessorStop.{ProcessorStop};
 ghost use Rattle.agendas.specs.Agendas.{Agenda};
-ghost use Rattle.machine_states.specs.States.{State};
+ghost use Rattle.schedule_loop.specs.machine_states.specs.States.{State};
 ghost use Rattle.schedule_loop.specs.Rules.{PlaysBy, sight_of};
 ghost use Rattle.line_lengths.specs.Lengths.{KeepsTo, Room, most_events};
 

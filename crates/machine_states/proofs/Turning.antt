@@ -1,6 +1,6 @@
 -- What an event of a drive makes of a state: another one of the same site, world and wires, or none.
 use Rattle.std.proofs.Common.{◌≡◌, ℕ, List, slice_set}
-use Rattle.disc_device.specs.mirror.specs.declared.state.DriveState.{DriveState}
+use Rattle.world_semantics.specs.disc_device.specs.mirror.specs.declared.state.DriveState.{DriveState}
 use Rattle.schedule.specs.declared.event.DriveEvent.{DriveEvent}
 use Rattle.machine_states.specs.Drives.{Turned, Turns, Rests, Loses, drives_turned}
 use Rattle.machine_states.specs.States.{State, Played, Makes, Skips, Would, DiscLoss, drive_played, played_turn}

@@ -2,12 +2,14 @@
 -- revived while its disc goes on is Tandem's; the events are our own.
 use Rattle.std.specs.Prelude.{ℕ, ◌==◌, ◌&&◌, Bool, nat_lt, if◌then◌else◌, List, length, map, replicate, slice_get}
 use Rattle.std.specs.Prelude.{Option, Some, None, true, false}
-use Rattle.disc_device.specs.mirror.specs.Mirror.{is_failed, is_reviving}
-use Rattle.disc_device.specs.mirror.specs.States.{failing_of, standing, states_copied, states_failed, states_revived}
-use Rattle.disc_device.specs.mirror.specs.declared.state.DriveState.{DriveState}
-use Rattle.disc_device.specs.mirror.specs.declared.state.DriveState.TheVariants.{Working}
-use Rattle.disc_device.specs.mirror.specs.declared.state.Failing.{Failing}
-use Rattle.disc_device.specs.mirror.specs.declared.state.Failing.TheVariants.{Done, AlreadyFailed, LastOne}
+use Rattle.world_semantics.specs.disc_device.specs.mirror.specs.Mirror.{is_failed, is_reviving}
+use Rattle.world_semantics.specs.disc_device.specs.mirror.specs.States.{failing_of, standing, states_copied}
+use Rattle.world_semantics.specs.disc_device.specs.mirror.specs.States.{states_failed, states_revived}
+use Rattle.world_semantics.specs.disc_device.specs.mirror.specs.declared.state.DriveState.{DriveState}
+use Rattle.world_semantics.specs.disc_device.specs.mirror.specs.declared.state.DriveState.TheVariants.{Working}
+use Rattle.world_semantics.specs.disc_device.specs.mirror.specs.declared.state.Failing.{Failing}
+use Rattle.world_semantics.specs.disc_device.specs.mirror.specs.declared.state.Failing.TheVariants.{Done, AlreadyFailed}
+use Rattle.world_semantics.specs.disc_device.specs.mirror.specs.declared.state.Failing.TheVariants.{LastOne}
 use Rattle.schedule.specs.declared.event.DriveChange.{DriveChange}
 use Rattle.schedule.specs.declared.event.DriveChange.TheVariants.{Break, Revive, Copy}
 use Rattle.schedule.specs.declared.event.DriveEvent.{DriveEvent}

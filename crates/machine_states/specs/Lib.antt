@@ -1,3 +1,3 @@
 pub mod Drives
 pub mod States
-pub use Rattle.disc_device
+pub use Rattle.world_semantics.specs.disc_device

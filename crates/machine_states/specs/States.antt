@@ -1,6 +1,6 @@
 -- The states of machines of copies: our own form.
 use Rattle.std.specs.Prelude.{◌≡◌, ℕ, List, slice_set}
-use Rattle.disc_device.specs.mirror.specs.declared.state.DriveState.{DriveState}
+use Rattle.world_semantics.specs.disc_device.specs.mirror.specs.declared.state.DriveState.{DriveState}
 use Rattle.schedule.specs.declared.event.DriveEvent.{DriveEvent}
 use Rattle.world_semantics.specs.tal_tree.specs.declared.site.Site.{Site}
 use Rattle.world_semantics.specs.World.{World}

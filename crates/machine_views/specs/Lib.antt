@@ -2,3 +2,4 @@ pub mod Examples
 pub mod Orders
 pub mod Seen
 pub mod Views
+pub use Rattle.site_machine

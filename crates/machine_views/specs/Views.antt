@@ -9,7 +9,7 @@ use Rattle.process_semantics.specs.declared.point.Point.{Point}
 use Rattle.process_semantics.specs.declared.point.Point.TheVariants.{Await}
 use Rattle.process_semantics.specs.Image.{image_of}
 use Rattle.process_semantics.specs.Process.{ProcessState, asked_file, point}
-use Rattle.processes.specs.Seen.{next_number_of}
+use Rattle.site_machine.specs.processes.specs.Seen.{next_number_of}
 use Rattle.world_semantics.specs.Core.{Core, next_on}
 use Rattle.world_semantics.specs.World as world
 use Rattle.world_semantics.specs.World.{Copy, Pair, World, has_noted, terminal_node}

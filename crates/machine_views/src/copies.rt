@@ -8,12 +8,12 @@ use crate::views::{Awaited, CopyView};
 use checkpoint_image::FileNumber;
 use file_calls::Waiting;
 use gd_words::{List, NoMemory, Request};
-use process_control::CopyControl;
 use process_semantics::Point;
-use processes::Process;
 use sendings::copy_request;
 use site_machine::node_copies::NodeCopy;
+use site_machine::process_control::CopyControl;
 use site_machine::process_copies::ProcessCopies;
+use site_machine::processes::Process;
 use std::alloc::Global;
 use world_semantics::Which;
 

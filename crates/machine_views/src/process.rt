@@ -1,13 +1,13 @@
 ghost use Rattle.std.specs.Prelude.{◌≡◌, ◌≤◌, [], length, IfOk};
 ghost use Rattle.process_images.specs.Images.{everything_of, listable_from};
 ghost use Rattle.process_semantics.specs.Process.{asked_file, point};
-ghost use Rattle.processes.specs.Seen.{state_of};
+ghost use Rattle.site_machine.specs.processes.specs.Seen.{state_of};
 ghost use Rattle.tal_tree.specs.Shapes.{has_words};
 ghost use Rattle.machine_views.specs.Views.{image_of_everything};
 
 use checkpoint_image::{Behaviour, Listed};
 use gd_words::{List, NoMemory};
-use processes::Process;
+use site_machine::processes::Process;
 use std::alloc::Global;
 use tal_tree::{Item, Shape};
 

@@ -5,7 +5,8 @@ use Rattle.tal_tree.specs.declared.site.Site.{Site}
 use Rattle.checkpoint_image.proofs.Readers.{number-reads}
 use Rattle.checkpoint_image.proofs.Messages.{read-again}
 use Rattle.world_semantics.specs.Messages.{Message, Asking, Replying, Checkpointing, Taking}
-use Rattle.message_layout.specs.Messages.{NodeMessage, Carrying, Reporting, Declaring, is_known}
+use Rattle.change_layout.proofs.Messages as changes
+use Rattle.message_layout.specs.Messages.{NodeMessage, Carrying, Changing, Reporting, Declaring, is_known}
 use Rattle.message_layout.specs.Layout.{words_of, Fits, IsCarriedWithin, IsWithin}
 use Rattle.message_layout.specs.Reading.{node_message_in, if_known, understood}
 use Rattle.message_layout.proofs.Readers.{request-reads, answer-reads, taken-reads, report-reads, whole-again}
@@ -25,6 +26,7 @@ carried-again (Taking taken) is =
 
 pub written-again : (message : NodeMessage) → IsWithin message → node_message_in (words_of message) ≡ Some message
 written-again (Carrying message) is = carried-again message is
+written-again (Changing change) is = ap (option_map (λ change. Changing change)) (changes.read-again change is)
 written-again (Reporting node silent) is =
     ap (option_map (λ (node, silent). Reporting node silent)) (whole-again report-reads (node, silent) (is.0, is.1))
 written-again (Declaring processor) is =

@@ -8,7 +8,9 @@ use Rattle.checkpoint_image.specs.Reading.{number_in, message_in}
 use Rattle.checkpoint_image.proofs.Readers.{number-reads}
 use Rattle.checkpoint_image.proofs.Messages.{read-exact}
 use Rattle.world_semantics.specs.Messages.{Asking, Replying, Checkpointing, Taking}
-use Rattle.message_layout.specs.Messages.{NodeMessage, Carrying, Reporting, Declaring, is_known}
+use Rattle.change_layout.proofs.Messages as changes
+use Rattle.change_layout.specs.Reading as changes_in
+use Rattle.message_layout.specs.Messages.{NodeMessage, Carrying, Changing, Reporting, Declaring, is_known}
 use Rattle.message_layout.specs.Layout.{words_of, Fits, IsWithin}
 use Rattle.message_layout.specs.Reading.{request_in, answer_in, taken_in, report_in, message_of_kind, node_message_in}
 use Rattle.message_layout.specs.Reading.{if_known, understood}
@@ -56,7 +58,10 @@ of-kind (suc (suc (suc (suc (suc (suc zero)))))) words message is =
     told (whole (number_in 15 words)) (λ processor. Declaring processor) (pos 6 ∷ words) message
     (λ processor found. let was = whole-exact (number-reads 15) words processor found in
     (ap (λ (ws : List ℤ). pos 6 ∷ ws) was.0, was.1)) is
-of-kind (suc (suc (suc (suc (suc (suc (suc more))))))) words message is = absurd cc
+of-kind (suc (suc (suc (suc (suc (suc (suc zero))))))) words message is =
+    told (changes_in.message_in (pos 7 ∷ words)) (λ change. Changing change) (pos 7 ∷ words) message
+    (λ change found. changes.read-exact (pos 7 ∷ words) change found) is
+of-kind (suc (suc (suc (suc (suc (suc (suc (suc more)))))))) words message is = absurd cc
 
 pub read-written : (words : List ℤ) (message : NodeMessage) → node_message_in words ≡ Some message → IsOf words message
 read-written [] message is = absurd cc

@@ -11,7 +11,8 @@ use Rattle.alive_regroup.specs.declared.set.ProcessorSet.{ProcessorSet}
 use Rattle.checkpoint_image.specs.declared.message.TakenMessage.{TakenMessage}
 use Rattle.checkpoint_image.specs.Layout.{message_words, IsWithinLayout}
 use Rattle.world_semantics.specs.Messages.{Message, Asking, Replying, Checkpointing, Taking}
-use Rattle.message_layout.specs.Messages.{NodeMessage, Carrying, Reporting, Declaring, is_known}
+use Rattle.change_layout.specs.Layout as changes
+use Rattle.message_layout.specs.Messages.{NodeMessage, Carrying, Changing, Reporting, Declaring, is_known}
 
 -- a request: the process that serves it, the opener's place there, its number, and its words with their count
 abbrev pub request_words : Request → List ℤ
@@ -45,9 +46,11 @@ words_of_carried (Replying reply) = pos 2 ∷ reply_words reply
 words_of_carried (Checkpointing message) = message_words message
 words_of_carried (Taking taken) = pos 4 ∷ taken_words taken
 
--- the words of a message: a report is of kind 5, and that a processor is down of kind 6
+-- the words of a message: a report is of kind 5, that a processor is down of kind 6, and a checkpoint as what changed
+-- of kind 7
 abbrev pub words_of : NodeMessage → List ℤ
 words_of (Carrying message) = words_of_carried message
+words_of (Changing change) = changes.message_words change
 words_of (Reporting node silent) = pos 5 ∷ report_words node silent
 words_of (Declaring processor) = pos 6 ∷ pos processor ∷ []
 
@@ -74,6 +77,7 @@ IsCarriedWithin (Taking taken) = IsTakenWithin taken
 -- a message keeps to the layout: each number is within its range, and a set has its 16 places
 abbrev pub IsWithin : NodeMessage → Type 0
 IsWithin (Carrying message) = IsCarriedWithin message
+IsWithin (Changing change) = changes.IsWithinLayout change
 IsWithin (Reporting node silent) = (node ≤ 15) × (length silent.members ≡ 16)
 IsWithin (Declaring processor) = processor ≤ 15
 

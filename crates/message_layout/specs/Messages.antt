@@ -1,16 +1,19 @@
 -- The messages that nodes send each other. Requests, replies, checkpoints and their acknowledgements are Bartlett's;
--- reports of silent processors, and that a node tells the others which processor is down, are this project's own.
+-- reports of silent processors, and that a node tells the others which processor is down, are this project's own, and
+-- so is the form of a checkpoint that carries what changed.
 use Rattle.std.specs.Prelude.{ℕ, ◌&&◌, not, nat_lt, Bool, length, drop}
 use Rattle.std.specs.List.{list_all}
 use Rattle.tal_tree.specs.declared.site.Site.{Site}
 use Rattle.world_semantics.specs.plain_semantics.specs.Openers.{openers_of}
 use Rattle.alive_regroup.specs.declared.set.ProcessorSet.{ProcessorSet}
+use Rattle.change_layout.specs.declared.message.ChangeMessage.{ChangeMessage}
 use Rattle.world_semantics.specs.Messages.{Message, Asking, Replying, Checkpointing, Taking}
 
--- a node carries a message of the world of copies; reports the set of processors that are silent to it; or declares a
--- processor down
+-- a node carries a message of the world of copies; a checkpoint as what changed since the one before it; reports the
+-- set of processors that are silent to it; or declares a processor down
 pub data NodeMessage : Type 0 where
   Carrying : (message : Message) → NodeMessage
+  Changing : (change : ChangeMessage) → NodeMessage
   Reporting : (node : ℕ) → (silent : ProcessorSet) → NodeMessage
   Declaring : (processor : ℕ) → NodeMessage
 
@@ -40,5 +43,6 @@ has_named site (Taking taken) = has_process site taken.process
 -- whether all that a message names is there at the site
 abbrev pub is_known : Site → NodeMessage → Bool
 is_known site (Carrying message) = has_named site message
+is_known site (Changing change) = has_process site change.process
 is_known site (Reporting node silent) = has_processor site node && has_members site silent
 is_known site (Declaring processor) = has_processor site processor

@@ -12,7 +12,8 @@ use Rattle.alive_regroup.specs.declared.set.ProcessorSet.{ProcessorSet}
 use Rattle.checkpoint_image.specs.declared.message.TakenMessage.{TakenMessage}
 use Rattle.checkpoint_image.specs.Reading.{is_word, number_in, both_in, pair_in, longs_in, reply_in, message_in}
 use Rattle.world_semantics.specs.Messages.{Asking, Replying, Checkpointing, Taking}
-use Rattle.message_layout.specs.Messages.{NodeMessage, Carrying, Reporting, Declaring, is_known}
+use Rattle.change_layout.specs.Reading as changes
+use Rattle.message_layout.specs.Messages.{NodeMessage, Carrying, Changing, Reporting, Declaring, is_known}
 
 -- a process and an opener's place
 abbrev pub address_in : List ℤ → Front (ℕ × ℕ)
@@ -64,6 +65,8 @@ message_of_kind (suc (suc (suc (suc (suc zero))))) words =
     option_map (λ (node, silent). Reporting node silent) (whole (report_in words))
 message_of_kind (suc (suc (suc (suc (suc (suc zero)))))) words =
     option_map (λ processor. Declaring processor) (whole (number_in 15 words))
+message_of_kind (suc (suc (suc (suc (suc (suc (suc zero))))))) words =
+    option_map (λ change. Changing change) (changes.message_in (pos 7 ∷ words))
 message_of_kind _ words = None
 
 -- the message of words

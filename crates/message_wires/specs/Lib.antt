@@ -8,3 +8,4 @@ pub use Rattle.computed_changes
 pub use Rattle.letters
 pub use Rattle.machine_states
 pub use Rattle.computed_changes.specs.world_semantics
+pub use Rattle.computed_changes.specs.checkpoint_image

@@ -1,4 +1,5 @@
 use alive_regroup::ProcessorSet;
+use change_layout::ChangeMessage;
 use checkpoint_image::{ImageMessage, TakenMessage};
 use gd_words::{Reply, Request};
 
@@ -9,6 +10,8 @@ pub enum NodeMessage {
     Replying(Reply),
     Checkpointing(ImageMessage),
     Taking(TakenMessage),
+    /// A checkpoint as what changed since the one before it.
+    Changing(ChangeMessage),
     /// The processors that are silent to a node, and its number.
     Reporting { node: u8, silent: ProcessorSet },
     /// This processor is down.

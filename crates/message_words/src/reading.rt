@@ -3,13 +3,15 @@ ghost use Rattle.std.specs.Option.{option_map};
 ghost use Rattle.process_semantics.specs.Words.{whole};
 ghost use Rattle.checkpoint_image.specs.Reading.{message_in, number_in};
 ghost use Rattle.message_layout.specs.world_semantics.specs.Messages.{Asking, Checkpointing, Replying, Taking};
-ghost use Rattle.message_layout.specs.Messages.{Carrying, Declaring, Reporting};
+ghost use Rattle.change_layout.specs.Reading as changes;
+ghost use Rattle.message_layout.specs.Messages.{Carrying, Changing, Declaring, Reporting};
 ghost use Rattle.message_layout.specs.Reading.{answer_in, message_of_kind, node_message_in, report_in, request_in};
 ghost use Rattle.message_layout.specs.Reading.{taken_in};
 ghost use Rattle.message_words.specs.Seen.{message_of};
 
 use crate::message::NodeMessage;
 use crate::unread::Unread;
+use change_layout::ChangeMessage;
 use checkpoint_image::{ImageMessage, from_words};
 use gd_words::NoMemory;
 use std::alloc::Global;
@@ -80,6 +82,22 @@ fn checkpointing_in(alloc: Global, words: &[i16]) -> Result<Option<NodeMessage>,
     }
 }
 
+fn change_in(alloc: Global, words: &[i16]) -> Result<Option<ChangeMessage>, NoMemory>
+    ensures { IfOk result (λ read. read ≡ changes.message_in words.now) }
+{
+    change_layout::from_words(alloc, words)
+}
+
+fn changing_in(alloc: Global, words: &[i16]) -> Result<Option<NodeMessage>, NoMemory>
+    ensures { IfOk result (λ read. option_map message_of read
+        ≡ option_map (λ change. Changing change) (changes.message_in words.now)) }
+{
+    match change_in(alloc, words)? {
+        None => Ok(None),
+        Some(change) => Ok(Some(NodeMessage::Changing(change))),
+    }
+}
+
 /// The message of a kind: its words are given without the kind, and whole.
 fn message_of_kind(
     alloc: Global,
@@ -100,6 +118,10 @@ fn message_of_kind(
         4 => Ok(taking_in(left)),
         5 => Ok(reporting_in(left)),
         6 => Ok(declaring_in(left)),
+        7 => {
+            let read = changing_in(alloc, words)?;
+            Ok(read)
+        }
         _ => Ok(None),
     }
 }

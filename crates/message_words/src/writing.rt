@@ -1,12 +1,15 @@
-ghost use Rattle.std.specs.Prelude.{◌≡◌, ◌≤◌, ◌∷◌, ◌++◌, [], pos, IfOk, OnOk};
+ghost use Rattle.std.specs.Prelude.{◌≡◌, ◌≤◌, ◌∷◌, ◌++◌, length, pos, IfOk, OnOk};
 ghost use Rattle.process_semantics.specs.Words.{counted, long};
 ghost use Rattle.checkpoint_image.specs.Layout.{HasShortLists};
 ghost use Rattle.message_layout.specs.world_semantics.specs.Messages.{Asking, Checkpointing, Replying, Taking};
 ghost use Rattle.message_layout.specs.Layout.{words_of};
-ghost use Rattle.message_layout.specs.Messages.{Carrying, Declaring, Reporting};
+ghost use Rattle.change_layout.specs.Changing.{change_of};
+ghost use Rattle.change_layout.specs.Layout as changes;
+ghost use Rattle.message_layout.specs.Messages.{Carrying, Changing, Declaring, Reporting};
 
 use crate::masks::mask_of;
 use alive_regroup::ProcessorSet;
+use change_layout::words_since;
 use checkpoint_image::putting::{put_counted, put_long};
 use checkpoint_image::{ImageMessage, TakenMessage, to_words};
 use gd_words::{List, NoMemory, Reply, Request, Words};
@@ -73,6 +76,19 @@ pub fn checkpoint_words(alloc: Global, message: &ImageMessage) -> Result<List<i1
     ensures { IfOk result (λ words. words ≡ words_of (Carrying (Checkpointing message.now))) }
 {
     to_words(alloc, message)
+}
+
+/// The words of a checkpoint as what changed since the one before it.
+pub fn change_words(
+    alloc: Global,
+    before: &ImageMessage,
+    message: &ImageMessage,
+) -> Result<List<i16>, NoMemory>
+    requires few { length message.now.image.receive.openers ≤ 65536 }
+    requires short { changes.HasShortLists (change_of before.now message.now) }
+    ensures { IfOk result (λ words. words ≡ words_of (Changing (change_of before.now message.now))) }
+{
+    words_since(alloc, before, message)
 }
 
 /// The words that say that a checkpoint was taken.

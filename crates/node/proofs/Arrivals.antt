@@ -2,7 +2,7 @@
 use Rattle.std.specs.List.{remove}
 use Rattle.std.proofs.Common.{◌≡◌, ℕ, zero, suc, [], ◌∷◌, List, Option, Some, None, Bool, true, false}
 use Rattle.std.proofs.Common.{if◌then◌else◌, slice_get, slice_set, refl, ap, ap₂, sym, ◌∙◌}
-use Rattle.world_semantics.proofs.Lists.{some-same}
+use Rattle.packet_wires.specs.world_semantics.proofs.Lists.{some-same}
 use Rattle.packet_words.specs.declared.bus_name.BusName.{BusName}
 use Rattle.packet_words.specs.declared.bus_name.BusName.TheVariants as bus
 use Rattle.packet_words.specs.declared.packet.Packet.{Packet}

@@ -3,7 +3,7 @@ use Rattle.std.specs.List.{list_all}
 use Rattle.std.specs.Option.{option_map, unwrap_or}
 use Rattle.std.proofs.Common.{◌≡◌, ℕ, zero, suc, ◌&&◌, not, Bool, true, false, if◌then◌else◌, List, [], ◌∷◌, Option, Some}
 use Rattle.std.proofs.Common.{None, slice_get, slice_set, refl, ap, sym, ◌∙◌}
-use Rattle.world_semantics.proofs.Lists.{some-same}
+use Rattle.packet_wires.specs.world_semantics.proofs.Lists.{some-same}
 use Rattle.alive_regroup.specs.declared.neighbour.Missed.TheVariants as missed
 use Rattle.alive_regroup.specs.declared.neighbour.Neighbour.{Neighbour}
 use Rattle.alive_regroup.specs.declared.neighbour.Neighbour.TheVariants.{Absent, Up, Down}

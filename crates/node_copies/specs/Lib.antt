@@ -6,3 +6,5 @@ pub use Rattle.number_ranges.specs.message_wires
 pub use Rattle.number_ranges
 pub use Rattle.process_control
 pub use Rattle.processes
+pub use Rattle.file_calls
+pub use Rattle.sendings

@@ -1,5 +1,6 @@
 -- What becomes of a copy to which something came. The rules are those of the world of copies.
 use Rattle.std.specs.Prelude.{Option, Some, None}
+use Rattle.change_layout.specs.declared.message.ChangeMessage.{ChangeMessage}
 use Rattle.checkpoint_image.specs.declared.message.ImageMessage.{ImageMessage}
 use Rattle.world_semantics.specs.Core.{Core}
 use Rattle.world_semantics.specs.World.{Copy}
@@ -13,3 +14,8 @@ with_changed one copy = record one { copy = copy }
 abbrev pub copy_applying : Copy → ImageMessage → Option Core → Copy
 copy_applying copy message None = copy
 copy_applying copy message (Some core) = record copy { core = core; number = message.number }
+
+-- a copy that has this core by a checkpoint that came as what changed, if it applied it
+abbrev pub copy_changing : Copy → ChangeMessage → Option Core → Copy
+copy_changing copy change None = copy
+copy_changing copy change (Some core) = record copy { core = core; number = change.number }

@@ -24,9 +24,12 @@ pub mod step;
 mod telling;
 
 pub use address::Address;
+pub use file_calls;
 pub use kept_acts;
 pub use marks::Downs;
 pub use one::NodeCopy;
 pub use process_control;
+pub use processes;
 pub use records::Records;
+pub use sendings;
 pub use step::StepOutcome;

@@ -1,4 +1,4 @@
-ghost use Rattle.std.specs.Prelude.{◌≡◌, ◌<◌, ◌++◌, true, is_some, length, map, IfOk, OnOk, Some};
+ghost use Rattle.std.specs.Prelude.{◌≡◌, ◌<◌, ◌++◌, true, is_some, length, IfOk, OnOk};
 ghost use Rattle.process_semantics.specs.declared.point.Point.TheVariants.{Await};
 ghost use Rattle.process_semantics.specs.Process.{asked_file, asked_words, point};
 ghost use Rattle.checkpoint_image.specs.Receive.{repeated};
@@ -7,17 +7,19 @@ ghost use Rattle.sync_ids.specs.Tables.{IsSound};
 ghost use Rattle.world_semantics.specs.declared.role.Role.TheVariants.{Watching};
 ghost use Rattle.world_semantics.specs.Core.{next_on};
 ghost use Rattle.world_semantics.specs.Rules.{stopped_copy, taken_over, told_again};
+ghost use Rattle.process_control.specs.computed_changes.specs.Changed.{core_changing};
 ghost use Rattle.process_control.specs.computed_changes.specs.Checkpoints.{core_applying, is_of_last};
 ghost use Rattle.process_control.specs.computed_changes.specs.Replies.{copy_got, kept_got};
 ghost use Rattle.process_control.specs.computed_changes.specs.Requests.{after_early_request, after_request};
 ghost use Rattle.number_ranges.specs.HasRoom.{CopyHasRoom};
-ghost use Rattle.node_copies.specs.Receiving.{copy_applying, with_changed};
+ghost use Rattle.node_copies.specs.Receiving.{copy_applying, copy_changing, with_changed};
 ghost use Rattle.world_semantics.specs.Shares.{share_at_close, covered_count, share_after_cover, share_of, with_share};
 ghost use Rattle.world_semantics.specs.Shares.{without_held};
 
 use crate::one::NodeCopy;
 use crate::records::Records;
 use crate::settling::settle;
+use change_layout::ChangeMessage;
 use checkpoint_image::{ImageMessage, ReceiveBlock, TakenMessage};
 use file_calls::Arrival;
 use gd_words::{List, NoMemory, Request, Words};
@@ -72,6 +74,16 @@ impl NodeCopy {
             (copy_applying self.old.copy message.now (core_applying self.old.depths self.old.copy message.now)) }
     {
         self.control.checkpoint_in(message)
+    }
+
+    /// Applies a checkpoint that came as what changed since the one before it, or ignores it. It answers whether it was
+    /// applied.
+    pub fn apply_change(&mut self, change: &ChangeMessage) -> bool
+        ensures told { result ≡ is_some (core_changing self.old.depths self.old.copy change.now) }
+        ensures copy { self.new ≡ with_changed self.old
+            (copy_changing self.old.copy change.now (core_changing self.old.depths self.old.copy change.now)) }
+    {
+        self.control.change_in(change)
     }
 
     /// The other copy applied this copy's checkpoint. Answers the base.

@@ -1,6 +1,6 @@
 ghost use Rattle.std.specs.Prelude.{◌≡◌, true, false, Some, None};
-ghost use Rattle.alive_regroup.specs.Watching.{begun, told_by_tick, silent_set, changed_at, neighbour_after_alive};
-ghost use Rattle.alive_regroup.specs.Watching.{neighbour_after_down, after_tick, is_held};
+ghost use Rattle.alive_regroup.specs.Watching.{begun, told_by_tick, changed_at, neighbour_after_alive};
+ghost use Rattle.alive_regroup.specs.Watching.{neighbour_after_down, is_held};
 ghost use Rattle.node_guards.specs.Watches.{after_ticks, only, watch_of_report};
 
 /// A processor of which nothing is heard is silent at the second check that misses it, the fourth tick, and the silent

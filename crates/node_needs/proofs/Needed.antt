@@ -5,7 +5,7 @@ use denote.Hole.Carrier.{shown, out}
 use Rattle.tal_tree.specs.declared.statement.What.{out-What}
 use Rattle.tal_tree.specs.declared.statement.What.TheBlock.{shown-the_row-Statement-0}
 use Rattle.schedule.specs.declared.event.Event.TheVariants as event
-use Rattle.world_semantics.specs.Examples.{delivery, run}
+use Rattle.message_wires.specs.world_semantics.specs.Examples.{delivery, run}
 use Rattle.message_wires.specs.Examples.{up_to_checkpoint}
 use Rattle.message_wires.specs.Tiers.{before_stop, tiers}
 use Rattle.standing_links.specs.Needs.{nothing}

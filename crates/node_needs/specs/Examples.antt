@@ -3,7 +3,7 @@ use Rattle.std.specs.Prelude.{ℕ, pos, List, [], ◌∷◌, ◌++◌}
 use Rattle.gd_words.specs.declared.message.Request.{Request}
 use Rattle.schedule.specs.declared.event.Event.{Event}
 use Rattle.schedule.specs.declared.event.Event.TheVariants as event
-use Rattle.world_semantics.specs.Examples.{delivery, run}
+use Rattle.message_wires.specs.world_semantics.specs.Examples.{delivery, run}
 use Rattle.message_wires.specs.Examples.{adder_at_boot, end_of, up_to_checkpoint}
 use Rattle.standing_links.specs.Needs.{Needs, name_of, nothing}
 use Rattle.node_needs.specs.NodeNeeds.{needs_at}

@@ -1,13 +1,14 @@
 -- What the links of a node are for in a world of copies: the requests that wait at its copies, those that its acting
 -- copies have in hand, and those whose replies its acting copies and terminals await.
 use Rattle.std.specs.Prelude.{ℕ, ◌+◌, ◌==◌, if◌then◌else◌, List, [], ◌∷◌, ◌++◌, slice_get, Option, Some, None}
+use Rattle.gd_words.specs.declared.message.Request.{Request}
 use Rattle.tal_tree.specs.declared.site.Site.{Site}
 use Rattle.checkpoint_image.specs.declared.receive.OpenerBlock.{OpenerBlock}
 use Rattle.checkpoint_image.specs.declared.receive.ReceiveBlock.{ReceiveBlock}
-use Rattle.world_semantics.specs.declared.role.Role.{Role}
-use Rattle.world_semantics.specs.declared.role.Role.TheVariants.{Gone}
-use Rattle.world_semantics.specs.World.{Copy, Pair, Terminal, World, terminal_node}
-use Rattle.letters.specs.Again.{awaited_by, awaited_from, if_acts_on}
+use Rattle.message_wires.specs.world_semantics.specs.declared.role.Role.{Role}
+use Rattle.message_wires.specs.world_semantics.specs.declared.role.Role.TheVariants.{Gone}
+use Rattle.message_wires.specs.world_semantics.specs.World.{Copy, Pair, Terminal, World, terminal_node}
+use Rattle.message_wires.specs.letters.specs.Again.{awaited_by, awaited_from, if_acts_on}
 use Rattle.standing_links.specs.Needs.{Name, Needs}
 
 -- Copies
@@ -27,6 +28,19 @@ abbrev pub in_hand_by : ℕ → ReceiveBlock → Option ℕ → List Name
 in_hand_by number table None = []
 in_hand_by number table (Some place) = last_taken number place (slice_get table.openers place)
 
+-- the requests that wait at a copy, if it is at a node
+abbrev pub waiting_at : ℕ → Copy → List Request
+waiting_at node copy = if_there node copy.role copy.processor copy.waiting
+
+-- the request that a copy of the process of a number has in hand, if it acts there
+abbrev pub in_hand_at : ℕ → ℕ → Copy → List Name
+in_hand_at node number copy =
+    if_acts_on node copy.role copy.processor (in_hand_by number copy.core.receive copy.core.receive.in_hand)
+
+-- the request whose reply it awaits there
+abbrev pub awaited_at : Site → ℕ → ℕ → Copy → List Request
+awaited_at site node number copy = if_acts_on node copy.role copy.processor (awaited_by site number copy.core)
+
 -- of both copies of each process, in the order of the deck
 abbrev pub of_copies : {A : Type 0} → (ℕ → Copy → List A) → ℕ → List Pair → List A
 of_copies f number [] = []
@@ -43,12 +57,9 @@ of_terminals f number (terminal ∷ terminals) = f number terminal ++ of_termina
 
 abbrev pub needs_at : Site → World → ℕ → Needs
 needs_at site w node = record {
-  waiting = of_copies (λ number copy. if_there node copy.role copy.processor copy.waiting) 0 w.processes;
-  in_hand =
-      of_copies (λ number copy. if_acts_on node copy.role copy.processor
-      (in_hand_by number copy.core.receive copy.core.receive.in_hand)) 0 w.processes;
+  waiting = of_copies (λ number copy. waiting_at node copy) 0 w.processes;
+  in_hand = of_copies (in_hand_at node) 0 w.processes;
   awaited =
-      of_copies (λ number copy. if_acts_on node copy.role copy.processor (awaited_by site number copy.core)) 0
-      w.processes
+      of_copies (awaited_at site node) 0 w.processes
       ++ (if node == terminal_node then of_terminals (awaited_from site) 0 w.terminals else []);
 }

@@ -1,7 +1,7 @@
 //! The needs of nodes in worked runs.
 ghost use Rattle.std.specs.Prelude.{◌≡◌, [], ◌∷◌, ◌++◌};
 ghost use Rattle.schedule.specs.declared.event.Event.TheVariants as event;
-ghost use Rattle.world_semantics.specs.Examples.{delivery, run};
+ghost use Rattle.message_wires.specs.world_semantics.specs.Examples.{delivery, run};
 ghost use Rattle.message_wires.specs.Examples.{up_to_checkpoint};
 ghost use Rattle.message_wires.specs.Tiers.{before_stop, tiers};
 ghost use Rattle.standing_links.specs.Needs.{nothing};

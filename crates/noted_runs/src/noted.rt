@@ -11,7 +11,7 @@ ghost use Rattle.noted_runs.specs.Steps.{ends_after, everything_at_end, noting_e
 use crate::steps::{Stood, acting_of, end_of_spec, everything_at_end, put_end, stood_at};
 use gd_words::{List, NoMemory};
 use machine_states::Effect;
-use packet_runs::site_machine::Machine;
+use noted_rules::packet_runs::site_machine::Machine;
 use packet_words::{BusName, Packet, PacketKind};
 use player::Player;
 use processes::Process;

@@ -8,7 +8,7 @@ ghost use Rattle.noted_runs.specs.Steps.{is_acting, is_inner, stood_at, stood_by
 use checkpoint_image::{Behaviour, Listed};
 use gd_words::{List, NoMemory};
 use machine_views::image_of_everything;
-use packet_runs::site_machine::process_copies::ProcessCopies;
+use noted_rules::packet_runs::site_machine::process_copies::ProcessCopies;
 use process_semantics::Point;
 use processes::Process;
 use program_ends::{LastStep, end_of_program};

@@ -5,8 +5,8 @@ use Rattle.std.specs.Prelude.{◌≡◌, ◌<◌, ℕ, ◌^◌, length, slice_ge
 use Rattle.std.specs.List.{All}
 use Rattle.gd_words.specs.Ranges.{HasNext, HasNextLong}
 use Rattle.schedule.specs.declared.event.Event.{Event}
-use Rattle.checkpoint_image.specs.declared.receive.OpenerBlock.{OpenerBlock}
-use Rattle.checkpoint_image.specs.Behaving.{last_write_of}
+use Rattle.message_wires.specs.checkpoint_image.specs.declared.receive.OpenerBlock.{OpenerBlock}
+use Rattle.message_wires.specs.checkpoint_image.specs.Behaving.{last_write_of}
 use Rattle.message_wires.specs.world_semantics.specs.declared.role.Role.TheVariants.{Watching}
 use Rattle.message_wires.specs.world_semantics.specs.declared.which.Which.{Which}
 use Rattle.message_wires.specs.world_semantics.specs.World.{Copy, Pair, Terminal, World, copy_of}

@@ -1,5 +1,6 @@
 pub mod Buses
 pub mod Drives
+pub mod Forms
 pub mod Lines
 pub mod Marks
 pub mod Rooms

@@ -11,7 +11,7 @@ use Rattle.packet_wires.specs.Idle.{is_idle}
 use Rattle.packet_wires.specs.Sights.{end_of}
 use Rattle.packet_wires.specs.Examples.{adder_at_boot, served, up_to_checkpoint}
 
-pub what-is-not-there-is-dropped-none : understood adder_at_boot.site (pos 7 ∷ pos 0 ∷ []) ≡ None
+pub what-is-not-there-is-dropped-none : understood adder_at_boot.site (pos 8 ∷ pos 0 ∷ []) ≡ None
 unfolding out-What shown-the_row-Statement-0 shown out int_wrap
 what-is-not-there-is-dropped-none = refl
 

@@ -1,5 +1,6 @@
 //! What is played, at telling points.
-ghost use Rattle.std.specs.Prelude.{◌≡◌, ◌≤◌, ◌+◌, ℕ, pos, true, false, List, [], ◌∷◌, ◌++◌, length, Some, None};
+ghost use Rattle.std.specs.Prelude.{◌≡◌, ◌≤◌, ◌+◌, ℕ, pos, true, false, List, [], ◌∷◌, ◌++◌, length, Option, Some};
+ghost use Rattle.std.specs.Prelude.{None};
 ghost use Rattle.schedule.specs.declared.event.DriveChange.TheVariants.{Break};
 ghost use Rattle.schedule.specs.declared.event.Event.TheVariants as event;
 ghost use Rattle.packet_words.specs.declared.bus_name.BusName.{BusName};
@@ -7,19 +8,24 @@ ghost use Rattle.packet_words.specs.declared.bus_name.BusName.TheVariants.{X, Y}
 ghost use Rattle.packet_words.specs.declared.packet.Packet.{Packet};
 ghost use Rattle.packet_words.specs.declared.packet.PacketKind.TheVariants as kind;
 ghost use Rattle.machine_states.specs.States.{Makes, Skips, Would, SecondStop};
-ghost use Rattle.message_layout.specs.Messages.{Carrying, Declaring};
+ghost use Rattle.message_layout.specs.Messages.{Carrying, Changing, Declaring};
+ghost use Rattle.message_layout.specs.change_layout.specs.Changing.{change_of};
+ghost use Rattle.world_semantics.specs.Messages.{Checkpointing};
+ghost use Rattle.world_semantics.specs.checkpoint_image.specs.declared.message.ImageMessage.{ImageMessage};
 ghost use Rattle.message_layout.specs.Layout.{words_of};
 ghost use Rattle.message_layout.specs.Reading.{understood};
 ghost use Rattle.letter_guards.specs.Worlds.{bank_asks, disc_tells, user_is_told};
 ghost use Rattle.packet_wires.specs.Idle.{is_idle, holds_nothing};
 ghost use Rattle.packet_wires.specs.Nodes.{Node, end_at};
 ghost use Rattle.world_semantics.specs.World.{has_noted};
-ghost use Rattle.packet_wires.specs.Play.{Packeted, Underway, begun, count_on, handed, kind_at, play, sender_at};
+ghost use Rattle.packet_wires.specs.Play.{Underway, begun, count_on, handed, kind_at, play, sender_at};
 ghost use Rattle.packet_wires.specs.Play.{sent_by};
 ghost use Rattle.packet_wires.specs.Sights.{acknowledged, alive, end_of, last, piece, seen};
 ghost use Rattle.packet_wires.specs.Wires.{Midst, Wires, all_put, goes_over, nothing_sent, on_bus, packets_over};
 ghost use Rattle.packet_wires.specs.Wires.{with_sent};
 ghost use Rattle.packet_wires.specs.Examples.{adder_at_boot, after_four, held, served, taken_over, up_to_checkpoint};
+ghost use Rattle.packet_wires.specs.Parcels.{form_after};
+ghost use Rattle.packet_guards.specs.Checkpoints.{first_one, second_one};
 ghost use Rattle.packet_guards.specs.States.{after_three, first_muted, first_piece_again, laden, none_stopped};
 ghost use Rattle.packet_guards.specs.States.{one_drive_failed, two_drives};
 ghost use Rattle.packet_guards.specs.States.{one_gone, outgoing, queued, second_silent, stray, takeover, ticks, told};
@@ -171,7 +177,7 @@ pub fn no_mark_on_suspicion()
 /// Words of no message are dropped, and messages that name what the site hasn't: here two processors, one process and
 /// one opener.
 pub fn what_is_not_there_is_dropped()
-    ensures none { understood adder_at_boot.site (pos 7 ∷ pos 0 ∷ []) ≡ None }
+    ensures none { understood adder_at_boot.site (pos 8 ∷ pos 0 ∷ []) ≡ None }
     ensures more { understood adder_at_boot.site (pos 6 ∷ pos 0 ∷ pos 0 ∷ []) ≡ None }
     ensures down { understood adder_at_boot.site (pos 6 ∷ pos 1 ∷ []) ≡ Some (Declaring 1) }
     ensures processor { understood adder_at_boot.site (pos 6 ∷ pos 2 ∷ []) ≡ None }
@@ -179,6 +185,21 @@ pub fn what_is_not_there_is_dropped()
     ensures member { understood adder_at_boot.site (pos 5 ∷ pos 0 ∷ pos 4 ∷ []) ≡ None }
     ensures process { understood adder_at_boot.site (pos 1 ∷ pos 1 ∷ pos 0 ∷ pos 0 ∷ pos 1 ∷ pos 0 ∷ []) ≡ None }
     ensures opener { understood adder_at_boot.site (pos 1 ∷ pos 0 ∷ pos 1 ∷ pos 0 ∷ pos 1 ∷ pos 0 ∷ []) ≡ None }
+{}
+
+/// A checkpoint goes whole if it is the first of its era, or its process has sent none before it. Any other goes as
+/// what changed since the one before it, in words that begin with 7: here the body, the files, and one opener, with one
+/// reply added.
+pub fn a_later_checkpoint_goes_as_what_changed()
+    ensures none { (message : ImageMessage) → form_after message None ≡ Carrying (Checkpointing message) }
+    ensures first { (message : ImageMessage) (before : Option ImageMessage) → message.number ≡ 1
+        → form_after message before ≡ Carrying (Checkpointing message) }
+    ensures later { (message before : ImageMessage) → (message.number ≡ 1 → ⊥)
+        → form_after message (Some before) ≡ Changing (change_of before message) }
+    ensures words { words_of (form_after second_one (Some first_one))
+        ≡ pos 7 ∷ pos 1 ∷ pos 0 ∷ pos 0 ∷ pos 0 ∷ pos 2 ∷ pos 14 ∷ pos 1 ∷ pos 0 ∷ pos 8 ∷ pos 4 ∷ pos 4 ∷ pos 7
+        ∷ pos 5 ∷ pos 0 ∷ pos 0 ∷ pos 5 ∷ pos 1 ∷ pos 1 ∷ pos 0 ∷ pos 12 ∷ pos 1 ∷ pos 1 ∷ pos 0 ∷ pos 2 ∷ pos 1
+        ∷ pos 1 ∷ pos 0 ∷ pos 2 ∷ pos 1 ∷ pos 5 ∷ pos 0 ∷ [] }
 {}
 
 /// A state isn't idle while a piece is outstanding, or before every node that runs has marked what stopped.

@@ -11,9 +11,9 @@ use Rattle.packet_words.specs.declared.bus_name.BusName.{BusName}
 use Rattle.packet_words.specs.declared.bus_name.BusName.TheVariants as bus
 use Rattle.packet_words.specs.declared.packet.Packet.{Packet}
 use Rattle.bus_model.specs.Packets.{has_room, sent}
-use Rattle.packet_wires.specs.Wires.{Midst, Wires, all_put, packets_over}
-use Rattle.packet_wires.specs.Play.{Packeted, acted, count_on, ended, play, taken_off}
-use Rattle.packet_wires.specs.Runs.{IsPlayed, played_none, played_more, skipped}
+use Rattle.packet_numbers.specs.packet_wires.specs.Wires.{Midst, Wires, all_put, packets_over}
+use Rattle.packet_numbers.specs.packet_wires.specs.Play.{Packeted, acted, count_on, ended, play, taken_off}
+use Rattle.packet_numbers.specs.packet_wires.specs.Runs.{IsPlayed, played_none, played_more, skipped}
 
 abbrev IsFew : List Packet → Type 0
 IsFew on = length on ≤ 4096

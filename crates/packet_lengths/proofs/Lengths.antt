@@ -6,7 +6,7 @@ use Rattle.schedule.specs.declared.line.Line.{Line}
 use Rattle.player.specs.declared.player.Player.{Player}
 use Rattle.player.specs.declared.stop.ProcessorStop.{ProcessorStop}
 use Rattle.agendas.specs.Agendas.{Agenda}
-use Rattle.packet_wires.specs.Play.{Packeted, packeted_at_boot}
+use Rattle.packet_numbers.specs.packet_wires.specs.Play.{Packeted, packeted_at_boot}
 use Rattle.packet_runs.proofs.Played.{played}
 use Rattle.packet_runs.specs.Runs.{course_on, packet_rules, sizes_of}
 use Rattle.schedule_loop.specs.Ends.{Plays}

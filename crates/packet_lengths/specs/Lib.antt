@@ -6,3 +6,5 @@ pub use Rattle.packet_runs
 pub use Rattle.packet_runs.specs.process_copies
 pub use Rattle.packet_runs.specs.site_machine
 pub use Rattle.packet_runs.specs.world_copies
+pub use Rattle.packet_numbers.specs.packet_wires
+pub use Rattle.packet_numbers.specs.processes

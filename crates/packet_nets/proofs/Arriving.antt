@@ -12,34 +12,33 @@ use Rattle.packet_words.specs.declared.packet.PacketKind.TheVariants as kind
 use Rattle.channel_laws.specs.Net.{Net, IsWhole, ways_by}
 use Rattle.channel_laws.specs.Way.{Way, coming, telling}
 use Rattle.channel_laws.proofs.Nets.{put-all}
-use Rattle.world_semantics.specs.Messages.{Message}
 use Rattle.world_semantics.specs.World.{is_running}
-use Rattle.letters.specs.Posts.{IsTaken}
-use Rattle.letters.specs.Routes.{Letter}
-use Rattle.message_layout.specs.Messages.{NodeMessage, Carrying, Reporting, Declaring}
+use Rattle.packet_wires.specs.Parcels.{Parcel}
+use Rattle.message_layout.specs.Messages.{NodeMessage, Carrying, Changing, Reporting, Declaring}
 use Rattle.message_layout.specs.Layout.{Fits, words_of}
 use Rattle.message_layout.specs.Reading.{understood}
 use Rattle.message_layout.proofs.Again.{known-again}
-use Rattle.packet_nets.specs.Owing.{message_of, carried_of, carried, between, IsTrueOf, IsPushed, IsOpen, Owes}
+use Rattle.packet_nets.specs.Owing.{content_of, carried_of, carried, between, IsContent, IsTaken, IsTrueOf, IsPushed}
+use Rattle.packet_nets.specs.Owing.{IsOpen, Owes}
 use Rattle.packet_nets.proofs.Between.{carried-append, carried-of, carried-one, takes}
 use Rattle.packet_nets.proofs.Tied.{Place, here, there, place, put-other}
 
--- a packet from s comes in at r. It completes nothing; or a message that carries none of the world; or one that does,
--- whose letter is owed no longer; or one that does, whose letter was handed over before
-pub data Arrives (site : Site) (stopped : List Bool) (owed sent : List Letter) (next : Net) (s r : ℕ) : Option (List ℤ)
+-- a packet from s comes in at r. It completes nothing; or a message that is of no letter; or one that is, whose parcel
+-- is owed no longer; or one that is, whose parcel was handed over before
+pub data Arrives (site : Site) (stopped : List Bool) (owed sent : List Parcel) (next : Net) (s r : ℕ) : Option (List ℤ)
     → Type 0 where
   hands_none : Owes site stopped owed sent next → Arrives site stopped owed sent next s r None
   hands_other : {words : List ℤ} → (told : NodeMessage) → understood site words ≡ Some told → Fits site told
-      → IsTrueOf stopped sent s r told → message_of told ≡ None
+      → IsTrueOf stopped sent s r told → content_of told ≡ None
       → Owes site stopped owed sent next → Arrives site stopped owed sent next s r (Some words)
-  hands_letter : {words : List ℤ} {rest : List Letter} → (message : Message)
-      → understood site words ≡ Some (Carrying message) → Fits site (Carrying message)
-      → IsAmong (record { sender = s; receiver = r; message = message }) sent
-      → IsTaken (record { sender = s; receiver = r; message = message }) owed rest
+  hands_letter : {words : List ℤ} {rest : List Parcel} → (content : NodeMessage) → IsContent content
+      → understood site words ≡ Some content → Fits site content
+      → IsAmong (record { sender = s; receiver = r; content = content }) sent
+      → IsTaken (record { sender = s; receiver = r; content = content }) owed rest
       → Owes site stopped rest sent next → Arrives site stopped owed sent next s r (Some words)
-  hands_again : {words : List ℤ} → (message : Message) → understood site words ≡ Some (Carrying message)
-      → Fits site (Carrying message)
-      → IsAmong (record { sender = s; receiver = r; message = message }) sent → Owes site stopped owed sent next
+  hands_again : {words : List ℤ} → (content : NodeMessage) → IsContent content
+      → understood site words ≡ Some content → Fits site content
+      → IsAmong (record { sender = s; receiver = r; content = content }) sent → Owes site stopped owed sent next
       → Arrives site stopped owed sent next s r (Some words)
 
 -- every channel is open or closed
@@ -87,7 +86,7 @@ ways-out r s (kind.Piece number piece) ways a b n =
 ways-out r s (kind.Acknowledgement number) ways a b n =
     put-all (λ a b w. w.out ≡ (ways a b).out) r s (telling number (ways r s)) ways refl (λ a b. refl) a b
 
-module _ {site : Site} {stopped : List Bool} {owed sent : List Letter} {n : Net} (o : Owes site stopped owed sent n)
+module _ {site : Site} {stopped : List Bool} {owed sent : List Parcel} {n : Net} (o : Owes site stopped owed sent n)
     (next : Net) (whole : IsWhole next) (s r : ℕ)
     (pushes : (a b : ℕ) → (next.ways a b).pushes ≡ (n.ways a b).pushes)
     (out : (a b : ℕ) → (a ≡ s → b ≡ r → ⊥) → (next.ways a b).out ≡ (n.ways a b).out)
@@ -106,7 +105,7 @@ module _ {site : Site} {stopped : List Bool} {owed sent : List Letter} {n : Net}
   kept a b words among = o.pushed a b words (subst (IsAmong words) (pushes a b) among)
 
   -- the rest is owed, if it is right for this channel, and for each other one as before
-  by-rest : (rest : List Letter) → ((a b : ℕ) → (a ≡ s → b ≡ r → ⊥) → between a b rest ≡ between a b owed)
+  by-rest : (rest : List Parcel) → ((a b : ℕ) → (a ≡ s → b ≡ r → ⊥) → between a b rest ≡ between a b owed)
       → (IsOpen stopped next s r → carried (next.ways s r).pushes ≡ carried (next.ways s r).out ++ between s r rest)
       → Owes site stopped rest sent next
   by-rest rest elsewhere here_too = record {
@@ -163,25 +162,26 @@ module _ {site : Site} {stopped : List Bool} {owed sent : List Letter} {n : Net}
       reads told is fits = ap (understood site) is ∙ known-again site told fits
 
       carries : (told : NodeMessage) → words ≡ words_of told → Fits site told
-          → carried (words ∷ []) ≡ option_to_list (message_of told)
+          → carried (words ∷ []) ≡ option_to_list (content_of told)
       carries told is fits = carried-one words ∙ ap option_to_list (ap carried_of is ∙ carried-of told fits.within)
 
-      letter : (message : Message) → words ≡ words_of (Carrying message) → Fits site (Carrying message)
-          → IsTrueOf stopped sent s r (Carrying message)
+      letter : (content : NodeMessage) → IsContent content → words ≡ words_of content → Fits site content
+          → IsAmong (record { sender = s; receiver = r; content = content }) sent
           → Opened stopped next s r → Arrives site stopped owed sent next s r (Some words)
-      letter message is fits right (is_closed closed) =
-          hands_again message (reads (Carrying message) is fits) fits right
+      letter content own is fits right (is_closed closed) =
+          hands_again content own (reads content is fits) fits right
           (by-rest owed (λ a b m. refl) (λ one. absurd (closed one)))
-      letter message is fits right (is_open one) =
-          let took = takes s r message owed (carried rest)
-          (sym (sym (ap (λ ms. ms ++ carried rest) (carries (Carrying message) is fits)) ∙ first one)) in
-          hands_letter message (reads (Carrying message) is fits) fits right took.taken
+      letter content own is fits right (is_open one) =
+          let took = takes s r content owed (carried rest)
+          (sym (sym (ap (λ ms. ms ++ carried rest) (carries content is fits ∙ ap option_to_list own)) ∙ first one)) in
+          hands_letter content own (reads content is fits) fits right took.taken
           (by-rest took.rest took.elsewhere (λ again. all
           ∙ ap (λ ms. carried (next.ways s r).out ++ ms) (sym took.here)))
 
       by : (told : NodeMessage) → words ≡ words_of told → Fits site told → IsTrueOf stopped sent s r told
           → Arrives site stopped owed sent next s r (Some words)
-      by (Carrying message) is fits right = letter message is fits right (opened stopped next s r)
+      by (Carrying message) is fits right = letter (Carrying message) refl is fits right (opened stopped next s r)
+      by (Changing change) is fits right = letter (Changing change) refl is fits right (opened stopped next s r)
       by (Reporting node set) is fits right =
           hands_other (Reporting node set) (reads (Reporting node set) is fits) fits right refl
           (by-rest owed (λ a b m. refl) (none (carries (Reporting node set) is fits)))

@@ -9,16 +9,16 @@ use Rattle.tal_tree.specs.declared.site.Site.{Site}
 use Rattle.channel_laws.specs.Net.{Net, put, stopped_net}
 use Rattle.channel_laws.specs.Way.{Way, pushing}
 use Rattle.channel_laws.proofs.Nets.{put-same}
-use Rattle.letters.specs.Posts.{without_those_between}
-use Rattle.letters.specs.Routes.{Letter}
-use Rattle.message_layout.specs.Messages.{NodeMessage, Carrying, Reporting, Declaring}
+use Rattle.packet_nets.specs.Owing.{without_those_between}
+use Rattle.packet_wires.specs.Parcels.{Parcel}
+use Rattle.message_layout.specs.Messages.{NodeMessage, Carrying, Changing, Reporting, Declaring}
 use Rattle.message_layout.specs.Layout.{Fits, words_of}
 use Rattle.packet_nets.specs.Owing.{carried, between, IsTrueOf, IsPushed, IsOpen, Owes}
-use Rattle.packet_nets.proofs.Between.{letters_by, between-append, carried-append, carried-of, carried-one, by-here}
+use Rattle.packet_nets.proofs.Between.{parcels_by, between-append, carried-append, carried-of, carried-one, by-here}
 use Rattle.packet_nets.proofs.Between.{by-elsewhere, without-between}
 use Rattle.packet_nets.proofs.Tied.{Place, here, there, place, put-other, stop-running, stop-stopped}
 
-module _ {site : Site} {stopped : List Bool} {owed sent : List Letter} {n : Net}
+module _ {site : Site} {stopped : List Bool} {owed sent : List Parcel} {n : Net}
     (o : Owes site stopped owed sent n) where
   -- a net in which no way and no cut changed owes as much
   pub calm-owes : (next : Net) → ((a b : ℕ) → (next.ways a b).pushes ≡ (n.ways a b).pushes)
@@ -39,15 +39,16 @@ module _ {site : Site} {stopped : List Bool} {owed sent : List Letter} {n : Net}
         back = sym (down b a) ∙ opened.back;
       }
 
-  true-more : (more : List Letter) → ((letter : Letter) → IsAmong letter sent → IsAmong letter more)
+  true-more : (more : List Parcel) → ((parcel : Parcel) → IsAmong parcel sent → IsAmong parcel more)
       → (x y : ℕ) (told : NodeMessage) → IsTrueOf stopped sent x y told
       → IsTrueOf stopped more x y told
   true-more more up x y (Carrying message) is = up _ is
+  true-more more up x y (Changing change) is = up _ is
   true-more more up x y (Reporting node set) is = tt
   true-more more up x y (Declaring processor) is = is
 
-  -- as many are owed when more letters were sent
-  pub more-owes : (more : List Letter) → ((letter : Letter) → IsAmong letter sent → IsAmong letter more)
+  -- as many are owed when more parcels were sent
+  pub more-owes : (more : List Parcel) → ((parcel : Parcel) → IsAmong parcel sent → IsAmong parcel more)
       → Owes site stopped owed more n
   more-owes more up = record {
     pushed = λ a b words among. let one = o.pushed a b words among in
@@ -64,13 +65,13 @@ module _ {site : Site} {stopped : List Bool} {owed sent : List Letter} {n : Net}
   pub push-owes : (x y : ℕ) (told : NodeMessage) → Fits site told → IsTrueOf stopped sent x y told → (next : Net)
       → next.ways ≡ put x y (pushing (words_of told) (n.ways x y)) n.ways
       → ((a b : ℕ) → (next.ends a b).down ≡ (n.ends a b).down)
-      → Owes site stopped (owed ++ letters_by x y told) sent next
+      → Owes site stopped (owed ++ parcels_by x y told) sent next
   push-owes x y told fits right next ways down = record {
     pushed = λ a b words among. new a b words
         (subst (IsAmong words) (ap (λ (f : ℕ → ℕ → Way). (f a b).pushes) ways) among);
     owes = λ a b opened.
         ap (λ (f : ℕ → ℕ → Way). carried (f a b).pushes) ways ∙ owes a b (was a b opened)
-        ∙ ap (λ (f : ℕ → ℕ → Way). carried (f a b).out ++ between a b (owed ++ letters_by x y told)) (sym ways);
+        ∙ ap (λ (f : ℕ → ℕ → Way). carried (f a b).out ++ between a b (owed ++ parcels_by x y told)) (sym ways);
   }
     where
       was : (a b : ℕ) → IsOpen stopped next a b → IsOpen stopped n a b
@@ -111,7 +112,7 @@ module _ {site : Site} {stopped : List Bool} {owed sent : List Letter} {n : Net}
               (put-other x y (pushing (words_of told) (n.ways x y)) n.ways a b m) among)
 
       Owed : (a b : ℕ) → Way → Type 0
-      Owed a b w = carried w.pushes ≡ carried w.out ++ between a b (owed ++ letters_by x y told)
+      Owed a b w = carried w.pushes ≡ carried w.out ++ between a b (owed ++ parcels_by x y told)
 
       owes : (a b : ℕ) → IsOpen stopped n a b → Owed a b (put x y (pushing (words_of told) (n.ways x y)) n.ways a b)
       owes a b opened = by (place x y a b)
@@ -120,7 +121,7 @@ module _ {site : Site} {stopped : List Bool} {owed sent : List Letter} {n : Net}
           by (there m) =
               subst (Owed a b) (sym (put-other x y (pushing (words_of told) (n.ways x y)) n.ways a b m))
               (o.owes a b opened ∙ ap (λ ms. carried (n.ways a b).out ++ ms)
-              (sym (between-append a b owed (letters_by x y told)
+              (sym (between-append a b owed (parcels_by x y told)
               ∙ ap (λ ms. between a b owed ++ ms) (by-elsewhere x y told a b m) ∙ append-nil (between a b owed))))
           by (here s u) =
               subst (λ c. Owed c b (put x y (pushing (words_of told) (n.ways x y)) n.ways c b)) (sym s)
@@ -128,7 +129,7 @@ module _ {site : Site} {stopped : List Bool} {owed sent : List Letter} {n : Net}
               (subst (Owed x y) (sym (put-same x y (pushing (words_of told) (n.ways x y)) n.ways))
               (one (subst (λ c. IsOpen stopped n x c) u (subst (λ c. IsOpen stopped n c b) s opened)))))
             where
-              last : carried (words_of told ∷ []) ≡ between x y (letters_by x y told)
+              last : carried (words_of told ∷ []) ≡ between x y (parcels_by x y told)
               last = carried-one (words_of told) ∙ ap option_to_list (carried-of told fits.within)
                   ∙ sym (by-here x y told)
 
@@ -138,15 +139,15 @@ module _ {site : Site} {stopped : List Bool} {owed sent : List Letter} {n : Net}
                   ∙ ap (λ ms. ms ++ carried (words_of told ∷ [])) (o.owes x y opened)
                   ∙ append_assoc (carried (n.ways x y).out) (between x y owed) (carried (words_of told ∷ []))
                   ∙ ap (λ ms. carried (n.ways x y).out ++ ms)
-                  (ap (λ ms. between x y owed ++ ms) last ∙ sym (between-append x y owed (letters_by x y told)))
+                  (ap (λ ms. between x y owed ++ ms) last ∙ sym (between-append x y owed (parcels_by x y told)))
 
-  -- a letter may be owed on a closed channel without being pushed
+  -- a parcel may be owed on a closed channel without being pushed
   pub closed-owes : (x y : ℕ) (told : NodeMessage) → (IsOpen stopped n x y → ⊥)
-      → Owes site stopped (owed ++ letters_by x y told) sent n
+      → Owes site stopped (owed ++ parcels_by x y told) sent n
   closed-owes x y told closed = record {
     pushed = o.pushed;
     owes = λ a b opened. o.owes a b opened ∙ ap (λ ms. carried (n.ways a b).out ++ ms)
-        (sym (between-append a b owed (letters_by x y told)
+        (sym (between-append a b owed (parcels_by x y told)
         ∙ ap (λ ms. between a b owed ++ ms) (by-elsewhere x y told a b (other a b opened))
         ∙ append-nil (between a b owed)));
   }
@@ -154,7 +155,7 @@ module _ {site : Site} {stopped : List Bool} {owed sent : List Letter} {n : Net}
       other : (a b : ℕ) → IsOpen stopped n a b → a ≡ x → b ≡ y → ⊥
       other a b opened s u = closed (subst (λ c. IsOpen stopped n x c) u (subst (λ c. IsOpen stopped n c b) s opened))
 
-  -- letters between two nodes are struck off, if both channels between them are closed
+  -- parcels between two nodes are struck off, if both channels between them are closed
   pub without-owes : (x y : ℕ) (next : Net) → next.ways ≡ n.ways
       → ((a b : ℕ) → IsOpen stopped next a b → IsOpen stopped n a b) → (IsOpen stopped next x y → ⊥)
       → (IsOpen stopped next y x → ⊥)
@@ -195,5 +196,6 @@ module _ {site : Site} {stopped : List Bool} {owed sent : List Letter} {n : Net}
       later : (a b : ℕ) (told : NodeMessage) → IsTrueOf stopped sent a b told
           → IsTrueOf (slice_set stopped processor true) sent a b told
       later a b (Carrying message) is = is
+      later a b (Changing change) is = is
       later a b (Reporting node set) is = tt
       later a b (Declaring other) is = stop-stopped stopped processor runs other is

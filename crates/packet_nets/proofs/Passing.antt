@@ -22,8 +22,8 @@ use Rattle.channel_laws.specs.Net.{Net, Runs, packet_in, pushed_net, arrived_net
 use Rattle.channel_laws.specs.Net.{marked_net}
 use Rattle.channel_laws.specs.Rounds.{Passes, nothing, by_push, by_packet, by_drop, by_tick, by_alive, by_stop, by_mark}
 use Rattle.world_semantics.specs.World.{is_running, terminal_node}
-use Rattle.letters.specs.Routes.{Letter}
-use Rattle.message_layout.specs.Messages.{NodeMessage, Carrying, Reporting, Declaring}
+use Rattle.packet_wires.specs.Parcels.{Parcel}
+use Rattle.message_layout.specs.Messages.{NodeMessage, Reporting, Declaring}
 use Rattle.message_layout.specs.Layout.{words_of}
 use Rattle.packet_wires.specs.Nodes.{Node, end_at, numbers, all_nodes, others}
 use Rattle.packet_wires.specs.Wires.{Midst, goes_over, any_goes_over, goes_again, at_node, at_end_of, at_end}
@@ -459,17 +459,17 @@ module _ {a b : ℕ} {stopped : List Bool} {on : List Packet} {start : Net} wher
   sends-all-passes x told ys runs midst P =
       each-passes (λ y. sends x y told) (λ y midst P. sends-passes x y told runs midst P) ys midst P
 
-  pub posted-passes : {came : List Packet} (letters : List Letter) (midst : Midst)
+  pub posted-passes : {came : List Packet} (parcels : List Parcel) (midst : Midst)
       → IsPassing a b stopped on start came midst
-      → IsPassing a b stopped on start came (all_posted stopped letters midst)
+      → IsPassing a b stopped on start came (all_posted stopped parcels midst)
   posted-passes [] midst P = P
-  posted-passes {came = came} (letter ∷ letters) midst P =
-      posted-passes letters (posted stopped letter midst) (one (is_running stopped letter.sender) refl)
+  posted-passes {came = came} (parcel ∷ parcels) midst P =
+      posted-passes parcels (posted stopped parcel midst) (one (is_running stopped parcel.sender) refl)
     where
-      one : (test : Bool) → is_running stopped letter.sender ≡ test
-          → IsPassing a b stopped on start came (if test then sends letter.sender letter.receiver
-          (Carrying letter.message) midst else midst)
-      one true runs = sends-passes letter.sender letter.receiver (Carrying letter.message) runs midst P
+      one : (test : Bool) → is_running stopped parcel.sender ≡ test
+          → IsPassing a b stopped on start came (if test then sends parcel.sender parcel.receiver parcel.content midst
+          else midst)
+      one true runs = sends-passes parcel.sender parcel.receiver parcel.content runs midst P
       one false rests = P
 
   -- what goes out before the ends tick

@@ -24,9 +24,9 @@ use Rattle.alive_regroup.specs.Watching as watching
 use Rattle.alive_regroup.specs.Watching.{Watching, changed_at}
 use Rattle.world_semantics.specs.Messages.{Asking, Replying, Checkpointing, Taking}
 use Rattle.world_semantics.specs.World.{is_running}
-use Rattle.letters.specs.Posts.{without_those_between}
-use Rattle.letters.specs.Routes.{Letter}
-use Rattle.message_layout.specs.Messages.{NodeMessage, Carrying, Reporting, Declaring}
+use Rattle.packet_nets.specs.Owing.{without_those_between}
+use Rattle.packet_wires.specs.Parcels.{Parcel}
+use Rattle.message_layout.specs.Messages.{NodeMessage, Carrying, Changing, Reporting, Declaring}
 use Rattle.message_layout.specs.Layout.{Fits, words_of}
 use Rattle.packet_wires.specs.Nodes.{Node, end_at}
 use Rattle.packet_wires.specs.Wires.{Wires, Midst, Outgoing, with_sent, goes_over, any_goes_over, goes_again, at_node}
@@ -35,9 +35,9 @@ use Rattle.packet_wires.specs.Wires.{all_posted, bus_of_answer, heard_of, arrive
 use Rattle.packet_wires.specs.Wires.{down_at, cut_off}
 use Rattle.packet_wires.specs.Play.{completed}
 use Rattle.packet_nets.specs.Tied.{IsTied, IsWatch, AreWatches}
-use Rattle.packet_nets.specs.Owing.{IsTrueOf, IsOpen, Owes, Ties, TiesAtRest, on_both}
+use Rattle.packet_nets.specs.Owing.{IsContent, IsTrueOf, IsOpen, Owes, Ties, TiesAtRest, on_both}
 use Rattle.packet_nets.proofs.Watches.{changed-watch, ends-watches, watched-watches}
-use Rattle.packet_nets.proofs.Between.{letters_by}
+use Rattle.packet_nets.proofs.Between.{by-own, parcels_by}
 use Rattle.packet_nets.proofs.Owing.{calm-owes, more-owes, push-owes, closed-owes, without-owes}
 use Rattle.packet_nets.proofs.Arriving.{Arrives, arrives, hands_none, ways-pushes, ways-out}
 use Rattle.packet_nets.proofs.Tied as tied
@@ -50,6 +50,7 @@ filled (Carrying (Asking request)) = omega arith
 filled (Carrying (Replying reply)) = omega arith
 filled (Carrying (Checkpointing message)) = omega arith
 filled (Carrying (Taking taken)) = omega arith
+filled (Changing change) = omega arith
 filled (Reporting node set) = omega arith
 filled (Declaring processor) = omega arith
 
@@ -189,15 +190,15 @@ down-put : (x y : ℕ) (e : End) (ends : ℕ → ℕ → End) → e.down ≡ (en
     → (put x y e ends a b).down ≡ (ends a b).down
 down-put x y e ends is a b = put-all (λ a b (d : End). d.down ≡ (ends a b).down) x y e ends is (λ a b. refl) a b
 
-module _ {site : Site} {stopped : List Bool} {on : List Packet} {owed sent : List Letter} where
+module _ {site : Site} {stopped : List Bool} {on : List Packet} {owed sent : List Parcel} where
   -- one message goes
   pub sends-ties : (midst : Midst) (x y : ℕ) (told : NodeMessage) → is_running stopped x ≡ true → Fits site told
       → IsTrueOf stopped sent x y told
       → Ties site stopped on midst owed sent → Ties site stopped on (sends x y told midst)
-      (owed ++ letters_by x y told) sent
+      (owed ++ parcels_by x y told) sent
   sends-ties midst x y told runs fits right T = by_node (slice_get midst.nodes x) refl
     where
-      closed : (IsOpen stopped T.net x y → ⊥) → Ties site stopped on midst (owed ++ letters_by x y told) sent
+      closed : (IsOpen stopped T.net x y → ⊥) → Ties site stopped on midst (owed ++ parcels_by x y told) sent
       closed not_open = record {
         net = T.net;
         tied = T.tied;
@@ -208,7 +209,7 @@ module _ {site : Site} {stopped : List Bool} {on : List Packet} {owed sent : Lis
 
       end-there : (node : Node) (e : End) → slice_get midst.nodes x ≡ Some node → slice_get node.ends y ≡ Some e
           → (d : Bool) → e.down ≡ d
-          → Ties site stopped on (push_at x y (words_of told) node e midst) (owed ++ letters_by x y told) sent
+          → Ties site stopped on (push_at x y (words_of told) node e midst) (owed ++ parcels_by x y told) sent
       end-there node e at has true d = record {
         net = T.net;
         tied = still-tied T.tied x y node e at has runs bus.X (sent_by_push (words_of told) e)
@@ -235,7 +236,7 @@ module _ {site : Site} {stopped : List Bool} {on : List Packet} {owed sent : Lis
       }
 
       by_end : (node : Node) → slice_get midst.nodes x ≡ Some node → (one : Option End) → slice_get node.ends y ≡ one
-          → Ties site stopped on (at_end_of (push_at x y (words_of told) node) one midst) (owed ++ letters_by x y told)
+          → Ties site stopped on (at_end_of (push_at x y (words_of told) node) one midst) (owed ++ parcels_by x y told)
           sent
       by_end node at None e = closed (λ o. absent T.tied x y (no-end midst x y node at e) o.sender o.receiver)
       by_end node at (Some e) has = end-there node e at has e.down refl
@@ -243,7 +244,7 @@ module _ {site : Site} {stopped : List Bool} {on : List Packet} {owed sent : Lis
       by_node : (one : Option Node) → slice_get midst.nodes x ≡ one
           → Ties site stopped on (at_node (λ node.
           at_end_of (push_at x y (words_of told) node) (slice_get node.ends y)) one midst)
-          (owed ++ letters_by x y told) sent
+          (owed ++ parcels_by x y told) sent
       by_node None e = closed (λ o. absent T.tied x y (no-node midst x y e) o.sender o.receiver)
       by_node (Some node) at = by_end node at (slice_get node.ends y) refl
 
@@ -348,9 +349,9 @@ module _ {site : Site} {stopped : List Bool} {on : List Packet} {owed sent : Lis
     places = T.places;
   }
 
-  -- as many are owed when more letters were sent
-  pub more-ties : (midst : Midst) (more : List Letter)
-      → ((letter : Letter) → IsAmong letter sent → IsAmong letter more) → Ties site stopped on midst owed sent
+  -- as many are owed when more parcels were sent
+  pub more-ties : (midst : Midst) (more : List Parcel)
+      → ((parcel : Parcel) → IsAmong parcel sent → IsAmong parcel more) → Ties site stopped on midst owed sent
       → Ties site stopped on midst owed more
   more-ties midst more up T =
       record { net = T.net; tied = T.tied; owes = more-owes T.owes more up; watches = T.watches; places = T.places }
@@ -428,63 +429,74 @@ module _ {site : Site} {stopped : List Bool} {on : List Packet} {owed sent : Lis
       }
 
 -- fewer packets are on the buses
-pub fewer-ties : {site : Site} {stopped : List Bool} {on fewer : List Packet} {midst : Midst} {owed sent : List Letter}
+pub fewer-ties : {site : Site} {stopped : List Bool} {on fewer : List Packet} {midst : Midst} {owed sent : List Parcel}
     → ((p : Packet) → IsAmong p fewer → IsAmong p on)
     → Ties site stopped on midst owed sent → Ties site stopped fewer midst owed sent
 fewer-ties from T =
     record { net = T.net; tied = fewer-tied from T.tied; owes = T.owes; watches = T.watches; places = T.places }
 
 -- an event is over, and what it sent is put on the buses
-pub rest-ties : {site : Site} {stopped : List Bool} {owed sent : List Letter} (wires : Wires) (midst : Midst)
+pub rest-ties : {site : Site} {stopped : List Bool} {owed sent : List Parcel} (wires : Wires) (midst : Midst)
     → Ties site stopped (on_both wires) midst owed sent
     → TiesAtRest site stopped (with_sent midst wires) owed sent
 rest-ties wires midst T =
     record { net = T.net; tied = rest-tied wires T.tied; owes = T.owes; watches = T.watches; places = T.places }
 
--- Letters that are posted
+-- Parcels that are posted
 
--- letters that were sent and fit the site
-abbrev pub AreFit : Site → List Letter → List Letter → Type 0
-AreFit site sent letters =
-    (letter : Letter) → IsAmong letter letters → Fits site (Carrying letter.message) × IsAmong letter sent
+-- parcels of letters that were sent and fit the site
+abbrev pub AreFit : Site → List Parcel → List Parcel → Type 0
+AreFit site sent parcels =
+    (parcel : Parcel) → IsAmong parcel parcels
+    → IsContent parcel.content × Fits site parcel.content × IsAmong parcel sent
 
-pub posted-ties : {site : Site} {stopped : List Bool} {on : List Packet} {owed sent : List Letter} (midst : Midst)
-    (letter : Letter) → Fits site (Carrying letter.message) → IsAmong letter sent
-    → Ties site stopped on midst owed sent → Ties site stopped on (posted stopped letter midst) (owed ++ letter ∷ [])
+true-own : (stopped : List Bool) (sent : List Parcel) (x y : ℕ) (told : NodeMessage) → IsContent told
+    → IsAmong (record { sender = x; receiver = y; content = told }) sent → IsTrueOf stopped sent x y told
+true-own stopped sent x y (Carrying message) own among = among
+true-own stopped sent x y (Changing change) own among = among
+true-own stopped sent x y (Reporting node set) own among = absurd cc
+true-own stopped sent x y (Declaring processor) own among = absurd cc
+
+pub posted-ties : {site : Site} {stopped : List Bool} {on : List Packet} {owed sent : List Parcel} (midst : Midst)
+    (parcel : Parcel) → IsContent parcel.content → Fits site parcel.content → IsAmong parcel sent
+    → Ties site stopped on midst owed sent → Ties site stopped on (posted stopped parcel midst) (owed ++ parcel ∷ [])
     sent
-posted-ties {site = site} {stopped = stopped} {on = on} {owed = owed} {sent = sent} midst letter fits among T =
-    by (is_running stopped letter.sender) refl
+posted-ties {site = site} {stopped = stopped} {on = on} {owed = owed} {sent = sent} midst parcel own fits among T =
+    subst (λ (one : List Parcel). Ties site stopped on (posted stopped parcel midst) (owed ++ one) sent)
+    (by-own parcel.sender parcel.receiver parcel.content own) (by (is_running stopped parcel.sender) refl)
   where
-    by : (test : Bool) → is_running stopped letter.sender ≡ test
-        → Ties site stopped on (if test then sends letter.sender letter.receiver (Carrying letter.message) midst else
-        midst) (owed ++ letter ∷ []) sent
-    by true runs = sends-ties midst letter.sender letter.receiver (Carrying letter.message) runs fits among T
+    by : (test : Bool) → is_running stopped parcel.sender ≡ test
+        → Ties site stopped on (if test then sends parcel.sender parcel.receiver parcel.content midst else midst)
+        (owed ++ parcels_by parcel.sender parcel.receiver parcel.content) sent
+    by true runs =
+        sends-ties midst parcel.sender parcel.receiver parcel.content runs fits
+        (true-own stopped sent parcel.sender parcel.receiver parcel.content own among) T
     by false rests = record {
       net = T.net;
       tied = T.tied;
-      owes = closed-owes T.owes letter.sender letter.receiver (Carrying letter.message)
+      owes = closed-owes T.owes parcel.sender parcel.receiver parcel.content
           (λ o. let is : true ≡ false = sym o.runs ∙ rests in absurd cc);
       watches = T.watches;
       places = T.places;
     }
 
-pub all-posted-ties : {site : Site} {stopped : List Bool} {on : List Packet} {owed sent : List Letter}
-    (letters : List Letter) (midst : Midst) → AreFit site sent letters
-    → Ties site stopped on midst owed sent → Ties site stopped on (all_posted stopped letters midst) (owed ++ letters)
+pub all-posted-ties : {site : Site} {stopped : List Bool} {on : List Packet} {owed sent : List Parcel}
+    (parcels : List Parcel) (midst : Midst) → AreFit site sent parcels
+    → Ties site stopped on midst owed sent → Ties site stopped on (all_posted stopped parcels midst) (owed ++ parcels)
     sent
 all-posted-ties {site = site} {stopped = stopped} {on = on} {owed = owed} {sent = sent} [] midst fit T =
     subst (λ o. Ties site stopped on midst o sent) (sym (append-nil owed)) T
-all-posted-ties {site = site} {stopped = stopped} {on = on} {owed = owed} {sent = sent} (letter ∷ letters) midst fit T =
-    let here = fit letter (inl refl) in
-    subst (λ o. Ties site stopped on (all_posted stopped (letter ∷ letters) midst) o sent)
-    (append_assoc owed (letter ∷ []) letters)
-    (all-posted-ties letters (posted stopped letter midst) (λ other among. fit other (inr among))
-    (posted-ties midst letter here.0 here.1 T))
+all-posted-ties {site = site} {stopped = stopped} {on = on} {owed = owed} {sent = sent} (parcel ∷ parcels) midst fit T =
+    let here = fit parcel (inl refl) in
+    subst (λ o. Ties site stopped on (all_posted stopped (parcel ∷ parcels) midst) o sent)
+    (append_assoc owed (parcel ∷ []) parcels)
+    (all-posted-ties parcels (posted stopped parcel midst) (λ other among. fit other (inr among))
+    (posted-ties midst parcel here.0 here.1 here.2 T))
 
 -- A packet that comes
 
 -- the state of midst between a packet's arrival and the hand-over
-pub record Came (site : Site) (stopped : List Bool) (on : List Packet) (midst : Midst) (owed sent : List Letter)
+pub record Came (site : Site) (stopped : List Bool) (on : List Packet) (midst : Midst) (owed sent : List Parcel)
     (s r : ℕ) (h : Option (List ℤ)) : Type 0 where
   pub net : Net
   pub tied : IsTied stopped on midst net
@@ -510,7 +522,7 @@ gained n a b p e w live is up =
         put-all (λ c d (w : Way). w.out ≡ (n.ways c d).out) b a (telling number (n.ways b a)) n.ways refl (λ c d. refl)
         a b ∙ sym (append-nil (n.ways a b).out)
 
-pub came : {site : Site} {stopped : List Bool} {on : List Packet} {owed sent : List Letter} (midst : Midst)
+pub came : {site : Site} {stopped : List Bool} {on : List Packet} {owed sent : List Parcel} (midst : Midst)
     (T : Ties site stopped on midst owed sent) (name : BusName) (p : Packet)
     → IsAmong p T.net.flight → is_running stopped p.receiver ≡ true
     → Came site stopped on (arrived name p midst) owed sent p.sender p.receiver

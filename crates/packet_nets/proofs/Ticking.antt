@@ -21,7 +21,7 @@ use Rattle.alive_regroup.specs.Watching.{Watching, neighbour_after_check, is_sil
 use Rattle.alive_regroup.specs.Watching.{told_by_tick, does_check, after_tick, is_held, at_first, begun}
 use Rattle.world_semantics.specs.World.{is_running, runs_by, terminal_node}
 use Rattle.world_semantics.proofs.Lists.{some-same}
-use Rattle.letters.specs.Routes.{Letter}
+use Rattle.packet_wires.specs.Parcels.{Parcel}
 use Rattle.message_layout.specs.Messages.{NodeMessage, Reporting, Declaring}
 use Rattle.packet_wires.specs.Nodes.{Node, end_at, numbers, all_nodes, others, never_reloaded, node_at_boot}
 use Rattle.packet_wires.specs.Nodes.{nodes_at_boot}
@@ -111,7 +111,7 @@ report-fits site stopped x watch set places runs is told = by (does_check watch)
         changed true is = absurd cc
         changed false is = known e (sym (some-same is))
 
-module _ {site : Site} {stopped : List Bool} {on : List Packet} {owed sent : List Letter} (x : ℕ)
+module _ {site : Site} {stopped : List Bool} {on : List Packet} {owed sent : List Parcel} (x : ℕ)
     (runs : is_running stopped x ≡ true) where
   -- nodes tell each other something that is no letter
   pub other-ties : (told : NodeMessage) (midst : Midst) (ys : List ℕ)

@@ -1,5 +1,7 @@
--- What a net owes of the letters of a post: the tie between what was pushed and what is still to be handed over.
-use Rattle.std.specs.Prelude.{◌≡◌, ◌≤◌, ◌==◌, ◌&&◌, ℕ, ℤ, Bool, true, false, List, ◌++◌, length, slice_get, Option}
+-- What a net owes of the parcels in which letters go: the tie between what was pushed and what is still to be handed
+-- over.
+use Rattle.std.specs.Prelude.{◌≡◌, ◌≤◌, ◌==◌, ◌&&◌, ◌||◌, ℕ, ℤ, Bool, true, false, not, List, ◌∷◌, ◌++◌, length}
+use Rattle.std.specs.Prelude.{slice_get, Option}
 use Rattle.std.specs.Prelude.{Some, None, filter_map, map}
 use Rattle.std.specs.List.{filter}
 use Rattle.std.specs.Option.{option_and_then}
@@ -7,51 +9,71 @@ use Rattle.gd_words.specs.Members.{IsAmong}
 use Rattle.tal_tree.specs.declared.site.Site.{Site}
 use Rattle.packet_words.specs.declared.packet.Packet.{Packet}
 use Rattle.channel_laws.specs.Net.{Net}
-use Rattle.world_semantics.specs.Messages.{Message}
 use Rattle.world_semantics.specs.World.{is_running}
-use Rattle.letters.specs.Routes.{Letter}
-use Rattle.message_layout.specs.Messages.{NodeMessage, Carrying, Reporting, Declaring}
+use Rattle.message_layout.specs.Messages.{NodeMessage, Carrying, Changing, Reporting, Declaring}
 use Rattle.message_layout.specs.Layout.{words_of, Fits}
 use Rattle.message_layout.specs.Reading.{node_message_in, understood}
+use Rattle.packet_wires.specs.Parcels.{Parcel}
 use Rattle.packet_wires.specs.Wires.{Wires, Midst, nothing_sent}
 use Rattle.packet_nets.specs.Tied.{IsTied, AreWatches}
 
--- the message of the world in a message between nodes, if it carries one
-abbrev pub message_of : NodeMessage → Option Message
-message_of (Carrying message) = Some message
-message_of (Reporting node silent) = None
-message_of (Declaring processor) = None
+-- a message between nodes, where it is the content of a letter, in whatever form
+abbrev pub content_of : NodeMessage → Option NodeMessage
+content_of (Carrying message) = Some (Carrying message)
+content_of (Changing change) = Some (Changing change)
+content_of (Reporting node silent) = None
+content_of (Declaring processor) = None
 
-abbrev pub carried_of : List ℤ → Option Message
-carried_of words = option_and_then message_of (node_message_in words)
+abbrev pub IsContent : NodeMessage → Type 0
+IsContent told = content_of told ≡ Some told
 
--- the messages of the world that these words carry, in their order
-abbrev pub carried : List (List ℤ) → List Message
+abbrev pub carried_of : List ℤ → Option NodeMessage
+carried_of words = option_and_then content_of (node_message_in words)
+
+-- what these words carry of letters, in their order
+abbrev pub carried : List (List ℤ) → List NodeMessage
 carried pushes = filter_map carried_of pushes
 
-abbrev pub goes : ℕ → ℕ → Letter → Bool
-goes x y letter = letter.sender == x && letter.receiver == y
+abbrev pub goes : ℕ → ℕ → Parcel → Bool
+goes x y parcel = parcel.sender == x && parcel.receiver == y
 
--- the messages of those letters that go from x to y, in their order
-abbrev pub between : ℕ → ℕ → List Letter → List Message
-between x y letters = map (λ letter. letter.message) (filter (goes x y) letters)
+-- the contents of those parcels that go from x to y, in their order
+abbrev pub between : ℕ → ℕ → List Parcel → List NodeMessage
+between x y parcels = map (λ parcel. parcel.content) (filter (goes x y) parcels)
 
--- a message from x to y is true: one of the world is that of a letter sent there, and a processor that is declared down
--- has stopped
-abbrev pub IsTrueOf : List Bool → List Letter → ℕ → ℕ → NodeMessage → Type 0
-IsTrueOf stopped sent x y (Carrying message) = IsAmong (record { sender = x; receiver = y; message = message }) sent
+-- a parcel and the others of a list, in their order
+pub data IsTaken (parcel : Parcel) : List Parcel → List Parcel → Type 0 where
+  takes_first : {rest : List Parcel} → IsTaken parcel (parcel ∷ rest) rest
+  takes_later : {other : Parcel} {parcels rest : List Parcel} → IsTaken parcel parcels rest
+      → IsTaken parcel (other ∷ parcels) (other ∷ rest)
+
+-- whether a parcel is between two nodes
+abbrev pub is_between : ℕ → ℕ → Parcel → Bool
+is_between one other parcel =
+    (parcel.sender == one && parcel.receiver == other) || (parcel.sender == other && parcel.receiver == one)
+
+abbrev pub without_those_between : ℕ → ℕ → List Parcel → List Parcel
+without_those_between one other parcels = filter (λ parcel. not (is_between one other parcel)) parcels
+
+-- a message from x to y is true: one that is of a letter is the content of a parcel sent there, and a processor that is
+-- declared down has stopped
+abbrev pub IsTrueOf : List Bool → List Parcel → ℕ → ℕ → NodeMessage → Type 0
+IsTrueOf stopped sent x y (Carrying message) =
+    IsAmong (record { sender = x; receiver = y; content = Carrying message }) sent
+IsTrueOf stopped sent x y (Changing change) =
+    IsAmong (record { sender = x; receiver = y; content = Changing change }) sent
 IsTrueOf stopped sent x y (Reporting node silent) = Unit {0}
 IsTrueOf stopped sent x y (Declaring processor) = slice_get stopped processor ≡ Some true
 
 -- these words are those of a true message that fits the site
-pub record IsPushed (site : Site) (stopped : List Bool) (sent : List Letter) (x y : ℕ) (words : List ℤ) : Type 0 where
+pub record IsPushed (site : Site) (stopped : List Bool) (sent : List Parcel) (x y : ℕ) (words : List ℤ) : Type 0 where
   pub message : NodeMessage
   pub is : words ≡ words_of message
   pub fits : Fits site message
   pub right : IsTrueOf stopped sent x y message
 
 -- the site understands these words, and they are a true message from x to y
-abbrev pub WasPushed : Site → List Bool → List Letter → ℕ → ℕ → List ℤ → Type 0
+abbrev pub WasPushed : Site → List Bool → List Parcel → ℕ → ℕ → List ℤ → Type 0
 WasPushed site stopped sent x y words =
     (message : NodeMessage) × (understood site words ≡ Some message) × Fits site message
     × IsTrueOf stopped sent x y message
@@ -66,14 +88,14 @@ pub record IsOpen (stopped : List Bool) (n : Net) (x y : ℕ) : Type 0 where
 
 -- whatever was pushed was true and fits the site; and what was pushed into an open channel is what came out of it, and
 -- then what is owed there
-pub record Owes (site : Site) (stopped : List Bool) (owed sent : List Letter) (n : Net) : Type 0 where
+pub record Owes (site : Site) (stopped : List Bool) (owed sent : List Parcel) (n : Net) : Type 0 where
   pub pushed : (x y : ℕ) (words : List ℤ) → IsAmong words (n.ways x y).pushes → IsPushed site stopped sent x y words
   pub owes : (x y : ℕ) → IsOpen stopped n x y
       → carried (n.ways x y).pushes ≡ carried (n.ways x y).out ++ between x y owed
 
--- while these packets are on the buses, the wires in the midst of an event hold what these letters owe, in a world in
+-- while these packets are on the buses, the wires in the midst of an event hold what these parcels owe, in a world in
 -- which these have stopped
-pub record Ties (site : Site) (stopped : List Bool) (on : List Packet) (midst : Midst) (owed sent : List Letter) :
+pub record Ties (site : Site) (stopped : List Bool) (on : List Packet) (midst : Midst) (owed sent : List Parcel) :
     Type 0 where
   pub net : Net
   pub tied : IsTied stopped on midst net
@@ -85,6 +107,6 @@ pub record Ties (site : Site) (stopped : List Bool) (on : List Packet) (midst : 
 abbrev pub on_both : Wires → List Packet
 on_both wires = wires.x ++ wires.y
 
--- between events, wires hold what these letters owe
-abbrev pub TiesAtRest : Site → List Bool → Wires → List Letter → List Letter → Type 0
+-- between events, wires hold what these parcels owe
+abbrev pub TiesAtRest : Site → List Bool → Wires → List Parcel → List Parcel → Type 0
 TiesAtRest site stopped wires owed sent = Ties site stopped (on_both wires) (nothing_sent wires.nodes) owed sent

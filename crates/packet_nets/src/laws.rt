@@ -4,36 +4,34 @@ ghost use Rattle.gd_words.specs.Members.{IsAmong};
 ghost use Rattle.tal_tree.specs.declared.site.Site.{Site};
 ghost use Rattle.packet_words.specs.declared.packet.Packet.{Packet};
 ghost use Rattle.world_semantics.specs.World.{is_running};
-ghost use Rattle.letters.specs.Posts.{without_those_between};
-ghost use Rattle.letters.specs.Routes.{Letter};
 ghost use Rattle.message_layout.specs.Layout.{Fits};
-ghost use Rattle.message_layout.specs.Messages.{Carrying};
+ghost use Rattle.packet_wires.specs.Parcels.{Parcel};
 ghost use Rattle.packet_wires.specs.Wires.{Midst, Wires, all_posted, cut_off, declares, ticked, wires_at_boot};
 ghost use Rattle.packet_wires.specs.Wires.{with_sent};
-ghost use Rattle.packet_nets.specs.Owing.{Ties, TiesAtRest, on_both};
+ghost use Rattle.packet_nets.specs.Owing.{IsContent, Ties, TiesAtRest, on_both, without_those_between};
 
 /// At the beginning nothing is owed.
 pub fn wires_begin_owing_nothing()
     ensures { (site : Site) → TiesAtRest site (replicate site.processors false) (wires_at_boot site.processors) [] [] }
 {}
 
-/// Letters that are posted are owed behind those that were.
+/// Parcels that are posted are owed behind those that were.
 pub fn what_is_posted_is_owed()
-    ensures { (site : Site) (stopped : List Bool) (on : List Packet) (midst : Midst) (owed : List Letter)
-        (sent : List Letter) (letters : List Letter)
-        → Ties site stopped on midst owed sent → ((letter : Letter) → IsAmong letter letters
-        → Fits site (Carrying letter.message) × IsAmong letter sent)
-        → Ties site stopped on (all_posted stopped letters midst) (owed ++ letters) sent }
+    ensures { (site : Site) (stopped : List Bool) (on : List Packet) (midst : Midst) (owed : List Parcel)
+        (sent : List Parcel) (parcels : List Parcel)
+        → Ties site stopped on midst owed sent → ((parcel : Parcel) → IsAmong parcel parcels
+        → IsContent parcel.content × Fits site parcel.content × IsAmong parcel sent)
+        → Ties site stopped on (all_posted stopped parcels midst) (owed ++ parcels) sent }
 {}
 
 /// What a node sends at its ticks, and by which it declares a stopped processor down, changes nothing that is owed.
 pub fn ticks_owe_nothing_more()
-    ensures tick { (site : Site) (stopped : List Bool) (on : List Packet) (midst : Midst) (owed : List Letter)
-        (sent : List Letter) (node : ℕ)
+    ensures tick { (site : Site) (stopped : List Bool) (on : List Packet) (midst : Midst) (owed : List Parcel)
+        (sent : List Parcel) (node : ℕ)
         → is_running stopped node ≡ true → Ties site stopped on midst owed sent
         → Ties site stopped on (ticked site.processors node midst) owed sent }
-    ensures declare { (site : Site) (stopped : List Bool) (on : List Packet) (midst : Midst) (owed : List Letter)
-        (sent : List Letter) (node processor : ℕ)
+    ensures declare { (site : Site) (stopped : List Bool) (on : List Packet) (midst : Midst) (owed : List Parcel)
+        (sent : List Parcel) (node processor : ℕ)
         → is_running stopped node ≡ true → processor ≤ 15 → slice_get stopped processor ≡ Some true
         → Ties site stopped on midst owed sent
         → Ties site stopped on (declares site.processors node processor midst) owed sent }
@@ -41,8 +39,8 @@ pub fn ticks_owe_nothing_more()
 
 /// When a node cuts a stopped processor off, what was owed between both is owed no more.
 pub fn what_is_cut_off_is_struck_off()
-    ensures { (site : Site) (stopped : List Bool) (on : List Packet) (midst : Midst) (owed : List Letter)
-        (sent : List Letter) (node processor : ℕ)
+    ensures { (site : Site) (stopped : List Bool) (on : List Packet) (midst : Midst) (owed : List Parcel)
+        (sent : List Parcel) (node processor : ℕ)
         → is_running stopped node ≡ true → slice_get stopped processor ≡ Some true
         → Ties site stopped on midst owed sent
         → Ties site stopped on (cut_off node processor midst) (without_those_between node processor owed) sent }
@@ -50,8 +48,8 @@ pub fn what_is_cut_off_is_struck_off()
 
 /// When an event is over, and what it sent is put on the buses, as much is owed.
 pub fn what_is_sent_is_in_flight()
-    ensures { (site : Site) (stopped : List Bool) (wires : Wires) (midst : Midst) (owed : List Letter)
-        (sent : List Letter)
+    ensures { (site : Site) (stopped : List Bool) (wires : Wires) (midst : Midst) (owed : List Parcel)
+        (sent : List Parcel)
         → Ties site stopped (on_both wires) midst owed sent
         → TiesAtRest site stopped (with_sent midst wires) owed sent }
 {}

@@ -19,8 +19,8 @@ use Rattle.alive_regroup.specs.Watching as watching
 use Rattle.alive_regroup.specs.Watching.{Watching, changed_at, told_by_tick}
 use Rattle.world_semantics.specs.World.{is_running, terminal_node}
 use Rattle.world_semantics.proofs.Lists.{set-all}
-use Rattle.letters.specs.Routes.{Letter}
-use Rattle.message_layout.specs.Messages.{NodeMessage, Carrying, Reporting, Declaring}
+use Rattle.message_layout.specs.Messages.{NodeMessage, Reporting, Declaring}
+use Rattle.packet_wires.specs.Parcels.{Parcel}
 use Rattle.message_layout.specs.Layout.{words_of}
 use Rattle.packet_wires.specs.Nodes.{Node, all_nodes, others, with_end, with_watch}
 use Rattle.packet_wires.specs.Wires as wires
@@ -240,18 +240,18 @@ module _ (n : ℕ) where
   sends-all-goes : (x : ℕ) (message : NodeMessage) (ys : List ℕ) → Keeps (sends_all x message ys)
   sends-all-goes x message = each-goes (λ y. sends x y message) (λ y. pushing-goes x y (words_of message))
 
-  posted-goes : (stopped : List Bool) (letter : Letter) → Keeps (posted stopped letter)
-  posted-goes stopped letter midst all = by (is_running stopped letter.sender)
+  posted-goes : (stopped : List Bool) (parcel : Parcel) → Keeps (posted stopped parcel)
+  posted-goes stopped parcel midst all = by (is_running stopped parcel.sender)
     where
-      by : (runs : Bool) → AllGo (if runs then sends letter.sender letter.receiver (Carrying letter.message) midst else
+      by : (runs : Bool) → AllGo (if runs then sends parcel.sender parcel.receiver parcel.content midst else
           midst).nodes
-      by true = pushing-goes letter.sender letter.receiver (words_of (Carrying letter.message)) midst all
+      by true = pushing-goes parcel.sender parcel.receiver (words_of parcel.content) midst all
       by false = all
 
-  pub all-posted-go : (stopped : List Bool) (letters : List Letter) → Keeps (all_posted stopped letters)
+  pub all-posted-go : (stopped : List Bool) (parcels : List Parcel) → Keeps (all_posted stopped parcels)
   all-posted-go stopped [] midst all = all
-  all-posted-go stopped (letter ∷ letters) midst all =
-      all-posted-go stopped letters (posted stopped letter midst) (posted-goes stopped letter midst all)
+  all-posted-go stopped (parcel ∷ parcels) midst all =
+      all-posted-go stopped parcels (posted stopped parcel midst) (posted-goes stopped parcel midst all)
 
   tells-alive-goes : (processors x : ℕ) → Keeps (tells_alive processors x)
   tells-alive-goes processors x midst all = by (x == terminal_node)

@@ -12,15 +12,17 @@ use Rattle.alive_regroup.specs.Watching.{changed_at}
 use Rattle.world_semantics.specs.World.{is_running}
 use Rattle.world_semantics.specs.Running.{Done, run_done}
 use Rattle.computed_changes.specs.Entered.{enter_done}
+use Rattle.computed_changes.specs.Changed.{change_done}
 use Rattle.computed_changes.specs.Handed.{handed_done}
 use Rattle.computed_changes.specs.Stopped.{stop_done, stopped_world, down_done}
 use Rattle.letters.specs.Routes.{letters_of}
 use Rattle.letters.specs.Again.{sent_again}
 use Rattle.machine_states.specs.States.{Played, Makes, Skips, Would, SecondStop}
-use Rattle.message_wires.specs.Play.{has_stopped}
-use Rattle.message_layout.specs.Messages.{NodeMessage, Carrying, Reporting, Declaring}
+use Rattle.number_laws.specs.message_wires.specs.Play.{has_stopped}
+use Rattle.message_layout.specs.Messages.{NodeMessage, Carrying, Changing, Reporting, Declaring}
 use Rattle.message_layout.specs.Reading.{understood}
 use Rattle.packet_wires.specs.Nodes.{Node, all_nodes, end_at, never_reloaded, node_at_boot, nodes_at_boot}
+use Rattle.packet_wires.specs.Parcels.{parcels_of}
 use Rattle.packet_wires.specs.Wires.{Wires, Midst, bus_named, arrived, ticked, cut_off}
 use Rattle.packet_wires.specs.Play.{Packeted, Underway, begun, after_done, made_by, after_any, marked_by}
 use Rattle.packet_wires.specs.Play.{marks, handed, handed_any, handed_words, completed, received, deliver_acted}
@@ -45,7 +47,8 @@ module _ (n : ℕ) where
 
   done-goes : (s : Underway) (done : Done) → Goes s → Goes (after_done s done)
   done-goes s done all =
-      all-posted-go n done.world.stopped (letters_of s.site done.world done.sendings) s.wires all
+      all-posted-go n done.world.stopped (parcels_of done.world (letters_of s.site done.world done.sendings)) s.wires
+      all
 
   made-goes : (s : Underway) (done : Option Done) → Goes s → AnyGoes (made_by s done)
   made-goes s None all = tt
@@ -62,11 +65,13 @@ module _ (n : ℕ) where
       by None = all
       by (Some done) =
           all-posted-go n done.world.stopped
-          (letters_of s.site done.world (done.sendings ++ sent_again s.site s.world done.world node processor))
+          (parcels_of done.world
+          (letters_of s.site done.world (done.sendings ++ sent_again s.site s.world done.world node processor)))
           (cut_off node processor s.wires) (cut-off-goes n node processor s.wires all)
 
   handed-goes : (node : ℕ) (message : NodeMessage) (s : Underway) → Goes s → Goes (handed node message s)
   handed-goes node (Carrying message) s all = any-goes s (handed_done s.site node message s.world) all
+  handed-goes node (Changing change) s all = any-goes s (change_done s.site node change s.world) all
   handed-goes node (Reporting from silent) s all =
       learns-go n node (changed_at from (watching.neighbour_after_report silent)) s.wires all
   handed-goes node (Declaring processor) s all = marks-go node processor s all

@@ -33,9 +33,9 @@ use Rattle.letters.proofs.Worlds.{played-run}
 use Rattle.packets_played.specs.letter_laws.proofs.Fitting.{letter-fits}
 use Rattle.packets_played.specs.letter_laws.proofs.Given.{letter-from}
 use Rattle.packets_played.specs.letter_laws.proofs.Honest.{played-honest}
-use Rattle.message_wires.specs.Play.{machine_at_boot}
-use Rattle.message_wires.specs.Runs as whole
-use Rattle.number_ranges.specs.HasRoom.{CopyHasRoom, TerminalHasRoom, WorldHasRoom}
+use Rattle.number_laws.specs.message_wires.specs.Play.{machine_at_boot}
+use Rattle.number_laws.specs.message_wires.specs.Runs as whole
+use Rattle.number_laws.specs.number_ranges.specs.HasRoom.{CopyHasRoom, TerminalHasRoom, WorldHasRoom}
 use Rattle.number_laws.proofs.Each.{Each, each-all, each-append, each-more}
 use Rattle.number_laws.proofs.Hands.{enter-within, handed-within}
 use Rattle.number_laws.proofs.Marks.{again-within, mark-within, stop-within}

@@ -17,14 +17,16 @@ use Rattle.plain_semantics.specs.Openers.{openers_of}
 use Rattle.process_semantics.specs.Process as process
 use Rattle.checkpoint_image.specs.declared.message.ImageMessage.{ImageMessage}
 use Rattle.checkpoint_image.specs.declared.message.TakenMessage.{TakenMessage}
-use Rattle.checkpoint_image.specs.Layout.{IsWithinLayout}
+use Rattle.message_layout.specs.change_layout.specs.Changing.{whole_of, whole_where}
+use Rattle.message_layout.specs.change_layout.specs.declared.message.ChangeMessage.{ChangeMessage}
+use Rattle.message_layout.specs.change_layout.specs.sync_ids.specs.Changes.{fits_change}
 use Rattle.checkpoint_image.specs.Receive.{repeated}
 use Rattle.world_semantics.specs.declared.role.Role.{Role}
 use Rattle.world_semantics.specs.declared.role.Role.TheVariants.{Acting, Watching, Gone}
 use Rattle.world_semantics.specs.declared.which.Which.{Which}
 use Rattle.world_semantics.specs.declared.which.Which.TheVariants.{First, Second}
 use Rattle.world_semantics.specs.Core.{Core}
-use Rattle.world_semantics.specs.World.{Copy, Pair, Terminal, copy_of, terminal_node}
+use Rattle.world_semantics.specs.World.{Copy, Pair, Terminal, World, copy_of, terminal_node}
 use Rattle.world_semantics.specs.Messages.{Message, Asking, Replying, Checkpointing, Taking, Sending, Cause}
 use Rattle.world_semantics.specs.Messages.{Running, Entering, NotingDown}
 use Rattle.world_semantics.specs.Passes.{taken_of}
@@ -38,6 +40,7 @@ use Rattle.world_semantics.proofs.Members.{among-map}
 use Rattle.world_semantics.proofs.Ran.{run-may}
 use Rattle.world_semantics.proofs.Reached.{run-marks, run-roles, gone-is}
 use Rattle.world_semantics.proofs.Sendings.{run-sends}
+use Rattle.computed_changes.specs.Changed.{change_brought_to, change_done, change_step}
 use Rattle.computed_changes.specs.Checkpoints.{applied_step, checkpoint_step, core_as, is_of_last, taken_step}
 use Rattle.computed_changes.specs.Checkpoints.{taken_step_where}
 use Rattle.computed_changes.specs.Entered.{enter_done}
@@ -65,25 +68,30 @@ use Rattle.packets_played.specs.letter_laws.proofs.Awaited.{acting-done}
 use Rattle.packets_played.specs.letter_laws.proofs.Given.{message-of}
 use Rattle.packets_played.specs.letter_laws.proofs.Honest.{played-honest}
 use Rattle.packets_played.specs.letter_laws.proofs.Replies.{kept-sent}
-use Rattle.message_layout.specs.Messages.{Carrying}
-use Rattle.message_layout.specs.Layout.{Fits, IsCarriedWithin}
+use Rattle.message_layout.specs.Messages.{NodeMessage, Carrying, Changing}
+use Rattle.message_layout.specs.Layout.{Fits, IsCarriedWithin, IsTakenWithin, IsWithin}
+use Rattle.packet_wires.specs.Parcels.{form_of}
 use Rattle.packets_played.specs.letters_layout.specs.Fitting.{IsSmall}
-use Rattle.packets_played.specs.letters_layout.proofs.Checkpoints.{checkpoint-fits, taken-fits}
+use Rattle.packets_played.specs.letters_layout.proofs.Checkpoints.{change-fits, checkpoint-fits, taken-fits}
 use Rattle.packets_played.specs.letters_layout.proofs.Replies.{reply-fits}
 use Rattle.packets_played.specs.letters_layout.proofs.Requests.{request-fits}
-use Rattle.site_machine.specs.Needs.{AreWithin, MarksWithin, SendsWithin}
+use Rattle.packets_played.specs.packets_laws.specs.Carried.{IsFormOf}
+use Rattle.packets_played.specs.packets_laws.specs.checkpoint_chains.proofs.Newest.{IsNewestIfOne, change-new}
+use Rattle.packets_played.specs.packets_laws.proofs.Forms.{again-new}
+use Rattle.packets_played.specs.packets_laws.proofs.Newest.{form-newest}
+use Rattle.site_machine.specs.Needs.{AreWithin, IsSentWithin, MarksWithin, SendsWithin}
 
 -- Lists
 
-all-among : (sendings : List Sending)
-    → ((sending : Sending) → IsAmong sending sendings → IsCarriedWithin sending.message) → AreWithin sendings
-all-among [] holds = All-nil (λ (sending : Sending). IsCarriedWithin sending.message)
-all-among (sending ∷ sendings) holds =
-    All-cons (λ (one : Sending). IsCarriedWithin one.message) sending sendings (holds sending (inl refl))
-    (all-among sendings (λ one among. holds one (inr among)))
+all-among : (w : World) (sendings : List Sending)
+    → ((sending : Sending) → IsAmong sending sendings → IsSentWithin w sending.message) → AreWithin w sendings
+all-among w [] holds = All-nil (λ (sending : Sending). IsSentWithin w sending.message)
+all-among w (sending ∷ sendings) holds =
+    All-cons (λ (one : Sending). IsSentWithin w one.message) sending sendings (holds sending (inl refl))
+    (all-among w sendings (λ one among. holds one (inr among)))
 
-none-within : AreWithin []
-none-within = All-nil (λ (sending : Sending). IsCarriedWithin sending.message)
+none-within : (w : World) → AreWithin w []
+none-within w = All-nil (λ (sending : Sending). IsSentWithin w sending.message)
 
 -- A processor that stops again, or isn't there, changes nothing
 
@@ -130,6 +138,22 @@ module _ (site : Site) (fit : IsFit site) (small : IsSmall site) (out : IsLaidOu
   sent-within events post few played (Taking taken) sent =
       (taken-fits site fit small events post.world few (played-run played) taken sent).within
 
+  -- and so does the form in which it goes, where it was sent last
+  goes-within : (events : List Event) (post : Post) → length events < 4294967296 → HasPlayed site events post
+      → (message : Message) → IsSent post.world message → IsNewestIfOne post.world message
+      → IsSentWithin post.world message
+  goes-within events post few played message sent new = (
+    sent-within events post few played message sent,
+    by (form_of post.world message) (form-newest post.world (played-run played) message new),
+  )
+    where
+      by : (content : NodeMessage) → IsFormOf post.world message content → IsWithin content
+      by content (inl same) = subst IsWithin (sym same) (sent-within events post few played message sent)
+      by content (inr (before, one, is, goes_as, known, next_to)) =
+          subst IsWithin (sym goes_as)
+          (change-fits site fit small events post.world few (played-run played) before one
+          (subst (IsSent post.world) is sent)).within
+
   module _ (events : List Event) (post : Post) (few : length events < 4294967295)
       (played : HasPlayed site events post) where
     few-more : (event : Event) → length (events ++ event ∷ []) < 4294967296
@@ -138,25 +162,27 @@ module _ (site : Site) (fit : IsFit site) (small : IsSmall site) (out : IsLaidOu
     -- what a change sends was sent after its event
     new-within : (event : Event) (after : Post) (cause : Cause) (sendings : List Sending)
         → PlaysEvent site post event after → Change site post.world cause sendings after.world
-        → (sending : Sending) → IsAmong sending sendings → IsCarriedWithin sending.message
+        → (sending : Sending) → IsAmong sending sendings → IsSentWithin after.world sending.message
     new-within event after cause sendings plays change sending among =
         let run : IsRun site (events ++ event ∷ []) after.world = played-run (played_more played plays) in
-        sent-within (events ++ event ∷ []) after (few-more event) (played_more played plays) sending.message
+        goes-within (events ++ event ∷ []) after (few-more event) (played_more played plays) sending.message
         (run-sent after.world sending.message run
         (run-sends (played-run played) after.world cause sendings change sending among))
+        (change-new post.world after.world cause sendings change sending among)
 
-    runs-within : (number : ℕ) (done : Done) → run_done site number post.world ≡ Some done → AreWithin done.sendings
+    runs-within : (number : ℕ) (done : Done) → run_done site number post.world ≡ Some done
+        → AreWithin done.world done.sendings
     runs-within number done e =
         let change = run-may site number post.world done e in
-        all-among done.sendings
+        all-among done.world done.sendings
         (new-within (Run number) (after_change site done.sendings done.world post) (Running number) done.sendings
         (plays_run change) change)
 
     enters-within : (terminal : ℕ) (done : Done) → enter_done site terminal post.world ≡ Some done
-        → AreWithin done.sendings
+        → AreWithin done.world done.sendings
     enters-within terminal done e =
         let change = enter-may site terminal post.world done e in
-        all-among done.sendings
+        all-among done.world done.sendings
         (new-within (Enter terminal) (after_change site done.sendings done.world post) (Entering terminal)
         done.sendings (plays_enter change) change)
 
@@ -194,15 +220,16 @@ module _ (site : Site) (fit : IsFit site) (small : IsSmall site) (out : IsLaidOu
 
     marks-within : MarksWithin site post.world
     marks-within node processor done e =
-        all-among (done.sendings ++ sent_again site post.world done.world node processor)
+        all-among done.world (done.sendings ++ sent_again site post.world done.world node processor)
         (λ sending among. elim (among-either sending done.sendings
         (sent_again site post.world done.world node processor) among) [
           | inl new ↦ new-within (Deliver false 0) after (NotingDown node processor) done.sendings plays change sending
               new
-          | inr again ↦ sent-within (events ++ Deliver false 0 ∷ []) after (few-more (Deliver false 0))
+          | inr again ↦ let one = again-is site post.world done.world node processor sending again in
+              goes-within (events ++ Deliver false 0 ∷ []) after (few-more (Deliver false 0))
               (played_more played plays) sending.message
-              (again-sent (Deliver false 0) after plays sending.message
-              (again-is site post.world done.world node processor sending again))
+              (again-sent (Deliver false 0) after plays sending.message one)
+              (again-new site done.world sending.message one)
         ])
       where
         change : Change site post.world (NotingDown node processor) done.sendings done.world
@@ -216,13 +243,14 @@ module _ (site : Site) (fit : IsFit site) (small : IsSmall site) (out : IsLaidOu
 
     -- Messages that come
 
+    -- what it sends is no checkpoint, so it keeps to the layout in whatever world
     abbrev AnyStep : Option Stepped → Type 0
     AnyStep None = Unit {0}
-    AnyStep (Some step) = AreWithin step.sendings
+    AnyStep (Some step) = (w : World) → AreWithin w step.sendings
 
     abbrev AnyDone : Option Done → Type 0
     AnyDone None = Unit {0}
-    AnyDone (Some done) = AreWithin done.sendings
+    AnyDone (Some done) = (w : World) → AreWithin w done.sendings
 
     step-done : (number : ℕ) (step : Option Stepped) → AnyStep step
         → AnyDone (option_map (in_world number post.world) step)
@@ -251,18 +279,19 @@ module _ (site : Site) (fit : IsFit site) (small : IsSmall site) (out : IsLaidOu
     request-within : (request : Request) (k : Which) (pair : Pair)
         → slice_get post.world.processes request.process ≡ Some pair → (role : Role)
         → AnyStep (request_step k pair (records_of post.world) request role)
-    request-within request k pair there Watching = none-within
+    request-within request k pair there Watching = λ w. none-within w
     request-within request k pair there Gone = tt
     request-within request k pair there Acting =
         let fair = fair-of request.process post.world.replies k pair
         (run-fair (played-run played) request.process pair there) in
         let kept = repeated (copy_of k pair).core.receive request in
-        all-among (repeated_at (copy_of k pair) request) (λ sending among.
+        λ w. all-among w (repeated_at (copy_of k pair) request) (λ sending among.
         let from = among-map Replying kept sending.message
         (message-of (copy_of k pair).processor (map Replying kept) sending among) in
-        subst IsCarriedWithin (sym from.same)
-        (sent-within events post (omega (arith, few)) played (Replying from.item)
-        (repeated-sent post.world.replies (copy_of k pair).core.receive request from.item fair.core.kept from.among)))
+        let one = sent-within events post (omega (arith, few)) played (Replying from.item)
+        (repeated-sent post.world.replies (copy_of k pair).core.receive request from.item fair.core.kept
+        from.among) in
+        subst (IsSentWithin w) (sym from.same) (one, one))
 
     reply-within : (reply : Reply) (number : ℕ) (k : Which) (pair : Pair) (role : Role)
         → AnyStep (reply_step site number k pair (records_of post.world) reply role)
@@ -272,7 +301,7 @@ module _ (site : Site) (fit : IsFit site) (small : IsSmall site) (out : IsLaidOu
         by (awaits site number (copy_of k pair).core reply (process.point (copy_of k pair).core.state))
       where
         by : (test : Bool) → AnyStep (reply_step_where number k pair (records_of post.world) reply test)
-        by true = none-within
+        by true = λ w. none-within w
         by false = tt
 
     printed-within : (reply : Reply) (number : ℕ) (here : Bool)
@@ -282,7 +311,7 @@ module _ (site : Site) (fit : IsFit site) (small : IsSmall site) (out : IsLaidOu
       where
         prints : (terminal : Terminal) (test : Bool)
             → AnyDone (printed_where number reply terminal post.world test)
-        prints terminal true = none-within
+        prints terminal true = λ w. none-within w
         prints terminal false = tt
 
         by : (found : Option Terminal) → AnyDone (printed_done site number reply post.world found)
@@ -298,8 +327,9 @@ module _ (site : Site) (fit : IsFit site) (small : IsSmall site) (out : IsLaidOu
     replied-within node reply (Some (who.Terminal number)) = printed-within reply number (node == terminal_node)
 
     -- a checkpoint that comes is answered by its own numbers
-    checkpoint-within : (message : ImageMessage) → IsWithinLayout message → (number : ℕ) (k : Which) (pair : Pair)
-        → (role : Role) → AnyStep (checkpoint_step site number k pair (records_of post.world) message role)
+    checkpoint-within : (message : ImageMessage) → IsTakenWithin (taken_of message) → (number : ℕ) (k : Which)
+        (pair : Pair) → (role : Role)
+        → AnyStep (checkpoint_step site number k pair (records_of post.world) message role)
     checkpoint-within message within number k pair role =
         by (core_as (depths_of site number) (copy_of k pair).era (copy_of k pair).number (copy_of k pair).core message
         role)
@@ -307,10 +337,27 @@ module _ (site : Site) (fit : IsFit site) (small : IsSmall site) (out : IsLaidOu
         by : (core : Option Core)
             → AnyStep (option_map (applied_step number k pair (records_of post.world) message) core)
         by None = tt
-        by (Some core) =
-            All-cons (λ (one : Sending). IsCarriedWithin one.message)
-            (record { node = (copy_of k pair).processor; message = Taking (taken_of message) }) []
-            (record { process = within.process; era = within.era; number = within.number }) none-within
+        by (Some core) = λ w.
+            All-cons (λ (one : Sending). IsSentWithin w one.message)
+            (record { node = (copy_of k pair).processor; message = Taking (taken_of message) }) [] (within, within)
+            (none-within w)
+
+    -- and so is one that comes as what changed
+    change-within : (change : ChangeMessage) → IsWithin (Changing change) → (k : Which) (pair : Pair)
+        → AnyStep (change_step site change.process pair (records_of post.world) change k)
+    change-within change within k pair =
+        by (fits_change (record { table = (copy_of k pair).core.receive; depths = depths_of site change.process })
+        change.image.receive)
+      where
+        by : (test : Bool)
+            → AnyStep (option_and_then (λ message. checkpoint_step site change.process k pair
+            (records_of post.world) message (copy_of k pair).role)
+            (whole_where (depths_of site change.process) (copy_of k pair).core.receive change test))
+        by false = tt
+        by true =
+            checkpoint-within (whole_of (depths_of site change.process) (copy_of k pair).core.receive change)
+            (record { process = within.process; era = within.era; number = within.number }) change.process k pair
+            (copy_of k pair).role
 
     taken-within : (taken : TakenMessage) (k : Which) (pair : Pair) (role : Role)
         → AnyStep (taken_step k pair (records_of post.world) taken role)
@@ -320,7 +367,7 @@ module _ (site : Site) (fit : IsFit site) (small : IsSmall site) (out : IsLaidOu
         by (is_of_last (copy_of k pair).sent (copy_of k pair).era (copy_of k pair).number taken)
       where
         by : (test : Bool) → AnyStep (taken_step_where k pair (records_of post.world) test)
-        by true = none-within
+        by true = λ w. none-within w
         by false = tt
 
     handed-any : (node : ℕ) (message : Message) → Fits site (Carrying message)
@@ -333,14 +380,38 @@ module _ (site : Site) (fit : IsFit site) (small : IsSmall site) (out : IsLaidOu
         (slice_get (openers_of site reply.process) reply.opener))
     handed-any node (Checkpointing message) fits =
         brought-within message.process node (Checkpointing message)
-        (λ k pair there. checkpoint-within message fits.within message.process k pair (copy_of k pair).role)
+        (λ k pair there. checkpoint-within message
+        (let within = fits.within in
+        record { process = within.process; era = within.era; number = within.number }) message.process k pair
+        (copy_of k pair).role)
     handed-any node (Taking taken) fits =
         brought-within taken.process node (Taking taken)
         (λ k pair there. taken-within taken k pair (copy_of k pair).role)
 
     handed-within : (node : ℕ) (message : Message) (done : Done) → Fits site (Carrying message)
-        → handed_done site node message post.world ≡ Some done → AreWithin done.sendings
-    handed-within node message done fits e = subst AnyDone e (handed-any node message fits)
+        → handed_done site node message post.world ≡ Some done → AreWithin done.world done.sendings
+    handed-within node message done fits e = subst AnyDone e (handed-any node message fits) done.world
+
+    changed-any : (node : ℕ) (change : ChangeMessage) → Fits site (Changing change)
+        → AnyDone (change_done site node change post.world)
+    changed-any node change fits = by (slice_get post.world.processes change.process)
+      where
+        by : (found : Option Pair)
+            → AnyDone (change_brought_to site change.process node change post.world found)
+        by None = tt
+        by (Some pair) = here (copy_in node pair)
+          where
+            here : (k : Option Which)
+                → AnyDone (option_map (in_world change.process post.world)
+                (option_and_then (change_step site change.process pair (records_of post.world) change) k))
+            here None = tt
+            here (Some k) =
+                step-done change.process (change_step site change.process pair (records_of post.world) change k)
+                (change-within change fits.within k pair)
+
+    changed-within : (node : ℕ) (change : ChangeMessage) (done : Done) → Fits site (Changing change)
+        → change_done site node change post.world ≡ Some done → AreWithin done.world done.sendings
+    changed-within node change done fits e = subst AnyDone e (changed-any node change fits) done.world
 
     -- Stops that come to nothing
 
@@ -413,6 +484,7 @@ module _ (site : Site) (fit : IsFit site) (small : IsSmall site) (out : IsLaidOu
       runs = runs-within events post less played;
       enters = enters-within events post less played;
       handed = handed-within events post less played;
+      changed = changed-within events post less played;
       marked = marks-within events post less played;
       pulled = pulled-within;
     }

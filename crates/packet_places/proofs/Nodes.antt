@@ -14,8 +14,8 @@ use Rattle.alive_regroup.specs.Watching as watching
 use Rattle.alive_regroup.specs.Watching.{Watching, changed_at, told_by_tick}
 use Rattle.world_semantics.specs.World.{is_running, terminal_node}
 use Rattle.world_semantics.proofs.Lists.{set-other}
-use Rattle.letters.specs.Routes.{Letter}
-use Rattle.message_layout.specs.Messages.{NodeMessage, Carrying, Reporting, Declaring}
+use Rattle.message_layout.specs.Messages.{NodeMessage, Reporting, Declaring}
+use Rattle.packet_wires.specs.Parcels.{Parcel}
 use Rattle.message_layout.specs.Layout.{words_of}
 use Rattle.packet_wires.specs.Nodes.{Node, all_nodes, others}
 use Rattle.packet_wires.specs.Wires.{Midst, goes_over, any_goes_over, goes_again, at_node, at_end_of, at_end}
@@ -85,20 +85,20 @@ pub sends-all-only : (x : ℕ) (message : NodeMessage) (ys : List ℕ) (midst : 
 sends-all-only x message ys midst =
     each-only x (λ y. sends x y message) (λ y midst. sends-only x y message midst) ys midst
 
--- letters that all have one sender
-pub posted-only : (x : ℕ) (stopped : List Bool) (letters : List Letter) (midst : Midst)
-    → ((letter : Letter) → IsAmong letter letters → letter.sender ≡ x)
-    → OnlyAt x midst (all_posted stopped letters midst)
+-- parcels that all have one sender
+pub posted-only : (x : ℕ) (stopped : List Bool) (parcels : List Parcel) (midst : Midst)
+    → ((parcel : Parcel) → IsAmong parcel parcels → parcel.sender ≡ x)
+    → OnlyAt x midst (all_posted stopped parcels midst)
 posted-only x stopped [] midst from a n = refl
-posted-only x stopped (letter ∷ letters) midst from a n =
-    posted-only x stopped letters (posted stopped letter midst) (λ one among. from one (inr among)) a n
-    ∙ one (is_running stopped letter.sender)
+posted-only x stopped (parcel ∷ parcels) midst from a n =
+    posted-only x stopped parcels (posted stopped parcel midst) (λ one among. from one (inr among)) a n
+    ∙ one (is_running stopped parcel.sender)
   where
-    one : (test : Bool) → slice_get (if test then sends letter.sender letter.receiver (Carrying letter.message) midst
+    one : (test : Bool) → slice_get (if test then sends parcel.sender parcel.receiver parcel.content midst
         else midst).nodes a ≡ slice_get midst.nodes a
     one false = refl
-    one true = sends-only letter.sender letter.receiver (Carrying letter.message) midst a
-        (λ same. n (same ∙ from letter (inl refl)))
+    one true = sends-only parcel.sender parcel.receiver parcel.content midst a
+        (λ same. n (same ∙ from parcel (inl refl)))
 
 pub arrived-only : (name : BusName) (packet : Packet) (midst : Midst)
     → OnlyAt packet.receiver midst (arrived name packet midst)

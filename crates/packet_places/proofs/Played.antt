@@ -12,7 +12,7 @@ use Rattle.alive_regroup.specs.Watching.{changed_at}
 use Rattle.world_semantics.specs.declared.which.Which.{Which}
 use Rattle.world_semantics.specs.declared.which.Which.TheVariants.{First, Second}
 use Rattle.world_semantics.specs.World.{Copy, Pair, World, terminal_node, is_running, copy_of}
-use Rattle.world_semantics.specs.Messages.{Sending}
+use Rattle.world_semantics.specs.Messages.{Checkpointing, Sending}
 use Rattle.std.proofs.lemmas.Bool.{eqb-true}
 use Rattle.world_semantics.specs.declared.role.Role.TheVariants.{Gone}
 use Rattle.world_semantics.specs.Rules.{stopped_copy, stopped_pair}
@@ -20,17 +20,20 @@ use Rattle.world_semantics.specs.Running.{Done, run_done}
 use Rattle.world_semantics.proofs.Lists.{set-there, some-same}
 use Rattle.world_semantics.proofs.Members.{among-map}
 use Rattle.computed_changes.specs.Entered.{enter_done}
+use Rattle.computed_changes.specs.Changed.{change_done}
 use Rattle.computed_changes.specs.Handed.{handed_done}
+use Rattle.computed_changes.proofs.Changed.{change-each}
 use Rattle.computed_changes.specs.Stopped.{stop_done, stop_where, stopped_world, marked_where, mark_where, may_note}
 use Rattle.computed_changes.specs.Stopped.{world_at_down}
-use Rattle.letters.specs.Routes.{Letter, letters_of}
+use Rattle.letters.specs.Routes.{letters_of}
 use Rattle.letters.specs.Again.{sent_again}
 use Rattle.letter_laws.proofs.Given.{letter-from}
 use Rattle.machine_states.specs.States.{Played, Makes, Skips, Would, SecondStop}
 use Rattle.message_wires.specs.Play.{has_stopped}
-use Rattle.message_layout.specs.Messages.{NodeMessage, Carrying, Reporting, Declaring}
+use Rattle.message_layout.specs.Messages.{NodeMessage, Carrying, Changing, Reporting, Declaring}
 use Rattle.message_layout.specs.Reading.{understood}
 use Rattle.packet_wires.specs.Nodes.{end_at}
+use Rattle.packet_wires.specs.Parcels.{Parcel, parcel_of, parcels_of}
 use Rattle.packet_wires.specs.Wires.{Wires, Midst, bus_named, goes_over, arrived, learns, ticked, cut_off}
 use Rattle.packet_wires.specs.Play.{Packeted, Underway, begun, after_done, made_by, after_any, after_marked, marked_by}
 use Rattle.packet_wires.specs.Play.{marks, handed, handed_any, handed_words, completed, received, deliver_acted}
@@ -44,12 +47,14 @@ use Rattle.packet_places.proofs.Nodes.{declares-only}
 use Rattle.machine_states.proofs.Turning.{drive-cases}
 use Rattle.schedule.specs.declared.event.DriveEvent.{DriveEvent}
 
--- Letters of sendings at a node are sent by it
-letters-by : (site : Site) (w : World) (node : ℕ) (sendings : List Sending)
+-- Letters of sendings at a node are sent by it, and so are their parcels
+parcels-by : (site : Site) (w : World) (node : ℕ) (sendings : List Sending)
     → ((sending : Sending) → IsAmong sending sendings → sending.node ≡ node)
-    → (letter : Letter) → IsAmong letter (letters_of site w sendings) → letter.sender ≡ node
-letters-by site w node sendings from letter among =
-    let one = letter-from site w sendings letter among in one.sender ∙ from one.sending one.among
+    → (parcel : Parcel) → IsAmong parcel (parcels_of w (letters_of site w sendings)) → parcel.sender ≡ node
+parcels-by site w node sendings from parcel among =
+    let letter = among-map (parcel_of w) (letters_of site w sendings) parcel among in
+    let one = letter-from site w sendings letter.item letter.among in
+    ap (λ (p : Parcel). p.sender) letter.same ∙ one.sender ∙ from one.sending one.among
 
 -- in the midst of an event, away from a node all stays as it was
 record Keeps (node : ℕ) (s next : Underway) : Type 0 where
@@ -69,8 +74,8 @@ wires-stay s midst only = record {
 -- a change of the world at the node, and its letters
 done-stays : {node : ℕ} (s : Underway) (done : Done) → IsDoneAt node s.world done → Keeps node s (after_done s done)
 done-stays {node = node} s done at = record {
-  nodes = posted-only node done.world.stopped (letters_of s.site done.world done.sendings) s.wires
-      (letters-by s.site done.world node done.sendings at.sendings);
+  nodes = posted-only node done.world.stopped (parcels_of done.world (letters_of s.site done.world done.sendings))
+      s.wires (parcels-by s.site done.world node done.sendings at.sendings);
   copies = λ number k before after there now away same. at.copies number k before after there now away;
 }
 
@@ -89,9 +94,10 @@ marked-stays : (node processor : ℕ) (s : Underway)
 marked-stays node processor s = record {
   nodes = λ x n.
       posted-only node s.world.stopped
-      (letters_of s.site done.world (done.sendings ++ sent_again s.site s.world done.world node processor))
+      (parcels_of done.world (letters_of s.site done.world
+      (done.sendings ++ sent_again s.site s.world done.world node processor)))
       (cut_off node processor s.wires)
-      (letters-by s.site done.world node (done.sendings ++ sent_again s.site s.world done.world node processor) from) x
+      (parcels-by s.site done.world node (done.sendings ++ sent_again s.site s.world done.world node processor) from) x
       n
       ∙ cut-only node processor s.wires x n;
   copies = λ number k before after there now away same. at.copies number k before after there now away;
@@ -154,6 +160,10 @@ any-stays s (Some done) at = done-stays s done at
 handed-stays : (node : ℕ) (message : NodeMessage) (s : Underway) → Keeps node s (handed node message s)
 handed-stays node (Carrying message) s =
     any-stays s (handed_done s.site node message s.world) (handed-there node s.world s.site message)
+handed-stays node (Changing change) s =
+    any-stays s (change_done s.site node change s.world)
+    (change-each s.site node change s.world (AnyAt node s.world) tt
+    (λ message. handed-there node s.world s.site (Checkpointing message)))
 handed-stays node (Reporting from silent) s =
     wires-stay s (learns node (changed_at from (watching.neighbour_after_report silent)) s.wires)
     (learns-only node (changed_at from (watching.neighbour_after_report silent)) s.wires)

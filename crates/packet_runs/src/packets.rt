@@ -8,12 +8,12 @@ ghost use Rattle.packet_runs.specs.Runs.{concerned, is_alive, packet_rules, send
 
 use gd_words::NoMemory;
 use logs::Shared;
-use machine_states::Effect;
 use packet_words::{BusName, Packet, PacketKind};
 use player::Player;
 use schedule::{Counts, Event};
 use schedule_loop::ScheduleMachine;
 use site_machine::Machine;
+use site_machine::machine_states::Effect;
 use std::alloc::Global;
 use tal_tree::Site;
 

@@ -2,6 +2,7 @@ pub mod Examples
 pub mod Idle
 pub mod Lines
 pub mod Nodes
+pub mod Parcels
 pub mod Play
 pub mod Runs
 pub mod Sights
@@ -10,3 +11,4 @@ pub use Rattle.message_wires.specs.letters
 pub use Rattle.message_wires.specs.machine_states
 pub use Rattle.message_layout
 pub use Rattle.message_wires
+pub use Rattle.message_layout.specs.world_semantics

@@ -15,6 +15,7 @@ use Rattle.alive_regroup.specs.Watching as watching
 use Rattle.alive_regroup.specs.Watching.{changed_at}
 use Rattle.message_layout.specs.world_semantics.specs.World.{boot, is_running}
 use Rattle.message_layout.specs.world_semantics.specs.Running.{Done, run_done}
+use Rattle.message_wires.specs.computed_changes.specs.Changed.{change_done}
 use Rattle.message_wires.specs.computed_changes.specs.Entered.{enter_done}
 use Rattle.message_wires.specs.computed_changes.specs.Handed.{handed_done}
 use Rattle.message_wires.specs.computed_changes.specs.Stopped.{stop_done, stopped_world, down_done}
@@ -24,10 +25,11 @@ use Rattle.message_wires.specs.machine_states.specs.Drives.{drives_at_boot}
 use Rattle.message_wires.specs.machine_states.specs.States.{State, Played, Makes, Skips, Would}
 use Rattle.message_wires.specs.machine_states.specs.States.{SecondStop, drive_played}
 use Rattle.message_wires.specs.Play.{has_stopped}
-use Rattle.message_layout.specs.Messages.{NodeMessage, Carrying, Reporting, Declaring}
+use Rattle.message_layout.specs.Messages.{NodeMessage, Carrying, Changing, Reporting, Declaring}
 use Rattle.message_layout.specs.Reading.{understood}
 use Rattle.packet_wires.specs.Nodes.{end_at}
 use Rattle.packet_wires.specs.Lines.{line_pulled}
+use Rattle.packet_wires.specs.Parcels.{parcels_of}
 use Rattle.packet_wires.specs.Wires.{Wires, Outgoing, Midst, nothing_sent, wires_at_boot, on_bus, bus_named}
 use Rattle.packet_wires.specs.Wires.{without_packet, packets_over, with_sent, goes_over, all_posted, arrived, learns}
 use Rattle.packet_wires.specs.Wires.{ticked, cut_off, declares}
@@ -62,7 +64,7 @@ over wires s = record { site = s.site; world = s.world; wires = with_sent s.wire
 abbrev pub after_done : Underway → Done → Underway
 after_done s done = record s {
   world = done.world;
-  wires = all_posted done.world.stopped (letters_of s.site done.world done.sendings) s.wires;
+  wires = all_posted done.world.stopped (parcels_of done.world (letters_of s.site done.world done.sendings)) s.wires;
 }
 
 abbrev pub made_by : Underway → Option Done → Played Midst
@@ -82,8 +84,9 @@ abbrev pub after_marked : ℕ → ℕ → Underway → Done → Underway
 after_marked node processor s done = record s {
   world = done.world;
   wires =
-      all_posted done.world.stopped (letters_of s.site done.world
-      (done.sendings ++ sent_again s.site s.world done.world node processor))
+      all_posted done.world.stopped
+      (parcels_of done.world (letters_of s.site done.world
+      (done.sendings ++ sent_again s.site s.world done.world node processor)))
       (cut_off node processor s.wires);
 }
 
@@ -97,10 +100,12 @@ marks node processor s = marked_by node processor s (down_done node processor s.
 
 -- Packets that come
 
--- a message is handed over at a node: it changes the world, or the node notes the report of another one, or it marks
--- the processor that is down
+-- a message is handed over at a node: it changes the world; or the copy that is there makes a checkpoint whole by its
+-- own table, and that changes the world; or the node notes the report of another one, or it marks the processor that is
+-- down
 abbrev pub handed : ℕ → NodeMessage → Underway → Underway
 handed node (Carrying message) s = after_any s (handed_done s.site node message s.world)
+handed node (Changing change) s = after_any s (change_done s.site node change s.world)
 handed node (Reporting from silent) s =
     record s { wires = learns node (changed_at from (watching.neighbour_after_report silent)) s.wires }
 handed node (Declaring processor) s = marks node processor s

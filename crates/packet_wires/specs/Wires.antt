@@ -17,10 +17,10 @@ use Rattle.alive_regroup.specs.declared.set.ProcessorSet.{ProcessorSet}
 use Rattle.alive_regroup.specs.Watching as watching
 use Rattle.alive_regroup.specs.Watching.{Watching, changed_at, told_by_tick}
 use Rattle.message_layout.specs.world_semantics.specs.World.{is_running, terminal_node}
-use Rattle.message_wires.specs.letters.specs.Routes.{Letter}
-use Rattle.message_layout.specs.Messages.{NodeMessage, Carrying, Reporting, Declaring}
+use Rattle.message_layout.specs.Messages.{NodeMessage, Reporting, Declaring}
 use Rattle.message_layout.specs.Layout.{words_of}
 use Rattle.packet_wires.specs.Nodes.{Node, nodes_at_boot, all_nodes, others, with_end, with_watch}
+use Rattle.packet_wires.specs.Parcels.{Parcel}
 
 -- the packets on bus X and those on bus Y, each in their order; and the nodes 0 to 16. What a stopped node had stays as
 -- it was, and nothing looks at it
@@ -149,16 +149,15 @@ sends x y message midst = at_end x y (push_at x y (words_of message)) midst
 abbrev pub sends_all : ℕ → NodeMessage → List ℕ → Midst → Midst
 sends_all x message ys midst = for_each (λ y. sends x y message) ys midst
 
--- a letter is sent by its sender, unless that has stopped
-abbrev pub posted : List Bool → Letter → Midst → Midst
-posted stopped letter midst =
-    if is_running stopped letter.sender then sends letter.sender letter.receiver (Carrying letter.message) midst else
-    midst
+-- a parcel is sent by its sender, unless that has stopped
+abbrev pub posted : List Bool → Parcel → Midst → Midst
+posted stopped parcel midst =
+    if is_running stopped parcel.sender then sends parcel.sender parcel.receiver parcel.content midst else midst
 
--- letters are sent in their order
-abbrev pub all_posted : List Bool → List Letter → Midst → Midst
+-- parcels are sent in their order
+abbrev pub all_posted : List Bool → List Parcel → Midst → Midst
 all_posted stopped [] midst = midst
-all_posted stopped (letter ∷ letters) midst = all_posted stopped letters (posted stopped letter midst)
+all_posted stopped (parcel ∷ parcels) midst = all_posted stopped parcels (posted stopped parcel midst)
 
 -- Packets that come
 

@@ -1,38 +1,86 @@
 -- Whence comes what a packet completes.
-use Rattle.std.proofs.Common.{◌≡◌, ℕ, ℤ, true, List, Option, Some, None, subst}
+use Rattle.std.proofs.Common.{◌≡◌, inl, inr, ℕ, ℤ, true, List, Option, Some, None, ap, ap₂, sym, subst, ◌∙◌}
+use Rattle.gd_words.specs.Members.{IsAmong}
+use Rattle.schedule.specs.declared.event.Event.{Event}
 use Rattle.packet_words.specs.declared.bus_name.BusName.{BusName}
 use Rattle.packet_words.specs.declared.packet.Packet.{Packet}
-use Rattle.world_semantics.specs.World.{is_running}
+use Rattle.world_semantics.specs.Messages.{Message}
+use Rattle.world_semantics.specs.World.{World, is_running}
 use Rattle.letters.specs.Routes.{Letter}
-use Rattle.message_layout.specs.Messages.{Carrying}
+use Rattle.message_layout.specs.Messages.{NodeMessage, Carrying, Changing, Reporting, Declaring}
 use Rattle.packet_wires.specs.Nodes.{end_at}
+use Rattle.packet_wires.specs.Parcels.{Parcel}
 use Rattle.packet_wires.specs.Play.{Packeted, completed, packet_at}
 use Rattle.packet_wires.specs.Wires.{arrived, nothing_sent}
 use Rattle.channel_laws.specs.Net.{Net}
-use Rattle.packet_nets.specs.Owing.{WasPushed, TiesAtRest, on_both}
+use Rattle.packet_nets.specs.Owing.{IsContent, IsTrueOf, content_of, on_both}
 use Rattle.packet_nets.proofs.Arriving.{Arrives, hands_none, hands_other, hands_letter, hands_again}
 use Rattle.packet_nets.proofs.Sending.{Came, came}
+use Rattle.packets_laws.specs.Carried.{IsCarriedAtRest, StandsFor, WasSentInWords, WasTold}
 use Rattle.packets_laws.proofs.Playing.{stands-there}
 
-pub comes-right : (s : Packeted) (owed sent : List Letter) (T : TiesAtRest s.site s.world.stopped s.wires owed sent)
-    (name : BusName) (k : ℕ) (p : Packet) (words : List ℤ)
-    → packet_at s name k ≡ Some p → is_running s.world.stopped p.receiver ≡ true
-    → completed p (end_at s.wires.nodes p.receiver p.sender) ≡ Some words
-    → WasPushed s.site s.world.stopped sent p.sender p.receiver words
-comes-right s owed sent T name k p words at runs is =
-    subst Right is (of all.net (completed p (end_at s.wires.nodes p.receiver p.sender)) all.arrived)
+-- the letter of a parcel that goes as itself
+itself : (w : World) (x y : ℕ) (message : Message) (letter : Letter)
+    → StandsFor w (record { sender = x; receiver = y; content = Carrying message }) letter
+    → letter ≡ record { sender = x; receiver = y; message = message }
+itself w x y message letter stands =
+    elim stands.form [
+      | inl same ↦ (let it : message ≡ letter.message = cc in sym (whole it))
+      | inr (before, one, is, goes_as, known, next_to) ↦ absurd cc
+    ]
   where
-    Right : Option (List ℤ) → Type 0
-    Right None = Unit {0}
-    Right (Some words) = WasPushed s.site s.world.stopped sent p.sender p.receiver words
+    letter_with : Message → ℕ → ℕ → Letter
+    letter_with carries from to = record { sender = from; receiver = to; message = carries }
 
-    of : (next : Net) (h : Option (List ℤ)) → Arrives s.site s.world.stopped owed sent next p.sender p.receiver h
-        → Right h
-    of next None (hands_none o) = tt
-    of next (Some words) (hands_other told reads fits right none o) = (told, reads, fits, right)
-    of next (Some words) (hands_letter message reads fits among taken o) = (Carrying message, reads, fits, among)
-    of next (Some words) (hands_again message reads fits among o) = (Carrying message, reads, fits, among)
+    whole : message ≡ letter.message → letter_with message x y ≡ letter
+    whole it = ap₂ (letter_with message) stands.sender stands.receiver
+        ∙ ap (λ (m : Message). letter_with m letter.sender letter.receiver) it
 
-    all : Came s.site s.world.stopped (on_both s.wires) (arrived name p (nothing_sent s.wires.nodes)) owed sent
-        p.sender p.receiver (completed p (end_at s.wires.nodes p.receiver p.sender))
-    all = came (nothing_sent s.wires.nodes) T name p (T.tied.flight p (stands-there s name k p at)) runs
+module _ (events : List Event) (s : Packeted) (owed sent : List Letter) (held : IsCarriedAtRest events s owed sent)
+    (p : Packet) where
+  abbrev parcel : NodeMessage → Parcel
+  parcel content = record { sender = p.sender; receiver = p.receiver; content = content }
+
+  -- what is the content of a parcel that was posted is that of a letter that was sent
+  told-letter : (content : NodeMessage) → IsContent content → IsAmong (parcel content) held.posted
+      → WasTold s.world sent p.sender p.receiver content
+  told-letter (Carrying message) own among =
+      let one = held.were (parcel (Carrying message)) among in
+      subst (λ (letter : Letter). IsAmong letter sent)
+      (itself s.world p.sender p.receiver message one.0 one.2) one.1
+  told-letter (Changing change) own among = held.were (parcel (Changing change)) among
+  told-letter (Reporting node silent) own among = absurd cc
+  told-letter (Declaring processor) own among = absurd cc
+
+  told-other : (told : NodeMessage) → content_of told ≡ None
+      → IsTrueOf s.world.stopped held.posted p.sender p.receiver told → WasTold s.world sent p.sender p.receiver told
+  told-other (Carrying message) none right = absurd cc
+  told-other (Changing change) none right = absurd cc
+  told-other (Reporting node silent) none right = tt
+  told-other (Declaring processor) none right = right
+
+  pub comes-right : (name : BusName) (k : ℕ) (words : List ℤ)
+      → packet_at s name k ≡ Some p → is_running s.world.stopped p.receiver ≡ true
+      → completed p (end_at s.wires.nodes p.receiver p.sender) ≡ Some words
+      → WasSentInWords s.site s.world sent p.sender p.receiver words
+  comes-right name k words at runs is =
+      subst Right is (of all.net (completed p (end_at s.wires.nodes p.receiver p.sender)) all.arrived)
+    where
+      Right : Option (List ℤ) → Type 0
+      Right None = Unit {0}
+      Right (Some words) = WasSentInWords s.site s.world sent p.sender p.receiver words
+
+      of : (next : Net) (h : Option (List ℤ))
+          → Arrives s.site s.world.stopped held.parcels held.posted next p.sender p.receiver h → Right h
+      of next None (hands_none o) = tt
+      of next (Some words) (hands_other told reads fits right none o) =
+          (told, reads, fits, told-other told none right)
+      of next (Some words) (hands_letter content own reads fits among taken o) =
+          (content, reads, fits, told-letter content own among)
+      of next (Some words) (hands_again content own reads fits among o) =
+          (content, reads, fits, told-letter content own among)
+
+      all : Came s.site s.world.stopped (on_both s.wires) (arrived name p (nothing_sent s.wires.nodes)) held.parcels
+          held.posted p.sender p.receiver (completed p (end_at s.wires.nodes p.receiver p.sender))
+      all = came (nothing_sent s.wires.nodes) held.ties name p
+          (held.ties.tied.flight p (stands-there s name k p at)) runs

@@ -6,17 +6,20 @@ use Rattle.schedule.specs.declared.event.Event.{Event}
 use Rattle.schedule.specs.declared.event.Event.TheVariants.{Run, Enter, Deliver, Lose, Repeat, Tick, Fail, Drive}
 use Rattle.packet_words.specs.declared.bus_name.BusName.{BusName}
 use Rattle.packet_words.specs.declared.packet.Packet.{Packet}
+use Rattle.world_semantics.specs.Messages.{Checkpointing}
 use Rattle.world_semantics.specs.Running.{Done, run_done}
 use Rattle.world_semantics.specs.World.{boot, is_running}
 use Rattle.computed_changes.specs.Entered.{enter_done}
+use Rattle.computed_changes.specs.Changed.{change_done}
 use Rattle.computed_changes.specs.Handed.{handed_done}
+use Rattle.computed_changes.proofs.Changed.{change-each}
 use Rattle.computed_changes.specs.Stopped.{down_done, stopped_world, stop_where, stop_done}
 use Rattle.letters.specs.Idle.{OneStops}
 use Rattle.machine_states.specs.States.{State, Played, Makes, Skips, Would, SecondStop, DiscLoss, Harm}
-use Rattle.message_wires.specs.Play.{has_stopped}
+use Rattle.message_wires_laws.specs.message_wires.specs.Play.{has_stopped}
 use Rattle.world_semantics.proofs.Lists.{Changed, is_new, is_same, changed}
 use Rattle.message_wires_laws.proofs.Stopping.{StopsNone, run-none, enter-none, handed-none, mark-none}
-use Rattle.message_layout.specs.Messages.{NodeMessage, Carrying, Reporting, Declaring}
+use Rattle.message_layout.specs.Messages.{NodeMessage, Carrying, Changing, Reporting, Declaring}
 use Rattle.message_layout.specs.Reading.{understood}
 use Rattle.packet_wires.specs.Play.{Packeted, Underway, begun, made_by, after_any, marked_by, marks, handed, handed_any}
 use Rattle.packet_wires.specs.Play.{handed_words, completed, received, deliver_acted, lose_acted, repeat_acted}
@@ -55,6 +58,13 @@ marks-stay node processor s = by (down_done node processor s.world) (mark-none s
 handed-stay : (node : ℕ) (told : NodeMessage) (s : Underway) → Stays s (handed node told s)
 handed-stay node (Carrying message) s =
     by (handed_done s.site node message s.world) (handed-none s.site s.world node message)
+  where
+    by : (done : Option Done) → StopsNone s.world done → Stays s (after_any s done)
+    by None none = record { site = refl; stopped = refl }
+    by (Some done) none = record { site = refl; stopped = none }
+handed-stay node (Changing change) s =
+    by (change_done s.site node change s.world) (change-each s.site node change s.world (StopsNone s.world) tt
+    (λ message. handed-none s.site s.world node (Checkpointing message)))
   where
     by : (done : Option Done) → StopsNone s.world done → Stays s (after_any s done)
     by None none = record { site = refl; stopped = refl }

@@ -13,14 +13,17 @@ use Rattle.world_semantics.proofs.Roles.{both-true}
 use Rattle.world_semantics.specs.World.{is_running}
 use Rattle.letters.specs.Idle.{IsIdle}
 use Rattle.letters.specs.Routes.{Letter}
-use Rattle.message_wires.specs.Idle as whole
-use Rattle.message_wires.specs.Play.{MachineState}
-use Rattle.message_wires.specs.Wires.{wires_at_boot}
+use Rattle.message_wires_laws.specs.message_wires.specs.Idle as whole
+use Rattle.message_wires_laws.specs.message_wires.specs.Play.{MachineState}
+use Rattle.message_wires_laws.specs.message_wires.specs.Wires.{wires_at_boot}
 use Rattle.message_wires_laws.proofs.Idle.{idle-both}
 use Rattle.packet_wires.specs.Idle.{holds_nothing, is_quiet, all_quiet, is_idle}
 use Rattle.packet_wires.specs.Nodes.{numbers, all_nodes, end_at}
 use Rattle.packet_wires.specs.Play.{Packeted}
+use Rattle.packet_wires.specs.Parcels.{Parcel}
 use Rattle.packet_nets.specs.Owing.{carried, goes, between, IsOpen, TiesAtRest}
+use Rattle.packets_laws.specs.Carried.{AllStandFor}
+use Rattle.packets_laws.proofs.Forms.{letter-has}
 use Rattle.packet_nets.proofs.Between.{between-yes, between-no, goes-there}
 use Rattle.packet_nets.proofs.Tied.{running-low, running-stands}
 
@@ -60,41 +63,41 @@ all-numbers test from (suc many) all (suc k) low =
 all-nodes : (test : ℕ → Bool) → list_all test all_nodes ≡ true → (k : ℕ) → k ≤ 16 → test k ≡ true
 all-nodes test all k low = ap test (omega arith) ∙ all-numbers test 0 17 all k (omega (arith, low))
 
--- an owed letter counts among those of its sender and receiver
-owed-between : (letter : Letter) (owed : List Letter) → IsAmong letter owed
-    → between letter.sender letter.receiver owed ≡ [] → ⊥
-owed-between letter [] among none = among
-owed-between letter (one ∷ owed) (inl same) none =
-    let here : goes letter.sender letter.receiver one ≡ true =
-    subst (λ (l : Letter). goes letter.sender letter.receiver l ≡ true) same
-    (goes-there letter.sender letter.receiver letter.message) in
-    let bad : one.message ∷ between letter.sender letter.receiver owed ≡ [] =
-    sym (between-yes letter.sender letter.receiver one owed here) ∙ none in absurd cc
-owed-between letter (one ∷ owed) (inr among) none =
-    by (goes letter.sender letter.receiver one) refl (owed-between letter owed among)
+-- a parcel that is owed counts among those of its sender and receiver
+owed-between : (parcel : Parcel) (owed : List Parcel) → IsAmong parcel owed
+    → between parcel.sender parcel.receiver owed ≡ [] → ⊥
+owed-between parcel [] among none = among
+owed-between parcel (one ∷ owed) (inl same) none =
+    let here : goes parcel.sender parcel.receiver one ≡ true =
+    subst (λ (p : Parcel). goes parcel.sender parcel.receiver p ≡ true) same
+    (goes-there parcel.sender parcel.receiver parcel.content) in
+    let bad : one.content ∷ between parcel.sender parcel.receiver owed ≡ [] =
+    sym (between-yes parcel.sender parcel.receiver one owed here) ∙ none in absurd cc
+owed-between parcel (one ∷ owed) (inr among) none =
+    by (goes parcel.sender parcel.receiver one) refl (owed-between parcel owed among)
   where
-    by : (test : Bool) → goes letter.sender letter.receiver one ≡ test
-        → (between letter.sender letter.receiver owed ≡ [] → ⊥) → ⊥
-    by true g rest = let bad : one.message ∷ between letter.sender letter.receiver owed ≡ [] =
-        sym (between-yes letter.sender letter.receiver one owed g) ∙ none in absurd cc
-    by false g rest = rest (sym (between-no letter.sender letter.receiver one owed g) ∙ none)
+    by : (test : Bool) → goes parcel.sender parcel.receiver one ≡ test
+        → (between parcel.sender parcel.receiver owed ≡ [] → ⊥) → ⊥
+    by true g rest = let bad : one.content ∷ between parcel.sender parcel.receiver owed ≡ [] =
+        sym (between-yes parcel.sender parcel.receiver one owed g) ∙ none in absurd cc
+    by false g rest = rest (sym (between-no parcel.sender parcel.receiver one owed g) ∙ none)
 
-module _ (s : Packeted) (owed sent : List Letter) (few : s.site.processors ≤ 16)
-    (T : TiesAtRest s.site s.world.stopped s.wires owed sent) where
-  -- quiet channels owe nothing between nodes that run
-  none-owed : all_quiet s.world.stopped s.wires.nodes ≡ true → (letter : Letter) → IsAmong letter owed
-      → is_running s.world.stopped letter.sender ≡ true
-      → is_running s.world.stopped letter.receiver ≡ true → ⊥
-  none-owed quiet letter among sends receives = owed-between letter owed among none
+module _ (s : Packeted) (owed sent : List Letter) (parcels posted : List Parcel) (few : s.site.processors ≤ 16)
+    (stand : AllStandFor s.world parcels owed) (T : TiesAtRest s.site s.world.stopped s.wires parcels posted) where
+  -- quiet channels owe no parcel between nodes that run
+  no-parcel : all_quiet s.world.stopped s.wires.nodes ≡ true → (parcel : Parcel) → IsAmong parcel parcels
+      → is_running s.world.stopped parcel.sender ≡ true
+      → is_running s.world.stopped parcel.receiver ≡ true → ⊥
+  no-parcel quiet parcel among sends receives = owed-between parcel parcels among none
     where
       x : ℕ
-      x = letter.sender
+      x = parcel.sender
 
-      low : letter.sender ≤ 16
-      low = running-low s.world.stopped letter.sender (omega (arith, few, T.places)) sends
+      low : parcel.sender ≤ 16
+      low = running-low s.world.stopped parcel.sender (omega (arith, few, T.places)) sends
 
-      low_too : letter.receiver ≤ 16
-      low_too = running-low s.world.stopped letter.receiver (omega (arith, few, T.places)) receives
+      low_too : parcel.receiver ≤ 16
+      low_too = running-low s.world.stopped parcel.receiver (omega (arith, few, T.places)) receives
 
       -- nobody has cut off a node that runs
       up : (a b : ℕ) → is_running s.world.stopped b ≡ true → (T.net.ends a b).down ≡ false
@@ -105,39 +108,48 @@ module _ (s : Packeted) (owed sent : List Letter) (few : s.site.processors ≤ 1
           by true e = let gone : true ≡ false =
               sym (T.tied.down a b e) ∙ running-stands s.world.stopped b runs in absurd cc
 
-      opens : IsOpen s.world.stopped T.net letter.sender letter.receiver
+      opens : IsOpen s.world.stopped T.net parcel.sender parcel.receiver
       opens = record {
         sender = low;
         receiver = low_too;
         runs = sends;
-        there = up letter.sender letter.receiver receives;
-        back = up letter.receiver letter.sender sends;
+        there = up parcel.sender parcel.receiver receives;
+        back = up parcel.receiver parcel.sender sends;
       }
 
-      live : Runs T.net letter.sender letter.receiver
-      live = (T.tied.stood letter.sender ∙ ap not sends, up letter.sender letter.receiver receives)
+      live : Runs T.net parcel.sender parcel.receiver
+      live = (T.tied.stood parcel.sender ∙ ap not sends, up parcel.sender parcel.receiver receives)
 
-      it : (e : End) × (end_at s.wires.nodes letter.sender letter.receiver ≡ Some e)
-      it = T.tied.shape letter.sender letter.receiver low low_too
+      it : (e : End) × (end_at s.wires.nodes parcel.sender parcel.receiver ≡ Some e)
+      it = T.tied.shape parcel.sender parcel.receiver low low_too
 
-      empty : is_empty (T.net.ends letter.sender letter.receiver) ≡ true
+      empty : is_empty (T.net.ends parcel.sender parcel.receiver) ≡ true
       empty =
-          ap is_empty (T.tied.ends letter.sender letter.receiver it.0 sends it.1) ∙ ap holds_nothing (sym it.1)
-          ∙ ap (λ b. not b || holds_nothing (end_at s.wires.nodes letter.sender letter.receiver))
+          ap is_empty (T.tied.ends parcel.sender parcel.receiver it.0 sends it.1) ∙ ap holds_nothing (sym it.1)
+          ∙ ap (λ b. not b || holds_nothing (end_at s.wires.nodes parcel.sender parcel.receiver))
           (sym (both_true sends receives))
-          ∙ all-nodes (is_quiet s.world.stopped s.wires.nodes letter.sender)
-          (all-nodes (λ x. list_all (is_quiet s.world.stopped s.wires.nodes x) all_nodes) quiet letter.sender low)
-          letter.receiver low_too
+          ∙ all-nodes (is_quiet s.world.stopped s.wires.nodes parcel.sender)
+          (all-nodes (λ x. list_all (is_quiet s.world.stopped s.wires.nodes x) all_nodes) quiet parcel.sender low)
+          parcel.receiver low_too
 
-      all : (T.net.ways letter.sender letter.receiver).out ≡ (T.net.ways letter.sender letter.receiver).pushes
-      all = all-handed (T.net.ways letter.sender letter.receiver) (T.tied.whole.joint letter.sender letter.receiver)
-          (sym (ap (λ (s : Sending). s.queue) (T.tied.whole.tied letter.sender letter.receiver live).sending)
-          ∙ none-is (T.net.ends letter.sender letter.receiver).sending.queue empty)
+      all : (T.net.ways parcel.sender parcel.receiver).out ≡ (T.net.ways parcel.sender parcel.receiver).pushes
+      all = all-handed (T.net.ways parcel.sender parcel.receiver) (T.tied.whole.joint parcel.sender parcel.receiver)
+          (sym (ap (λ (s : Sending). s.queue) (T.tied.whole.tied parcel.sender parcel.receiver live).sending)
+          ∙ none-is (T.net.ends parcel.sender parcel.receiver).sending.queue empty)
 
-      none : between letter.sender letter.receiver owed ≡ []
-      none = append_cancel_left (carried (T.net.ways letter.sender letter.receiver).out) _ _
-          (sym (T.owes.owes letter.sender letter.receiver opens) ∙ ap carried (sym all)
-          ∙ sym (append-nil (carried (T.net.ways letter.sender letter.receiver).out)))
+      none : between parcel.sender parcel.receiver parcels ≡ []
+      none = append_cancel_left (carried (T.net.ways parcel.sender parcel.receiver).out) _ _
+          (sym (T.owes.owes parcel.sender parcel.receiver opens) ∙ ap carried (sym all)
+          ∙ sym (append-nil (carried (T.net.ways parcel.sender parcel.receiver).out)))
+
+  -- so they owe no letter
+  none-owed : all_quiet s.world.stopped s.wires.nodes ≡ true → (letter : Letter) → IsAmong letter owed
+      → is_running s.world.stopped letter.sender ≡ true
+      → is_running s.world.stopped letter.receiver ≡ true → ⊥
+  none-owed quiet letter among sends receives =
+      let has = letter-has s.world parcels owed stand letter among in
+      no-parcel quiet has.0 has.1 (ap (is_running s.world.stopped) has.2.sender ∙ sends)
+      (ap (is_running s.world.stopped) has.2.receiver ∙ receives)
 
   -- an idle state is idle without its wires, and its channels are quiet
   parts : is_idle s ≡ true → (whole.is_idle (bare s) ≡ true) × (all_quiet s.world.stopped s.wires.nodes ≡ true)

@@ -1,7 +1,9 @@
 pub mod Coming
+pub mod Forms
 pub mod Going
 pub mod Idle
 pub mod Marks
+pub mod Newest
 pub mod Passing
 pub mod Pieces
 pub mod Playing

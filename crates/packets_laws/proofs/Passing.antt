@@ -15,17 +15,21 @@ use Rattle.alive_regroup.specs.Watching as watching
 use Rattle.alive_regroup.specs.Watching.{changed_at}
 use Rattle.channel_laws.specs.Net.{Net, ticked_net}
 use Rattle.channel_laws.specs.Rounds.{Passes}
+use Rattle.world_semantics.specs.Messages.{Checkpointing}
 use Rattle.world_semantics.specs.Running.{Done, run_done}
 use Rattle.world_semantics.specs.World.{is_running, runs_by}
 use Rattle.computed_changes.specs.Entered.{enter_done}
+use Rattle.computed_changes.specs.Changed.{change_done}
 use Rattle.computed_changes.specs.Handed.{handed_done}
+use Rattle.computed_changes.proofs.Changed.{change-each}
 use Rattle.computed_changes.specs.Stopped.{down_done, stopped_world, stop_where, stop_done}
 use Rattle.letters.specs.Again.{sent_again}
-use Rattle.letters.specs.Routes.{Letter, letters_of}
+use Rattle.letters.specs.Routes.{letters_of}
+use Rattle.packet_wires.specs.Parcels.{Parcel, parcels_of}
 use Rattle.machine_states.specs.States.{Played, Makes, Skips, Would, SecondStop}
-use Rattle.message_wires.specs.Play.{has_stopped}
+use Rattle.message_wires_laws.specs.message_wires.specs.Play.{has_stopped}
 use Rattle.message_wires_laws.proofs.Stopping.{StopsNone, run-none, enter-none, handed-none, mark-none}
-use Rattle.message_layout.specs.Messages.{NodeMessage, Carrying, Reporting, Declaring}
+use Rattle.message_layout.specs.Messages.{NodeMessage, Carrying, Changing, Reporting, Declaring}
 use Rattle.message_layout.specs.Reading.{understood}
 use Rattle.packet_wires.specs.Nodes.{end_at}
 use Rattle.packet_wires.specs.Play.{Packeted, Underway, begun, made_by, after_any, marked_by, marks, handed, handed_any}
@@ -68,18 +72,19 @@ apart-of stopped processor a at runs same =
     sym (subst (λ c. is_running (slice_set stopped processor true) c ≡ true) (sym same) runs) ∙ gone in absurd cc
 
 module _ {a b : ℕ} {on : List Packet} {start : Net} where
-  -- letters are posted after a change that stops nobody
-  posted-leads : {came : List Packet} {stopped : List Bool} (later : List Bool) (midst : Midst) (letters : List Letter)
+  -- parcels are posted after a change that stops nobody
+  posted-leads : {came : List Packet} {stopped : List Bool} (later : List Bool) (midst : Midst) (parcels : List Parcel)
       → later ≡ stopped → IsPassing a b stopped on start came midst
-      → IsPassing a b later on start came (all_posted later letters midst)
-  posted-leads {came = came} later midst letters same P =
-      posted-passes letters midst (subst (λ ones. IsPassing a b ones on start came midst) (sym same) P)
+      → IsPassing a b later on start came (all_posted later parcels midst)
+  posted-leads {came = came} later midst parcels same P =
+      posted-passes parcels midst (subst (λ ones. IsPassing a b ones on start came midst) (sym same) P)
 
   any-leads : {came : List Packet} (s : Underway) (done : Option Done) → StopsNone s.world done
       → Passing a b on start came s → Passing a b on start came (after_any s done)
   any-leads s None none P = P
   any-leads s (Some done) none P =
-      posted-leads done.world.stopped s.wires (letters_of s.site done.world done.sendings) none P
+      posted-leads done.world.stopped s.wires (parcels_of done.world (letters_of s.site done.world done.sendings))
+      none P
 
   made-leads : {came : List Packet} (s : Underway) (done : Option Done) → StopsNone s.world done
       → Passing a b on start came s → LeadsOn a b on start came (made_by s done)
@@ -97,7 +102,8 @@ module _ {a b : ℕ} {on : List Packet} {start : Net} where
       by None e none = P
       by (Some done) e none =
           posted-leads done.world.stopped (cut_off node processor s.wires)
-          (letters_of s.site done.world (done.sendings ++ sent_again s.site s.world done.world node processor)) none
+          (parcels_of done.world
+          (letters_of s.site done.world (done.sendings ++ sent_again s.site s.world done.world node processor))) none
           (cut-passes node processor runs (mark-gone node processor s.world done e) s.wires P)
 
   handed-leads : {came : List Packet} (node : ℕ) (told : NodeMessage) (s : Underway)
@@ -105,6 +111,10 @@ module _ {a b : ℕ} {on : List Packet} {start : Net} where
       → Passing a b on start came (handed node told s)
   handed-leads node (Carrying message) s runs P =
       any-leads s (handed_done s.site node message s.world) (handed-none s.site s.world node message) P
+  handed-leads node (Changing change) s runs P =
+      any-leads s (change_done s.site node change s.world)
+      (change-each s.site node change s.world (StopsNone s.world) tt
+      (λ message. handed-none s.site s.world node (Checkpointing message))) P
   handed-leads node (Reporting from set) s runs P =
       watched-passes node (changed_at from (watching.neighbour_after_report set)) s.wires P
   handed-leads node (Declaring processor) s runs P = marks-lead node processor s runs P

@@ -1,8 +1,8 @@
 -- Every event does to the post what it makes of the state.
 use Rattle.std.proofs.Common.{◌≡◌, ◌≢◌, ◌≤◌, ℕ, Bool, true, false, if◌then◌else◌, ℤ, List, [], ◌∷◌, ◌++◌, Option, Some}
-use Rattle.std.proofs.Common.{None, slice_get, slice_set, refl, sym, ap, subst, ◌∙◌}
+use Rattle.std.proofs.Common.{None, slice_get, slice_set, inl, inr, refl, sym, ap, subst, ◌∙◌}
 use Rattle.gd_words.specs.Members.{IsAmong}
-use Rattle.gd_words.proofs.Among.{among-at, among-left, among-right}
+use Rattle.gd_words.proofs.Among.{among-at, among-either, among-left, among-right}
 use Rattle.tal_tree.specs.declared.site.Site.{Site}
 use Rattle.schedule.specs.declared.event.Event.{Event}
 use Rattle.schedule.specs.declared.event.Event.TheVariants.{Run, Enter, Deliver, Lose, Repeat, Tick, Fail, Drive}
@@ -14,7 +14,9 @@ use Rattle.alive_regroup.specs.Watching as watching
 use Rattle.alive_regroup.specs.Watching.{changed_at}
 use Rattle.world_semantics.specs.World.{World, is_running, runs_by}
 use Rattle.world_semantics.proofs.Lists.{set-there, set-other}
-use Rattle.world_semantics.specs.Messages.{Message, Entering, Handing, Stopping}
+use Rattle.world_semantics.proofs.Members.{among-map}
+use Rattle.world_semantics.specs.Messages.{Cause, Message, Checkpointing, Entering, Handing, NotingDown, Running}
+use Rattle.world_semantics.specs.Messages.{Sending, Stopping}
 use Rattle.world_semantics.specs.Rules.{Change}
 use Rattle.world_semantics.specs.Follows.{IsIdleFor}
 use Rattle.world_semantics.specs.Running.{Done, run_done}
@@ -35,10 +37,11 @@ use Rattle.letters.specs.Posts.{plays_hand, plays_drop, plays_again, plays_mark,
 use Rattle.letters.specs.Posts.{plays_no_tick, plays_tick, plays_tick_stop, plays_fail, plays_no_fail, NotesLetters}
 use Rattle.letters.specs.Posts.{plays_drive}
 use Rattle.letters.specs.Posts.{no_mark, one_mark, IsTaken}
+use Rattle.letters.proofs.Owed.{played-sent, taken-there}
 use Rattle.machine_states.specs.States.{Played, Makes, Skips, Would, drive_played, SecondStop}
-use Rattle.message_wires.specs.Play.{has_stopped}
+use Rattle.message_wires_laws.specs.message_wires.specs.Play.{has_stopped}
 use Rattle.message_wires_laws.proofs.Stopping.{StopsNone, run-none, enter-none, handed-none, mark-none}
-use Rattle.message_layout.specs.Messages.{NodeMessage, Carrying, Reporting, Declaring}
+use Rattle.message_layout.specs.Messages.{NodeMessage, Carrying, Changing, Reporting, Declaring}
 use Rattle.message_layout.specs.Reading.{understood}
 use Rattle.packet_wires.specs.Wires.{Wires, Midst, bus_named, goes_over, all_posted, arrived, learns, ticked, cut_off}
 use Rattle.packet_wires.specs.Play.{Packeted, Underway, begun, after_done, made_by, after_any, after_marked, marked_by}
@@ -46,8 +49,19 @@ use Rattle.packet_wires.specs.Play.{marks, declared, handed, handed_any, handed_
 use Rattle.packet_wires.specs.Play.{lose_acted, repeat_acted, fail_acted, marks_and_declares, pulled, pulls, line_of}
 use Rattle.packet_wires.specs.Play.{pulls_its, tick_acted, packet_at, acted, taken_off, ended, play}
 use Rattle.message_layout.specs.Layout.{Fits}
-use Rattle.packet_nets.specs.Owing.{message_of, Owes, Ties, on_both}
-use Rattle.packets_laws.specs.Carried.{IsCarried, IsCarriedAtRest}
+use Rattle.change_layout.specs.Changing.{change_of}
+use Rattle.checkpoint_image.specs.declared.message.ImageMessage.{ImageMessage}
+use Rattle.computed_changes.specs.Changed.{change_done}
+use Rattle.checkpoint_chains.specs.Chains.{IsNextTo}
+use Rattle.checkpoint_chains.proofs.Newest.{IsNewestIfOne, change-new}
+use Rattle.message_wires_laws.specs.letter_laws.proofs.Again.{again-is}
+use Rattle.packet_wires.specs.Parcels.{Parcel, form_of, parcel_of, parcels_of}
+use Rattle.packet_nets.specs.Owing as net
+use Rattle.packet_nets.specs.Owing.{IsContent, content_of, Owes, Ties, on_both}
+use Rattle.packets_laws.specs.Carried.{AllStandFor, IsCarried, IsCarriedAtRest, IsFormOf, StandsFor, WereSent}
+use Rattle.packets_laws.proofs.Forms.{Stays, again-new, all-stand-still, change-stays, form-own}
+use Rattle.packets_laws.proofs.Forms.{letters-new, new-stand, new-were, stand-append, stand-without}
+use Rattle.packets_laws.proofs.Forms.{takes-letter, were-still}
 use Rattle.packet_nets.proofs.Arriving.{Arrives, hands_none, hands_other, hands_letter, hands_again}
 use Rattle.packet_nets.proofs.Buses.{among-without}
 use Rattle.packet_nets.proofs.Owing.{stop-owes}
@@ -64,10 +78,15 @@ use Rattle.schedule.specs.declared.event.DriveEvent.{DriveEvent}
 abbrev pub Carries : List Event → List Packet → Underway → Type 0
 Carries events on s = (owed : List Letter) × (sent : List Letter) × IsCarried events on s owed sent
 
--- after these events all that was ever sent fits the site
+-- the form in which a message goes that was sent last fits the site, and is one of it
+abbrev pub GoesFit : Site → World → Message → Type 0
+GoesFit site w message =
+    IsNewestIfOne w message → Fits site (form_of w message) × IsFormOf w message (form_of w message)
+
+-- after these events all that was ever sent goes so, where it was sent last
 abbrev pub FitAll : Site → List Event → Type 0
 FitAll site events = (post : Post) → HasPlayed site events post → (letter : Letter) → IsAmong letter post.sent
-    → Fits site (Carrying letter.message)
+    → GoesFit site post.world letter.message
 
 -- the state that an event makes, if it makes one, is carried in its turn
 abbrev pub GoesOn : List Event → List Packet → Underway → Played Midst → Type 0
@@ -75,26 +94,65 @@ GoesOn events on s (Makes next) = Carries events on next
 GoesOn events on s Skips = Carries events on s
 GoesOn events on s (Would harm) = Unit {0}
 
+-- what parcels hold of letters in a world: those that are owed and those that were posted
+record HoldsLetters (w : World) (parcels posted : List Parcel) (owed sent : List Letter) : Type 0 where
+  pub stand : AllStandFor w parcels owed
+  pub were : WereSent w posted sent
+
+holds-still : (w next : World) (parcels posted : List Parcel) (owed sent : List Letter) → Stays w next
+    → HoldsLetters w parcels posted owed sent → HoldsLetters next parcels posted owed sent
+holds-still w next parcels posted owed sent stays held = record {
+  stand = all-stand-still w next stays parcels owed held.stand;
+  were = were-still w next stays posted sent held.were;
+}
+
 -- a change that stops nobody, and then its letters
 posted-on : {on : List Packet} (s : Underway) (events : List Event) (world : World) (midst : Midst)
-    (owed sent letters : List Letter) → FitAll s.site events → world.stopped ≡ s.world.stopped
-    → Ties s.site s.world.stopped on midst owed sent
+    (owed sent letters : List Letter) (parcels posted : List Parcel) → FitAll s.site events → Stays s.world world
+    → world.stopped ≡ s.world.stopped
+    → ((letter : Letter) → IsAmong letter letters → IsNewestIfOne world letter.message)
+    → HoldsLetters s.world parcels posted owed sent
+    → Ties s.site s.world.stopped on midst parcels posted
     → HasPlayed s.site events (with_letters letters (record { world = world; owed = owed; sent = sent }))
-    → Carries events on (record s { world = world; wires = all_posted world.stopped letters midst })
-posted-on {on = on} s events world midst owed sent letters fit same T played = (
+    → Carries events on (record s { world = world; wires = all_posted world.stopped (parcels_of world letters) midst })
+posted-on {on = on} s events world midst owed sent letters parcels posted fit stays same new held T played = (
   owed ++ letters,
   (letters ++ sent),
   record {
     played = played;
-    ties = all-posted-ties letters midst (λ letter among.
-        (fit _ played letter (among-left letter letters sent among), among-left letter letters sent among))
-        (more-ties midst (letters ++ sent) (λ letter among. among-right letter letters sent among)
-        (subst (λ stopped. Ties s.site stopped on midst owed sent) (sym same) T));
+    parcels = parcels ++ parcels_of world letters;
+    posted = parcels_of world letters ++ posted;
+    stand = stand-append world parcels (parcels_of world letters) owed letters still.stand
+        (new-stand world letters forms);
+    were = new-were world letters posted sent forms still.were;
+    ties = all-posted-ties (parcels_of world letters) midst all_fit
+        (more-ties midst (parcels_of world letters ++ posted)
+        (λ parcel among. among-right parcel (parcels_of world letters) posted among)
+        (subst (λ stopped. Ties s.site stopped on midst parcels posted) (sym same) T));
   },
 )
+  where
+    still : HoldsLetters world parcels posted owed sent
+    still = holds-still s.world world parcels posted owed sent stays held
+
+    goes : (letter : Letter) → IsAmong letter letters
+        → Fits s.site (form_of world letter.message) × IsFormOf world letter.message (form_of world letter.message)
+    goes letter among = fit _ played letter (among-left letter letters sent among) (new letter among)
+
+    forms : (letter : Letter) → IsAmong letter letters → IsFormOf world letter.message (form_of world letter.message)
+    forms letter among = (goes letter among).1
+
+    all_fit : (parcel : Parcel) → IsAmong parcel (parcels_of world letters)
+        → IsContent parcel.content × Fits s.site parcel.content × IsAmong parcel (parcels_of world letters ++ posted)
+    all_fit parcel among =
+        let from = among-map (parcel_of world) letters parcel among in (
+          subst (λ (p : Parcel). IsContent p.content) (sym from.same) (form-own world from.item.message),
+          subst (λ (p : Parcel). Fits s.site p.content) (sym from.same) (goes from.item from.among).0,
+          among-left parcel (parcels_of world letters) posted among,
+        )
 
 -- a stop of a processor that runs
-stopped-ties : {on : List Packet} (site : Site) (stopped : List Bool) (midst : Midst) (owed sent : List Letter)
+stopped-ties : {on : List Packet} (site : Site) (stopped : List Bool) (midst : Midst) (owed sent : List Parcel)
     (processor : ℕ) → slice_get stopped processor ≡ Some false
     → Ties site stopped on midst owed sent → Ties site (slice_set stopped processor true) on midst owed sent
 stopped-ties site stopped midst owed sent processor runs T = record {
@@ -105,7 +163,7 @@ stopped-ties site stopped midst owed sent processor runs T = record {
   places = size-set stopped processor true ∙ T.places;
 }
 
-repeated-ties : {site : Site} {stopped : List Bool} {on : List Packet} {owed sent : List Letter} (midst : Midst)
+repeated-ties : {site : Site} {stopped : List Bool} {on : List Packet} {owed sent : List Parcel} (midst : Midst)
     (name : BusName) (packet : Packet) → IsAmong packet on
     → Ties site stopped on midst owed sent → Ties site stopped on (goes_over name packet midst) owed sent
 repeated-ties midst name packet among T =
@@ -137,17 +195,37 @@ mark-gone node processor w done e = by (slice_get w.stopped processor) refl e
     by (Some false) at e = absurd cc
     by (Some true) at e = at
 
+-- what a mark sends, and sends again, is no checkpoint but the newest
+mark-new : (site : Site) (w : World) (node processor : ℕ) (done : Done)
+    → Change site w (NotingDown node processor) done.sendings done.world
+    → (sending : Sending) → IsAmong sending (done.sendings ++ sent_again site w done.world node processor)
+    → IsNewestIfOne done.world sending.message
+mark-new site w node processor done change sending among =
+    elim (among-either sending done.sendings (sent_again site w done.world node processor) among) [
+      | inl new ↦ change-new w done.world (NotingDown node processor) done.sendings change sending new
+      | inr again ↦ again-new site done.world sending.message
+          (again-is site w done.world node processor sending again)
+    ]
+
 -- a mark at a node that runs
-marked-on : {on : List Packet} (s : Underway) (events : List Event) (owed sent : List Letter) (node processor : ℕ)
+marked-on : {on : List Packet} (s : Underway) (events : List Event) (owed sent : List Letter)
+    (parcels posted : List Parcel) (node processor : ℕ)
     (done : Done) → FitAll s.site events → is_running s.world.stopped node ≡ true
-    → down_done node processor s.world ≡ Some done → Ties s.site s.world.stopped on s.wires owed sent
+    → down_done node processor s.world ≡ Some done → HoldsLetters s.world parcels posted owed sent
+    → Ties s.site s.world.stopped on s.wires parcels posted
     → HasPlayed s.site events (post_after_down s.site node processor done.sendings done.world
     (record { world = s.world; owed = owed; sent = sent }))
     → Carries events on (after_marked node processor s done)
-marked-on {on = on} s events owed sent node processor done fit runs e T played =
+marked-on {on = on} s events owed sent parcels posted node processor done fit runs e held T played =
+    let change = mark-may s.site node processor s.world done e in
     posted-on s events done.world (cut_off node processor s.wires) (without_those_between node processor owed) sent
-    (letters_of s.site done.world (done.sendings ++ sent_again s.site s.world done.world node processor)) fit
+    (letters_of s.site done.world (done.sendings ++ sent_again s.site s.world done.world node processor))
+    (net.without_those_between node processor parcels) posted fit
+    (change-stays s.world done.world (NotingDown node processor) done.sendings change)
     (subst (StopsNone s.world) e (mark-none s.site s.world node processor))
+    (letters-new s.site done.world (done.sendings ++ sent_again s.site s.world done.world node processor)
+    (mark-new s.site s.world node processor done change))
+    (record { stand = stand-without s.world node processor parcels owed held.stand; were = held.were })
     (cut-ties s.wires node processor runs (mark-gone node processor s.world done e) T) played
 
 -- A state that is carried after these events, and in the midst of one more. Its letters carry messages that were sent,
@@ -157,6 +235,9 @@ module _ (events : List Event) (on : List Packet) (s : Underway) (owed sent : Li
     (honest : (letter : Letter) → IsAmong letter sent → IsSent s.world letter.message)
     (only : (letter : Letter) → IsAmong letter sent → handed_done s.site letter.receiver letter.message s.world ≡ None
     → IsIdleFor s.site s.world (Handing letter.receiver letter.message))
+    (whole : (node : ℕ) (before one : ImageMessage) → IsSent s.world (Checkpointing before)
+    → IsSent s.world (Checkpointing one) → IsNextTo before one
+    → change_done s.site node (change_of before one) s.world ≡ handed_done s.site node (Checkpointing one) s.world)
     (fit : (event : Event) → FitAll s.site (events ++ event ∷ [])) where
   abbrev Post_of : List Letter → Post
   Post_of owed = record { world = s.world; owed = owed; sent = sent }
@@ -164,22 +245,42 @@ module _ (events : List Event) (on : List Packet) (s : Underway) (owed sent : Li
   abbrev Same : Event → Type 0
   Same event = PlaysEvent s.site (Post_of owed) event (Post_of owed)
 
-  -- the post stays the same, and the new wires are tied to it
-  calm : (event : Event) (midst : Midst) → Ties s.site s.world.stopped on midst owed sent → Same event
-      → Carries (events ++ event ∷ []) on (record s { wires = midst })
-  calm event midst T plays = (owed, sent, record { played = played_more carried.played plays; ties = T })
+  abbrev Tied : Midst → Type 0
+  Tied midst = Ties s.site s.world.stopped on midst carried.parcels carried.posted
 
-  T : Ties s.site s.world.stopped on s.wires owed sent
+  held : HoldsLetters s.world carried.parcels carried.posted owed sent
+  held = record { stand = carried.stand; were = carried.were }
+
+  -- the post stays the same, and the new wires are tied to it
+  calm : (event : Event) (midst : Midst) → Tied midst → Same event
+      → Carries (events ++ event ∷ []) on (record s { wires = midst })
+  calm event midst T plays = (
+    owed,
+    sent,
+    record {
+      played = played_more carried.played plays;
+      parcels = carried.parcels;
+      posted = carried.posted;
+      stand = carried.stand;
+      were = carried.were;
+      ties = T;
+    },
+  )
+
+  T : Tied s.wires
   T = carried.ties
 
-  changes : (event : Event) (done : Done) → StopsNone s.world (Some done)
+  changes : (event : Event) (cause : Cause) (done : Done) → StopsNone s.world (Some done)
+      → Change s.site s.world cause done.sendings done.world
       → PlaysEvent s.site (Post_of owed) event
       (with_letters (letters_of s.site done.world done.sendings)
       (record { world = done.world; owed = owed; sent = sent }))
       → Carries (events ++ event ∷ []) on (after_done s done)
-  changes event done none plays =
+  changes event cause done none change plays =
       posted-on s (events ++ event ∷ []) done.world s.wires owed sent (letters_of s.site done.world done.sendings)
-      (fit event) none carried.ties (played_more carried.played plays)
+      carried.parcels carried.posted (fit event) (change-stays s.world done.world cause done.sendings change) none
+      (letters-new s.site done.world done.sendings (change-new s.world done.world cause done.sendings change)) held
+      carried.ties (played_more carried.played plays)
 
   run-on : (number : ℕ) → GoesOn (events ++ Run number ∷ []) on s (made_by s (run_done s.site number s.world))
   run-on number = by (run_done s.site number s.world) refl (run-none s.site s.world number)
@@ -187,7 +288,9 @@ module _ (events : List Event) (on : List Packet) (s : Underway) (owed sent : Li
       by : (done : Option Done) → run_done s.site number s.world ≡ done → StopsNone s.world done
           → GoesOn (events ++ Run number ∷ []) on s (made_by s done)
       by None e none = calm (Run number) s.wires carried.ties (plays_no_run (run-idle s.site number s.world e))
-      by (Some done) e none = changes (Run number) done none (plays_run (run-may s.site number s.world done e))
+      by (Some done) e none =
+          let change = run-may s.site number s.world done e in
+          changes (Run number) (Running number) done none change (plays_run change)
 
   enter-on : (number : ℕ) → GoesOn (events ++ Enter number ∷ []) on s (made_by s (enter_done s.site number s.world))
   enter-on number = by (enter_done s.site number s.world) refl (enter-none s.site s.world number)
@@ -198,7 +301,9 @@ module _ (events : List Event) (on : List Packet) (s : Underway) (owed sent : Li
           calm (Enter number) s.wires carried.ties
           (plays_no_enter (idle-where s.site s.world (Entering number) (enter_done s.site number s.world)
           (λ next sendings change. enter-only number s.world next sendings change) e))
-      by (Some done) e none = changes (Enter number) done none (plays_enter (enter-may s.site number s.world done e))
+      by (Some done) e none =
+          let change = enter-may s.site number s.world done e in
+          changes (Enter number) (Entering number) done none change (plays_enter change)
 
   lose-on : (y : Bool) (k : ℕ) (packet : Option Packet) → GoesOn (events ++ Lose y k ∷ []) on s (lose_acted s packet)
   lose-on y k None = calm (Lose y k) s.wires carried.ties plays_loss
@@ -225,14 +330,21 @@ module _ (events : List Event) (on : List Packet) (s : Underway) (owed sent : Li
           → GoesOn (events ++ Fail processor ∷ []) on s
           (if test then Would (SecondStop processor) else Makes (record s { world = stopped_world processor s.world }))
       stops e change true = tt
-      stops e change false = (
-        owed,
-        sent,
-        record {
-          played = played_more carried.played (plays_fail change);
-          ties = stopped-ties s.site s.world.stopped s.wires owed sent processor e carried.ties;
-        },
-      )
+      stops e change false =
+          let still = holds-still s.world (stopped_world processor s.world) carried.parcels carried.posted owed sent
+          (change-stays s.world (stopped_world processor s.world) (Stopping processor) [] change) held in (
+            owed,
+            sent,
+            record {
+              played = played_more carried.played (plays_fail change);
+              parcels = carried.parcels;
+              posted = carried.posted;
+              stand = still.stand;
+              were = still.were;
+              ties = stopped-ties s.site s.world.stopped s.wires carried.parcels carried.posted processor e
+                  carried.ties;
+            },
+          )
 
       by : (stopped : Option Bool) → slice_get s.world.stopped processor ≡ stopped
           → GoesOn (events ++ Fail processor ∷ []) on s (fail_acted processor s (stop_where processor s.world stopped))
@@ -246,7 +358,18 @@ module _ (events : List Event) (on : List Packet) (s : Underway) (owed sent : Li
   drive-on : (event : DriveEvent) → GoesOn (events ++ Drive event ∷ []) on s (drive_played event s)
   drive-on event =
       drive-cases event s (GoesOn (events ++ Drive event ∷ []) on s)
-      (λ drives. (owed, sent, record { played = played_more carried.played plays_drive; ties = carried.ties }))
+      (λ drives. (
+        owed,
+        sent,
+        record {
+          played = played_more carried.played plays_drive;
+          parcels = carried.parcels;
+          posted = carried.posted;
+          stand = carried.stand;
+          were = carried.were;
+          ties = carried.ties;
+        },
+      ))
       (calm (Drive event) s.wires carried.ties plays_drive) (λ process. tt)
 
   -- A packet is delivered
@@ -259,8 +382,8 @@ module _ (events : List Event) (on : List Packet) (s : Underway) (owed sent : Li
     abbrev next : Midst
     next = arrived (bus_named y) p s.wires
 
-    abbrev letter : Message → Letter
-    letter message = record { sender = p.sender; receiver = p.receiver; message = message }
+    abbrev parcel : NodeMessage → Parcel
+    parcel content = record { sender = p.sender; receiver = p.receiver; content = content }
 
     abbrev here : Underway
     here = record s { wires = next }
@@ -268,49 +391,83 @@ module _ (events : List Event) (on : List Packet) (s : Underway) (owed sent : Li
     abbrev Handed : Underway → Type 0
     Handed after = Carries (events ++ Deliver y k ∷ []) on after
 
-    take-on : (message : Message) (rest : List Letter) → IsTaken (letter message) owed rest
-        → IsAmong (letter message) sent → Ties s.site s.world.stopped on next rest sent
-        → (done : Option Done) → handed_done s.site p.receiver message s.world ≡ done → StopsNone s.world done
-        → Handed (after_any here done)
-    take-on message rest taken among T None e none = (
-      rest,
+    -- what is handed over does what its letter's message does
+    as-letter : (content : NodeMessage) (letter : Letter) → StandsFor s.world (parcel content) letter
+        → IsAmong letter sent
+        → handed p.receiver content here
+        ≡ after_any here (handed_done s.site letter.receiver letter.message s.world)
+    as-letter content letter stands among =
+        elim stands.form [
+          | inl same ↦ ap (λ (told : NodeMessage). handed p.receiver told here) same
+              ∙ ap (λ (node : ℕ). after_any here (handed_done s.site node letter.message s.world)) stands.receiver
+          | inr (before, one, is, goes_as, known, next_to) ↦
+              ap (λ (told : NodeMessage). handed p.receiver told here) goes_as
+              ∙ ap (after_any here) (whole p.receiver before one known
+              (subst (λ (m : Message). IsSent s.world m) is (honest letter among)) next_to)
+              ∙ ap (λ (m : Message). after_any here (handed_done s.site p.receiver m s.world)) (sym is)
+              ∙ ap (λ (node : ℕ). after_any here (handed_done s.site node letter.message s.world)) stands.receiver
+        ]
+
+    -- its receiver runs
+    letter-runs : (content : NodeMessage) (letter : Letter) → StandsFor s.world (parcel content) letter
+        → is_running s.world.stopped letter.receiver ≡ true
+    letter-runs content letter stands =
+        ap (is_running s.world.stopped) (sym stands.receiver) ∙ runs
+
+    take-on : (letter : Letter) (left : List Letter) (rest : List Parcel) → IsTaken letter owed left
+        → IsAmong letter sent → is_running s.world.stopped letter.receiver ≡ true → AllStandFor s.world rest left
+        → Ties s.site s.world.stopped on next rest carried.posted
+        → (done : Option Done) → handed_done s.site letter.receiver letter.message s.world ≡ done
+        → StopsNone s.world done → Handed (after_any here done)
+    take-on letter left rest taken among alive stand T None e none = (
+      left,
       sent,
       record {
-        played = played_more carried.played
-            (plays_drop (letter message) taken runs (only (letter message) among e));
+        played = played_more carried.played (plays_drop letter taken alive (only letter among e));
+        parcels = rest;
+        posted = carried.posted;
+        stand = stand;
+        were = carried.were;
         ties = T;
       },
     )
-    take-on message rest taken among T (Some done) e none =
-        posted-on s (events ++ Deliver y k ∷ []) done.world next rest sent (letters_of s.site done.world done.sendings)
-        (fit (Deliver y k)) none T
-        (played_more carried.played (plays_hand (letter message) taken
-        (handed-may s.site _ _ s.world done (honest (letter message) among) e)))
+    take-on letter left rest taken among alive stand T (Some done) e none =
+        let change = handed-may s.site _ _ s.world done (honest letter among) e in
+        posted-on s (events ++ Deliver y k ∷ []) done.world next left sent
+        (letters_of s.site done.world done.sendings) rest carried.posted (fit (Deliver y k))
+        (change-stays s.world done.world (Handing letter.receiver letter.message) done.sendings change) none
+        (letters-new s.site done.world done.sendings
+        (change-new s.world done.world (Handing letter.receiver letter.message) done.sendings change))
+        (record { stand = stand; were = carried.were }) T
+        (played_more carried.played (plays_hand letter taken change))
 
-    again-on : (message : Message) → IsAmong (letter message) sent → Ties s.site s.world.stopped on next owed sent
-        → (done : Option Done) → handed_done s.site p.receiver message s.world ≡ done → StopsNone s.world done
-        → Handed (after_any here done)
-    again-on message among T None e none = calm (Deliver y k) next T plays_nothing
-    again-on message among T (Some done) e none =
-        posted-on s (events ++ Deliver y k ∷ []) done.world next owed sent (letters_of s.site done.world done.sendings)
-        (fit (Deliver y k)) none T
-        (played_more carried.played (plays_again (letter message) among
-        (handed-may s.site _ _ s.world done (honest (letter message) among) e)))
+    again-on : (letter : Letter) → IsAmong letter sent → Tied next
+        → (done : Option Done) → handed_done s.site letter.receiver letter.message s.world ≡ done
+        → StopsNone s.world done → Handed (after_any here done)
+    again-on letter among T None e none = calm (Deliver y k) next T plays_nothing
+    again-on letter among T (Some done) e none =
+        let change = handed-may s.site _ _ s.world done (honest letter among) e in
+        posted-on s (events ++ Deliver y k ∷ []) done.world next owed sent
+        (letters_of s.site done.world done.sendings) carried.parcels carried.posted (fit (Deliver y k))
+        (change-stays s.world done.world (Handing letter.receiver letter.message) done.sendings change) none
+        (letters-new s.site done.world done.sendings
+        (change-new s.world done.world (Handing letter.receiver letter.message) done.sendings change)) held T
+        (played_more carried.played (plays_again letter among change))
 
-    mark-on : (processor : ℕ) → Ties s.site s.world.stopped on next owed sent → Handed (marks p.receiver processor here)
+    mark-on : (processor : ℕ) → Tied next → Handed (marks p.receiver processor here)
     mark-on processor T = by (down_done p.receiver processor s.world) refl
       where
         by : (done : Option Done) → down_done p.receiver processor s.world ≡ done
             → Handed (marked_by p.receiver processor here done)
         by None e = calm (Deliver y k) next T plays_nothing
         by (Some done) e =
-            marked-on here (events ++ Deliver y k ∷ []) owed sent p.receiver processor done (fit (Deliver y k)) runs e T
-            (played_more carried.played (plays_mark p.receiver processor
+            marked-on here (events ++ Deliver y k ∷ []) owed sent carried.parcels carried.posted p.receiver processor
+            done (fit (Deliver y k)) runs e held T (played_more carried.played (plays_mark p.receiver processor
             (mark-may s.site p.receiver processor s.world done e)))
 
-    other-on : (told : NodeMessage) → message_of told ≡ None → Ties s.site s.world.stopped on next owed sent
-        → Handed (handed p.receiver told here)
+    other-on : (told : NodeMessage) → content_of told ≡ None → Tied next → Handed (handed p.receiver told here)
     other-on (Carrying message) none T = absurd cc
+    other-on (Changing change) none T = absurd cc
     other-on (Reporting from set) none T =
         calm (Deliver y k) (learns p.receiver (changed_at from (watching.neighbour_after_report set)) next)
         (watched-ties next p.receiver (changed_at from (watching.neighbour_after_report set))
@@ -322,27 +479,41 @@ module _ (events : List Event) (on : List Packet) (s : Underway) (owed sent : Li
         → Handed (handed_any p.receiver (understood s.site words) here)
     read-on words told e is = subst (λ o. Handed (handed_any p.receiver o here)) (sym e) is
 
-    arrive-on : (h : Option (List ℤ)) → Came s.site s.world.stopped on next owed sent p.sender p.receiver h
+    arrive-on : (h : Option (List ℤ))
+        → Came s.site s.world.stopped on next carried.parcels carried.posted p.sender p.receiver h
         → Handed (handed_words p.receiver h here)
     arrive-on h c = by h c.arrived
       where
-        ties : (owed : List Letter) → Owes s.site s.world.stopped owed sent c.net
-            → Ties s.site s.world.stopped on next owed sent
-        ties owed o = record { net = c.net; tied = c.tied; owes = o; watches = c.watches; places = c.places }
+        ties : (parcels : List Parcel) → Owes s.site s.world.stopped parcels carried.posted c.net
+            → Ties s.site s.world.stopped on next parcels carried.posted
+        ties parcels o = record { net = c.net; tied = c.tied; owes = o; watches = c.watches; places = c.places }
 
-        by : (h : Option (List ℤ)) → Arrives s.site s.world.stopped owed sent c.net p.sender p.receiver h
+        -- what is owed was sent
+        sent-too : (letter : Letter) → IsAmong letter owed → IsAmong letter sent
+        sent-too letter among = played-sent carried.played letter among
+
+        by : (h : Option (List ℤ))
+            → Arrives s.site s.world.stopped carried.parcels carried.posted c.net p.sender p.receiver h
             → Handed (handed_words p.receiver h here)
-        by None (hands_none o) = calm (Deliver y k) next (ties owed o) plays_nothing
+        by None (hands_none o) = calm (Deliver y k) next (ties carried.parcels o) plays_nothing
         by (Some words) (hands_other told reads fits right none o) =
-            read-on words told reads (other-on told none (ties owed o))
-        by (Some words) (hands_letter {rest = rest} message reads fits among taken o) =
-            read-on words (Carrying message) reads
-            (take-on message rest taken among (ties rest o) (handed_done s.site p.receiver message s.world) refl
-            (handed-none s.site s.world p.receiver message))
-        by (Some words) (hands_again message reads fits among o) =
-            read-on words (Carrying message) reads
-            (again-on message among (ties owed o) (handed_done s.site p.receiver message s.world) refl
-            (handed-none s.site s.world p.receiver message))
+            read-on words told reads (other-on told none (ties carried.parcels o))
+        by (Some words) (hands_letter {rest = rest} content own reads fits among taken o) =
+            let takes = takes-letter s.world (parcel content) carried.parcels rest owed carried.stand taken in
+            let there = sent-too takes.letter (taken-there takes.taken) in
+            read-on words content reads
+            (subst Handed (sym (as-letter content takes.letter takes.stands there))
+            (take-on takes.letter takes.left rest takes.taken there (letter-runs content takes.letter takes.stands)
+            takes.all (ties rest o)
+            (handed_done s.site takes.letter.receiver takes.letter.message s.world) refl
+            (handed-none s.site s.world takes.letter.receiver takes.letter.message)))
+        by (Some words) (hands_again content own reads fits among o) =
+            let one = carried.were (parcel content) among in
+            read-on words content reads
+            (subst Handed (sym (as-letter content one.0 one.2 one.1))
+            (again-on one.0 one.1 (ties carried.parcels o)
+            (handed_done s.site one.0.receiver one.0.message s.world) refl
+            (handed-none s.site s.world one.0.receiver one.0.message)))
 
     received-on : Handed (received (bus_named y) p s)
     received-on = arrive-on _ (came s.wires carried.ties (bus_named y) p (carried.ties.tied.flight p stands) runs)
@@ -366,7 +537,7 @@ module _ (events : List Event) (on : List Packet) (s : Underway) (owed sent : Li
     abbrev Ticks : Underway → Type 0
     Ticks after = Carries (events ++ Tick node ∷ []) on after
 
-    tick_ties : Ties s.site s.world.stopped on (ticked s.site.processors node s.wires) owed sent
+    tick_ties : Tied (ticked s.site.processors node s.wires)
     tick_ties = ticked-ties node runs s.wires carried.ties
 
     -- after the mark, the declarations are sent
@@ -376,18 +547,26 @@ module _ (events : List Event) (on : List Packet) (s : Underway) (owed sent : Li
     told-on processor one same alive gone few (now, ever, c) = (
       now,
       ever,
-      record { played = c.played; ties = down-ties node alive one.wires processor few gone c.ties },
+      record {
+        played = c.played;
+        parcels = c.parcels;
+        posted = c.posted;
+        stand = c.stand;
+        were = c.were;
+        ties = down-ties node alive one.wires processor few gone c.ties;
+      },
     )
 
     -- the node marks the processor in a world in which that has stopped
     held-on : (w : World) (processor : ℕ) → is_running w.stopped node ≡ true
         → slice_get w.stopped processor ≡ Some true → processor ≤ 15
-        → Ties s.site w.stopped on (ticked s.site.processors node s.wires) owed sent
+        → HoldsLetters w carried.parcels carried.posted owed sent
+        → Ties s.site w.stopped on (ticked s.site.processors node s.wires) carried.parcels carried.posted
         → ((post : Post) → NotesLetters s.site node (record { world = w; owed = owed; sent = sent }) post
         → PlaysEvent s.site (Post_of owed) (Tick node) post)
         → Ticks (marks_and_declares node processor
         (record s { world = w; wires = ticked s.site.processors node s.wires }))
-    held-on w processor alive gone few T plays =
+    held-on w processor alive gone few holds T plays =
         by (down_done node processor w) refl (mark-none s.site w node processor)
       where
         one : Underway
@@ -397,23 +576,36 @@ module _ (events : List Event) (on : List Packet) (s : Underway) (owed sent : Li
             → Ticks (declared node processor (marked_by node processor
             (record s { world = w; wires = ticked s.site.processors node s.wires }) done))
         by None e none = told-on processor (record s { world = w; wires = ticked s.site.processors node s.wires }) refl
-            alive gone few
-            (owed, sent, record { played = played_more carried.played (plays _ no_mark); ties = T })
+            alive gone few (
+              owed,
+              sent,
+              record {
+                played = played_more carried.played (plays _ no_mark);
+                parcels = carried.parcels;
+                posted = carried.posted;
+                stand = holds.stand;
+                were = holds.were;
+                ties = T;
+              },
+            )
         by (Some done) e none =
             told-on processor (after_marked node processor
             (record s { world = w; wires = ticked s.site.processors node s.wires }) done) refl
             (subst (λ stopped. is_running stopped node ≡ true) (sym none) alive)
             (subst (λ stopped. slice_get stopped processor ≡ Some true) (sym none) gone) few
             (marked-on (record s { world = w; wires = ticked s.site.processors node s.wires })
-            (events ++ Tick node ∷ []) owed sent node processor done (fit (Tick node)) alive e T
+            (events ++ Tick node ∷ []) owed sent carried.parcels carried.posted node processor done (fit (Tick node))
+            alive e holds T
             (played_more carried.played (plays _ (one_mark processor (mark-may s.site node processor w done e)
             no_mark))))
+
+    none-on : Ticks (record s { wires = ticked s.site.processors node s.wires })
+    none-on = calm (Tick node) (ticked s.site.processors node s.wires) tick_ties (plays_tick runs no_mark)
 
     line-on : (line : Option ℕ) → ((processor : ℕ) → line ≡ Some processor → (processor ≢ node) × (processor ≤ 15))
         → GoesOn (events ++ Tick node ∷ []) on s
         (pulls node (record s { wires = ticked s.site.processors node s.wires }) line)
-    line-on None other =
-        (owed, sent, record { played = played_more carried.played (plays_tick runs no_mark); ties = tick_ties })
+    line-on None other = none-on
     line-on (Some processor) other = by (slice_get s.world.stopped processor) refl
       where
         stops : slice_get s.world.stopped processor ≡ Some false
@@ -426,22 +618,18 @@ module _ (events : List Event) (on : List Packet) (s : Underway) (owed sent : Li
             held-on (stopped_world processor s.world) processor
             (still-running s.world.stopped processor node (other processor refl).0 runs)
             (now-stopped s.world.stopped processor e) (other processor refl).1
-            (stopped-ties s.site s.world.stopped _ owed sent processor e tick_ties)
+            (holds-still s.world (stopped_world processor s.world) carried.parcels carried.posted owed sent
+            (change-stays s.world (stopped_world processor s.world) (Stopping processor) [] change) held)
+            (stopped-ties s.site s.world.stopped _ carried.parcels carried.posted processor e tick_ties)
             (λ post made. plays_tick_stop processor runs (other processor refl).0 change made)
 
         by : (stopped : Option Bool) → slice_get s.world.stopped processor ≡ stopped
             → GoesOn (events ++ Tick node ∷ []) on s
             (pulled node processor (record s { wires = ticked s.site.processors node s.wires }) stopped)
-        by None e = (
-          owed,
-          sent,
-          record {
-            played = played_more carried.played (plays_tick runs no_mark);
-            ties = tick_ties;
-          },
-        )
+        by None e = none-on
         by (Some true) e =
-            held-on s.world processor runs e (other processor refl).1 tick_ties (λ post made. plays_tick runs made)
+            held-on s.world processor runs e (other processor refl).1 held tick_ties
+            (λ post made. plays_tick runs made)
         by (Some false) e =
             stops e (stop-may s.site processor s.world
             (record { world = stopped_world processor s.world; sendings = [] }) (rw e refl))
@@ -494,6 +682,10 @@ over-on events s event (Makes next) (owed, sent, c) = (
   sent,
   record {
     played = c.played;
+    parcels = c.parcels;
+    posted = c.posted;
+    stand = c.stand;
+    were = c.were;
     ties = rest-ties (taken_off event s.wires) next.wires (fewer-ties (among-taken event s.wires) c.ties);
   },
 )
@@ -508,22 +700,26 @@ pub plays-on : (events : List Event) (s : Packeted) (owed sent : List Letter) �
     → ((letter : Letter) → IsAmong letter sent → IsSent s.world letter.message)
     → ((letter : Letter) → IsAmong letter sent → handed_done s.site letter.receiver letter.message s.world ≡ None
     → IsIdleFor s.site s.world (Handing letter.receiver letter.message))
+    → ((node : ℕ) (before one : ImageMessage) → IsSent s.world (Checkpointing before)
+    → IsSent s.world (Checkpointing one) → IsNextTo before one
+    → change_done s.site node (change_of before one) s.world ≡ handed_done s.site node (Checkpointing one) s.world)
     → ((event : Event) → FitAll s.site (events ++ event ∷ [])) → (event : Event)
     → GoesOnAtRest (events ++ event ∷ []) s (play s event)
-plays-on events s owed sent carried honest only fit event =
+plays-on events s owed sent carried honest only whole fit event =
     over-on (events ++ event ∷ []) s event (acted s event) (by event)
   where
     by : (event : Event) → GoesOn (events ++ event ∷ []) (on_both s.wires) (begun s) (acted s event)
-    by (Run number) = run-on events (on_both s.wires) (begun s) owed sent carried honest only fit number
-    by (Enter number) = enter-on events (on_both s.wires) (begun s) owed sent carried honest only fit number
+    by (Run number) = run-on events (on_both s.wires) (begun s) owed sent carried honest only whole fit number
+    by (Enter number) = enter-on events (on_both s.wires) (begun s) owed sent carried honest only whole fit number
     by (Deliver y k) =
-        deliver-on events (on_both s.wires) (begun s) owed sent carried honest only fit y k
+        deliver-on events (on_both s.wires) (begun s) owed sent carried honest only whole fit y k
         (packet_at s (bus_named y) k) (stands-there s (bus_named y) k)
     by (Lose y k) =
-        lose-on events (on_both s.wires) (begun s) owed sent carried honest only fit y k (packet_at s (bus_named y) k)
+        lose-on events (on_both s.wires) (begun s) owed sent carried honest only whole fit y k
+        (packet_at s (bus_named y) k)
     by (Repeat y k) =
-        repeat-on events (on_both s.wires) (begun s) owed sent carried honest only fit y k
+        repeat-on events (on_both s.wires) (begun s) owed sent carried honest only whole fit y k
         (packet_at s (bus_named y) k) (stands-there s (bus_named y) k)
-    by (Tick node) = tick-on events (on_both s.wires) (begun s) owed sent carried honest only fit node
-    by (Fail processor) = fail-on events (on_both s.wires) (begun s) owed sent carried honest only fit processor
-    by (Drive event) = drive-on events (on_both s.wires) (begun s) owed sent carried honest only fit event
+    by (Tick node) = tick-on events (on_both s.wires) (begun s) owed sent carried honest only whole fit node
+    by (Fail processor) = fail-on events (on_both s.wires) (begun s) owed sent carried honest only whole fit processor
+    by (Drive event) = drive-on events (on_both s.wires) (begun s) owed sent carried honest only whole fit event

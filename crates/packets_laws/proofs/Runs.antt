@@ -1,19 +1,25 @@
 -- Runs over packets are runs of the world with its letters.
-use Rattle.std.proofs.Common.{◌≡◌, ◌≤◌, ◌<◌, ℕ, ℤ, true, List, [], ◌∷◌, ◌++◌, length, Some, None, sym, subst, arith}
-use Rattle.std.proofs.Common.{length-append}
+use Rattle.std.proofs.Common.{◌≡◌, ◌≤◌, ◌<◌, inl, inr, ℕ, ℤ, true, List, [], ◌∷◌, ◌++◌, length, Some, None, sym, subst}
+use Rattle.std.proofs.Common.{arith, length-append}
 use Rattle.gd_words.specs.Members.{IsAmong}
 use Rattle.tal_tree.specs.declared.site.Site.{Site}
 use Rattle.schedule.specs.declared.event.Event.{Event}
 use Rattle.packet_words.specs.declared.bus_name.BusName.{BusName}
 use Rattle.packet_words.specs.declared.packet.Packet.{Packet}
 use Rattle.world_semantics.specs.Follows.{IsIdleFor, IsRun}
-use Rattle.world_semantics.specs.Messages.{Handing}
+use Rattle.world_semantics.specs.Messages.{Checkpointing, Handing}
+use Rattle.change_layout.specs.Changing.{change_of}
+use Rattle.checkpoint_image.specs.declared.message.ImageMessage.{ImageMessage}
+use Rattle.computed_changes.specs.Changed.{change_done}
 use Rattle.computed_changes.specs.Handed.{handed_done}
+use Rattle.checkpoint_chains.specs.Chains.{IsNextTo}
+use Rattle.checkpoint_chains.proofs.Whole.{comes-whole}
 use Rattle.computed_changes.specs.Laws.{HasCopiesApart, IsSent}
 use Rattle.computed_changes.proofs.Outcomes.{idle-where, run-only}
 use Rattle.message_wires_laws.specs.takeover_laws.specs.Fit.{IsFit}
 use Rattle.message_wires_laws.specs.awaited_requests.specs.Seats.{IsLaidOut}
 use Rattle.letters_layout.specs.Fitting.{IsSmall}
+use Rattle.letters_layout.proofs.Checkpoints.{change-fits}
 use Rattle.letters_layout.proofs.Letters.{all-fit}
 use Rattle.letters.specs.Posts.{Post}
 use Rattle.letters.specs.Posts as posts
@@ -21,17 +27,20 @@ use Rattle.letters.specs.Routes.{Letter}
 use Rattle.letters.proofs.Worlds.{played-run}
 use Rattle.message_wires_laws.specs.letter_laws.proofs.Fitting.{letter-fits}
 use Rattle.message_wires_laws.specs.letter_laws.proofs.Honest.{played-honest}
+use Rattle.message_layout.specs.Layout.{Fits}
+use Rattle.message_layout.specs.Messages.{NodeMessage}
+use Rattle.packet_wires.specs.Parcels.{form_of}
 use Rattle.packet_wires.specs.Play.{Packeted, play, completed, packet_at}
 use Rattle.packet_wires.specs.Nodes.{end_at}
 use Rattle.world_semantics.specs.World.{is_running}
 use Rattle.packets_laws.proofs.Coming.{comes-right}
 use Rattle.packet_wires.specs.Runs.{IsPlayed, played_none, played_more, skipped}
-use Rattle.packet_nets.specs.Owing.{WasPushed}
-use Rattle.packets_laws.specs.Carried.{IsCarriedAtRest}
+use Rattle.packets_laws.specs.Carried.{IsCarriedAtRest, IsFormOf, WasSentInWords}
 use Rattle.letters.specs.Idle.{IsIdle}
 use Rattle.packet_wires.specs.Idle.{is_idle}
 use Rattle.packets_laws.proofs.Going.{played-site}
 use Rattle.packets_laws.proofs.Idle.{idle-post}
+use Rattle.packets_laws.proofs.Newest.{form-newest}
 use Rattle.packets_laws.proofs.Playing.{CarriesAtRest, GoesOnAtRest, FitAll, plays-on}
 use Rattle.packet_nets.proofs.Ticking.{begins}
 
@@ -55,11 +64,33 @@ module _ (events : List Event) (few : length events < 4294967296) (s : Packeted)
       (λ next sendings change. run-only s.world next letter.receiver letter.message sendings
       (played-run carried.played) apart fitting change) e
 
+  -- a checkpoint does the same if it comes as what changed
+  pub carried-whole : (node : ℕ) (before one : ImageMessage) → IsSent s.world (Checkpointing before)
+      → IsSent s.world (Checkpointing one) → IsNextTo before one
+      → change_done s.site node (change_of before one) s.world ≡ handed_done s.site node (Checkpointing one) s.world
+  carried-whole node before one = comes-whole s.site fit events post few carried.played before one node
+
 -- copies that are laid out are apart
 laid-apart : (site : Site) → IsLaidOut site → HasCopiesApart site
 laid-apart site out number spec there = (out.places number spec there).2
 
 module _ (site : Site) (fit : IsFit site) (small : IsSmall site) (out : IsLaidOut site) where
+  -- in whatever form a letter's message goes, it fits
+  form-fits : (events : List Event) (post : Post) (few : length events < 4294967296)
+      → posts.HasPlayed site events post → (letter : Letter) → IsAmong letter post.sent → (content : NodeMessage)
+      → IsFormOf post.world letter.message content → Fits site content
+  form-fits events post few played letter among content (inl same) =
+      subst (Fits site) (sym same) (all-fit site fit small out events post few played letter among)
+  form-fits events post few played letter among content (inr (before, one, is, goes_as, known, next_to)) =
+      subst (Fits site) (sym goes_as)
+      (change-fits site fit small events post.world few (played-run played) before one
+      (subst (IsSent post.world) is ((played-honest site fit events post few played).letters letter among)))
+
+  all-go : (events : List Event) → length events < 4294967296 → FitAll site events
+  all-go events few post played letter among new =
+      let form = form-newest post.world (played-run played) letter.message new in
+      (form-fits events post few played letter among (form_of post.world letter.message) form, form)
+
   goes-on : (events : List Event) (s : Packeted) (event : Event) → length (events ++ event ∷ []) < 4294967296
       → s.site ≡ site → CarriesAtRest events s
       → GoesOnAtRest (events ++ event ∷ []) s (play s event)
@@ -68,17 +99,27 @@ module _ (site : Site) (fit : IsFit site) (small : IsSmall site) (out : IsLaidOu
       let less : length events < 4294967296 = omega (arith, few, length-append events (event ∷ [])) in
       plays-on events s owed sent carried (carried-sent events less s owed sent fits carried)
       (carried-only events less s owed sent fits carried (subst HasCopiesApart (sym same) (laid-apart site out)))
-      (λ other. all other) event
+      (carried-whole events less s owed sent fits carried) (λ other. all other) event
     where
       all : (other : Event) → FitAll s.site (events ++ other ∷ [])
       all other = subst (λ one. FitAll one (events ++ other ∷ [])) (sym same)
-          (λ post played letter among. all-fit site fit small out (events ++ other ∷ []) post
-          (omega (arith, few, length-append events (event ∷ []), length-append events (other ∷ []))) played letter
-          among)
+          (all-go (events ++ other ∷ [])
+          (omega (arith, few, length-append events (event ∷ []), length-append events (other ∷ []))))
 
   pub played-carried : {events : List Event} {s : Packeted} → length events < 4294967296 → IsPlayed site events s
       → CarriesAtRest events s
-  played-carried few played_none = ([], [], record { played = posts.played_none; ties = begins site })
+  played-carried few played_none = (
+    [],
+    [],
+    record {
+      played = posts.played_none;
+      parcels = [];
+      posted = [];
+      stand = tt;
+      were = λ parcel among. absurd among;
+      ties = begins site;
+    },
+  )
   played-carried few (played_more {events = events} {s = s} event before e) =
       let less : length events < 4294967296 = omega (arith, few, length-append events (event ∷ [])) in
       subst (GoesOnAtRest (events ++ event ∷ []) s) e
@@ -102,8 +143,8 @@ module _ (site : Site) (fit : IsFit site) (small : IsSmall site) (out : IsLaidOu
           subst (λ one. posts.HasPlayed one events (record { world = s.world; owed = all.0; sent = all.1 })) same
               all.2.played,
           λ idle. subst (λ one. IsIdle one (record { world = s.world; owed = all.0; sent = all.1 })) same
-              (idle-post s all.0 all.1 (subst (λ (one : Site). one.processors ≤ 16) (sym same) out.few) all.2.ties
-              idle),
+              (idle-post s all.0 all.1 all.2.parcels all.2.posted
+              (subst (λ (one : Site). one.processors ≤ 16) (sym same) out.few) all.2.stand all.2.ties idle),
         )
 
     pub played-world : IsRun site events s.world
@@ -115,14 +156,14 @@ module _ (site : Site) (fit : IsFit site) (small : IsSmall site) (out : IsLaidOu
         × ((name : BusName) (k : ℕ) (p : Packet) (words : List ℤ) → packet_at s name k ≡ Some p
         → is_running s.world.stopped p.receiver ≡ true
         → completed p (end_at s.wires.nodes p.receiver p.sender) ≡ Some words
-        → WasPushed site s.world.stopped sent p.sender p.receiver words)
+        → WasSentInWords site s.world sent p.sender p.receiver words)
     played-comes =
         let all = played-carried few played in (
           all.0,
           all.1,
           subst (λ one. posts.HasPlayed one events (record { world = s.world; owed = all.0; sent = all.1 }))
               (played-site played) all.2.played,
-          λ name k p words at runs is. subst (λ one. WasPushed one s.world.stopped all.1 p.sender p.receiver words)
+          λ name k p words at runs is. subst (λ one. WasSentInWords one s.world all.1 p.sender p.receiver words)
               (played-site played)
-              (comes-right s all.0 all.1 all.2.ties name k p words at runs is),
+              (comes-right events s all.0 all.1 all.2 p name k words at runs is),
         )

@@ -1,4 +1,6 @@
 pub mod Carried
 pub mod Passing
 pub mod Pieces
+pub use Rattle.checkpoint_chains
 pub use Rattle.letters_layout
+pub use Rattle.packet_wires

@@ -7,8 +7,13 @@ ghost use Rattle.tal_tree.specs.declared.site.Site.{Site};
 ghost use Rattle.schedule.specs.declared.event.Event.{Event};
 ghost use Rattle.schedule.specs.declared.event.Event.TheVariants.{Deliver, Drive, Lose, Repeat, Tick};
 ghost use Rattle.schedule.specs.declared.event.DriveEvent.{DriveEvent};
+ghost use Rattle.change_layout.specs.Changing.{change_of};
+ghost use Rattle.checkpoint_image.specs.declared.message.ImageMessage.{ImageMessage};
+ghost use Rattle.computed_changes.specs.Laws.{IsSent};
+ghost use Rattle.checkpoint_chains.specs.Chains.{IsNewest, IsNextTo};
 ghost use Rattle.world_semantics.specs.Follows.{IsRun};
-ghost use Rattle.world_semantics.specs.World.{Down, is_running};
+ghost use Rattle.world_semantics.specs.Messages.{Checkpointing};
+ghost use Rattle.world_semantics.specs.World.{Down, World, is_running};
 ghost use Rattle.message_wires_laws.specs.takeover_laws.specs.Fit.{IsFit};
 ghost use Rattle.message_wires_laws.specs.awaited_requests.specs.Seats.{IsLaidOut};
 ghost use Rattle.letters.specs.Idle.{IsIdle, OneStops};
@@ -17,12 +22,14 @@ ghost use Rattle.letters.specs.Routes.{Letter};
 ghost use Rattle.machine_states.specs.States.{Makes};
 ghost use Rattle.letters_layout.specs.Fitting.{IsSmall};
 ghost use Rattle.channel_laws.specs.Net.{Net};
+ghost use Rattle.message_layout.specs.Messages.{Carrying, Changing};
 ghost use Rattle.packet_wires.specs.Idle.{is_idle};
 ghost use Rattle.packet_wires.specs.Nodes.{end_at};
+ghost use Rattle.packet_wires.specs.Parcels.{form_of};
 ghost use Rattle.packet_wires.specs.Play.{Packeted, completed, packet_at, packeted_at_boot, play};
 ghost use Rattle.packet_wires.specs.Runs.{IsPlayed};
 ghost use Rattle.packet_wires.specs.Wires.{bus_named};
-ghost use Rattle.packet_nets.specs.Owing.{WasPushed};
+ghost use Rattle.packets_laws.specs.Carried.{WasSentInWords};
 ghost use Rattle.packets_laws.specs.Passing.{IsNetOf, IsPassed, IsTickPassed};
 ghost use Rattle.packets_laws.specs.Pieces.{HandsOver};
 
@@ -40,8 +47,9 @@ pub fn what_is_played_follows()
 {}
 
 /// The message that is whole as a packet comes was pushed by the node that the packet names, to the node where it
-/// comes: the site understands it; if it carries one of the world, that is of a letter that the post of the state has
-/// sent between the two; and a processor that it declares down has stopped.
+/// comes: the site understands it. If it carries one of the world, that is of a letter that the post of the state has
+/// sent between the two; if it carries a checkpoint as what changed, such a letter carries that checkpoint whole, and
+/// the one before it was sent too. And a processor that it declares down has stopped.
 pub fn what_comes_was_sent()
     ensures { (site : Site) (events : List Event) (s : Packeted) → IsFit site → IsSmall site → IsLaidOut site
         → length events < 4294967296
@@ -50,7 +58,18 @@ pub fn what_comes_was_sent()
         × ((name : BusName) (k : ℕ) (p : Packet) (words : List ℤ) → packet_at s name k ≡ Some p
         → is_running s.world.stopped p.receiver ≡ true
         → completed p (end_at s.wires.nodes p.receiver p.sender) ≡ Some words
-        → WasPushed site s.world.stopped sent p.sender p.receiver words) }
+        → WasSentInWords site s.world sent p.sender p.receiver words) }
+{}
+
+/// A checkpoint that was sent last goes whole if it is the first of its era, which has the number 1. Any other goes as
+/// what changed since the one before it.
+pub fn later_checkpoints_go_as_what_changed()
+    ensures first { (site : Site) (events : List Event) (w : World) (message : ImageMessage) → IsRun site events w
+        → IsNewest w message → message.number ≡ 1
+        → form_of w (Checkpointing message) ≡ Carrying (Checkpointing message) }
+    ensures later { (site : Site) (events : List Event) (w : World) (message : ImageMessage) → IsRun site events w
+        → IsNewest w message → (message.number ≡ 1 → ⊥) → (before : ImageMessage) × IsSent w (Checkpointing before)
+        × IsNextTo before message × (form_of w (Checkpointing message) ≡ Changing (change_of before message)) }
 {}
 
 /// A delivery leaves the world as it was, or the packet was the last piece of a message, and its receiver runs. What is

@@ -10,9 +10,9 @@ use Rattle.idle_laws.specs.accepted_sites.proofs.Accepted.{accepted-fit}
 use Rattle.idle_laws.specs.accepted_sites.specs.Premises.{IsAcceptedSite}
 use Rattle.idle_laws.specs.idle_end.specs.Ends.{IsIdleEnd}
 use Rattle.idle_laws.proofs.Ended.{played-ends}
-use Rattle.packet_wires.specs.Idle.{is_idle}
-use Rattle.packet_wires.specs.Play.{Packeted}
-use Rattle.packet_wires.specs.Runs.{IsPlayed}
+use Rattle.packets_laws.specs.packet_wires.specs.Idle.{is_idle}
+use Rattle.packets_laws.specs.packet_wires.specs.Play.{Packeted}
+use Rattle.packets_laws.specs.packet_wires.specs.Runs.{IsPlayed}
 use Rattle.packets_laws.proofs.Going.{played-one}
 use Rattle.packets_laws.proofs.Runs.{played-post, played-world}
 use Rattle.packets_played.proofs.Small.{small-of}

@@ -12,9 +12,9 @@ ghost use Rattle.world_semantics.specs.World.{Pair, copy_of};
 ghost use Rattle.idle_laws.specs.awaited_requests.specs.Seats.{IsLaidOut};
 ghost use Rattle.idle_laws.specs.accepted_sites.specs.Premises.{IsAcceptedSite};
 ghost use Rattle.idle_laws.specs.idle_end.specs.Ends.{IsAsCopy};
-ghost use Rattle.packet_wires.specs.Idle.{is_idle};
-ghost use Rattle.packet_wires.specs.Play.{Packeted};
-ghost use Rattle.packet_wires.specs.Runs.{IsPlayed};
+ghost use Rattle.packets_laws.specs.packet_wires.specs.Idle.{is_idle};
+ghost use Rattle.packets_laws.specs.packet_wires.specs.Play.{Packeted};
+ghost use Rattle.packets_laws.specs.packet_wires.specs.Runs.{IsPlayed};
 
 /// Let each pair of a site run a program that was read and is accepted, and let the site keep the limits and have its
 /// processes laid out over its processors. Then the acts that any played events keep are possible on the machine of

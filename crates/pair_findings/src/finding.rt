@@ -1,4 +1,4 @@
-use advice::Advice;
+use advise::advice::Advice;
 use gd_words::List;
 use path_semantics::{Reason, RefusalFault};
 use statement_dues::{Deed, NamedCheckpoint};

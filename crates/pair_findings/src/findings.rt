@@ -4,15 +4,15 @@ ghost use Rattle.pair_findings.specs.Findings.{AreFindings, IsFinding, IsFinding
 
 use crate::finding::{Finding, PairFinding, Remedy};
 use crate::marks::since_checkpoint;
-use advice::AdviseRefusal;
+use advise::advice::AdviseRefusal;
 use advise::advise;
-use discipline::check;
 use gd_words::{List, NoMemory};
 use path_semantics::RefusalFault;
 use statement_dues::{Deed, checkpoints_of, deeds_of};
 use statement_lines::lines_of;
 use std::alloc::Global;
 use tal_tree::{Kind, ProcessSpec, Program};
+use verdicts::discipline::check;
 
 /// What is found of each process, in deck order.
 pub fn findings_of(alloc: Global, processes: &[ProcessSpec]) -> Result<List<Finding>, NoMemory>

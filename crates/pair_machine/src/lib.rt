@@ -17,3 +17,4 @@ mod turning;
 mod whole;
 
 pub use pairs::PairMachine;
+pub use world_copies;

@@ -7,3 +7,4 @@ pub mod Place
 pub mod Quiet
 pub mod Reached
 pub mod Told
+pub use Rattle.process_semantics

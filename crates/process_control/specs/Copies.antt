@@ -5,12 +5,14 @@ use Rattle.std.specs.Option.{option_map}
 use Rattle.std.specs.Prelude.{ℕ, ◌+◌, Bool, true, false, List, Option}
 use Rattle.tal_tree.specs.declared.site.OpenerSpec.{OpenerSpec}
 use Rattle.process_semantics.specs.Process.{ProcessState}
+use Rattle.change_layout.specs.declared.message.ChangeMessage.{ChangeMessage}
 use Rattle.checkpoint_image.specs.declared.message.ImageMessage.{ImageMessage}
 use Rattle.world_semantics.specs.declared.role.Role.{Role}
 use Rattle.world_semantics.specs.declared.role.Role.TheVariants.{Acting}
 use Rattle.world_semantics.specs.Core.{Core, after_passing}
 use Rattle.world_semantics.specs.Passes.{next_checkpoint}
 use Rattle.process_control.specs.Cores.{CoreAndDepths, core_at_start}
+use Rattle.computed_changes.specs.Changed.{core_as_changed}
 use Rattle.computed_changes.specs.Checkpoints.{core_as}
 
 -- a copy: its role, its era, the number of the last checkpoint sent or applied in that era, whether it has sent the
@@ -67,6 +69,16 @@ copy_applied message copy core = record copy { core = core; number = message.num
 abbrev pub copy_applying : ImageMessage → CopyState → Option CopyState
 copy_applying message copy =
     option_map (copy_applied message copy) (core_as copy.depths copy.era copy.number copy.core message copy.role)
+
+-- the copy with the core that it has by a checkpoint that came as what changed
+abbrev pub copy_changed : ChangeMessage → CopyState → Core → CopyState
+copy_changed change copy core = record copy { core = core; number = change.number }
+
+-- the copy after a checkpoint came to it as what changed; none where it is ignored
+abbrev pub copy_changing : ChangeMessage → CopyState → Option CopyState
+copy_changing change copy =
+    option_map (copy_changed change copy)
+    (core_as_changed copy.depths copy.era copy.number copy.core change copy.role)
 
 -- the copy after it took over: it acts in the next era, in which no checkpoint was sent yet
 abbrev pub copy_taking_over : CopyState → CopyState

@@ -1,3 +1,4 @@
+pub mod Changing
 pub mod Consistent
 pub mod Copies
 pub mod Cores

@@ -1,14 +1,16 @@
-ghost use Rattle.std.specs.Prelude.{◌≡◌, ◌<◌, ◌+◌, ◌^◌, true, is_some, IfOk, OnOk, OnErr};
+ghost use Rattle.std.specs.Prelude.{◌≡◌, ◌<◌, ◌+◌, ◌==◌, ◌&&◌, true, is_some, IfOk, OnOk, OnErr};
 ghost use Rattle.std.specs.Option.{option_map, unwrap_or};
 ghost use Rattle.gd_words.specs.Ranges.{HasNext};
 ghost use Rattle.process_semantics.specs.declared.point.Point.TheVariants.{AtCheckpoint};
 ghost use Rattle.process_semantics.specs.Process.{point};
 ghost use Rattle.world_semantics.specs.declared.role.Role.TheVariants.{Watching, Gone};
 ghost use Rattle.computed_changes.specs.Checkpoints.{core_where, is_next_for, is_of_last};
-ghost use Rattle.process_control.specs.Copies.{copy_applied, copy_applying, copy_checkpoint, copy_passing};
-ghost use Rattle.process_control.specs.Copies.{copy_sending, copy_taking_over};
+ghost use Rattle.process_control.specs.Changing.{changing_where};
+ghost use Rattle.process_control.specs.Copies.{copy_applied, copy_applying, copy_changed, copy_changing};
+ghost use Rattle.process_control.specs.Copies.{copy_checkpoint, copy_passing, copy_sending, copy_taking_over};
 
 use crate::control::CopyControl;
+use change_layout::ChangeMessage;
 use checkpoint_image::{Behaviour, ImageMessage, TakenMessage};
 use gd_words::NoMemory;
 use std::alloc::Global;
@@ -50,10 +52,49 @@ impl<B: Behaviour> CopyControl<B> {
         }
     }
 
+    /// Applies a checkpoint that came as what changed since the one before it, or ignores it: its own receive table
+    /// makes it whole. It answers whether it was applied. It takes no memory.
+    #[tactic(auto, using(crate::proofs::Roles::acting, crate::proofs::Roles::gone, crate::proofs::Roles::watching))]
+    pub fn change_in(&mut self, change: &ChangeMessage) -> bool
+        ensures told { result ≡ is_some (copy_changing change.now self.old) }
+        ensures copy { self.new ≡ unwrap_or (copy_changing change.now self.old) self.old }
+    {
+        match self.role {
+            Role::Watching => {
+                let is_next = self.is_next(change.era, change.number);
+                self.change_where(change, is_next)
+            }
+            Role::Acting | Role::Gone => false,
+        }
+    }
+
     fn is_next_for(&self, message: &ImageMessage) -> bool
         ensures { result ≡ is_next_for self.now.era self.now.number message.now }
     {
-        message.era == self.era && u64::from(message.number) == u64::from(self.number) + 1
+        self.is_next(message.era, message.number)
+    }
+
+    /// Whether a checkpoint of this era and number is the next one.
+    fn is_next(&self, era: u32, number: u32) -> bool
+        ensures { result ≡ (era == self.now.era && number == self.now.number + 1) }
+    {
+        era == self.era && u64::from(number) == u64::from(self.number) + 1
+    }
+
+    fn change_where(&mut self, change: &ChangeMessage, is_next: bool) -> bool
+        ensures told { result ≡ is_some (changing_where self.old.depths self.old.core change.now is_next) }
+        ensures copy { self.new
+            ≡ unwrap_or (option_map (copy_changed change.now self.old)
+            (changing_where self.old.depths self.old.core change.now is_next)) self.old }
+    {
+        if !is_next {
+            return false;
+        }
+        let applied = self.core.put_change(change);
+        if applied {
+            self.number = change.number;
+        }
+        applied
     }
 
     fn apply_where(&mut self, message: &ImageMessage, is_next: bool) -> bool

@@ -1,4 +1,4 @@
-ghost use Rattle.std.specs.Prelude.{◌≡◌, ◌<◌, ◌≤◌, ◌+◌, ◌^◌, All, false, is_some, length, Some, IfOk};
+ghost use Rattle.std.specs.Prelude.{◌≡◌, ◌<◌, ◌≤◌, ◌+◌, All, false, is_some, length, Some, IfOk};
 ghost use Rattle.std.specs.Option.{unwrap_or};
 ghost use Rattle.gd_words.specs.Ranges.{HasNext};
 ghost use Rattle.process_semantics.specs.declared.point.Point.TheVariants.{Inner, Take, Ask, Await, Answer};
@@ -12,11 +12,12 @@ ghost use Rattle.checkpoint_image.specs.declared.receive.RequestStanding.TheVari
 ghost use Rattle.sync_ids.specs.Tables.{IsDepth};
 ghost use Rattle.world_semantics.specs.Core.{after_passing, carried, core_acting, core_getting, core_going, next_on};
 ghost use Rattle.process_control.specs.Cores.{core_at_start, core_taking, asking_of, core_asking, answering_of};
-ghost use Rattle.process_control.specs.Cores.{core_answering};
+ghost use Rattle.process_control.specs.Cores.{core_answering, core_with_change};
 ghost use Rattle.computed_changes.specs.Fitting.{put_fitting};
 
 use crate::files::{are_files, next_on, numbers_of, put_files};
 use crate::told::{Answering, Asking};
+use change_layout::ChangeMessage;
 use checkpoint_image::{Behaviour, Image};
 use gd_words::{DeviceCall, NoMemory, Request, Sector, Words};
 use process_semantics::Point;
@@ -204,6 +205,31 @@ impl<B: Behaviour> CopyCore<B> {
         ensures { self.new ≡ record self.old { core = after_passing self.old.core } }
     {
         self.behaviour.marked();
+    }
+
+    /// Puts what a checkpoint carries that came as what changed in the place of its own, all of it or nothing, and says
+    /// whether it did.
+    #[tactic(auto, using(crate::proofs::Roles::fits_whole))]
+    pub fn put_change(&mut self, change: &ChangeMessage) -> bool
+        ensures told { result ≡ is_some (core_with_change self.old.depths self.old.core change.now) }
+        ensures core { self.new.core
+            ≡ unwrap_or (core_with_change self.old.depths self.old.core change.now) self.old.core }
+        ensures depths { self.new.depths ≡ self.old.depths }
+    {
+        let image = &change.image;
+        if !self.receive.fits_change(&image.receive) {
+            return false;
+        }
+        if !are_files(&self.asker, image.files.as_slice()) {
+            return false;
+        }
+        let in_hand = image.receive.in_hand.is_some();
+        if !self.behaviour.apply(image.body.as_slice(), in_hand) {
+            return false;
+        }
+        let _fits = self.receive.put_change(&image.receive);
+        put_files(&mut self.asker, image.files.as_slice());
+        true
     }
 
     /// Puts what a checkpoint carries in the place of its own, all of it or nothing, and says whether it did.

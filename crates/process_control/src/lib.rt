@@ -1,6 +1,6 @@
 //! One copy of a process: `CopyControl`, its role, era and numbers, the process that runs, its receive table and the
-//! numbers of its files. A copy acts, sends a checkpoint and passes it, or watches and applies what comes whole or not
-//! at all, and takes over.
+//! numbers of its files. A copy acts, sends a checkpoint and passes it, or watches and applies what comes, as it is or
+//! as what changed, whole or not at all, and takes over.
 //!
 //! Below stand `checkpoint_image` with `Behaviour` and checkpoints, `sync_ids` with `Receive` and `Asker`,
 //! `world_semantics` and `computed_changes` with the definitions of a core and of what fits it, and `whole_states` and

@@ -1,5 +1,5 @@
 use crate::scripts::ScriptStep::{
-    Answer, Ask, Checkpoint, Come, Learn, Pass, Repeat, Take, TakeOver,
+    Answer, Ask, Checkpoint, Come, ComeChanged, Learn, Pass, Repeat, Take, TakeOver,
 };
 use crate::scripts::Turn::{First, Second};
 use crate::scripts::{Copies, Turn, play};
@@ -24,15 +24,19 @@ const SECOND_WORDS: &[i16] = &[
     3, 1, 0, 0, 0, 2, 10, 1, 0, 9, 3, 0, 12, 1, 1, 4, 12, 1, 1, 0, 2, 2, 0, 1, 1, 1, 5, 0, 1, 0, 1,
 ];
 
+/// The second as what changed since the first: of the opener 0 the reply 5 was added, of the opener 1 a request taken.
+const SECOND_CHANGE: &[i16] = &[
+    7, 1, 0, 0, 0, 2, 10, 1, 0, 9, 3, 0, 12, 1, 1, 4, 12, 1, 1, 0, 2, 2, 1, 0, 1, 1, 5, 8, 0, 1, 1,
+];
+
 /// The first after the takeover, with the word 100 in hand, and the replies 5 and 12 kept.
 const THIRD_WORDS: &[i16] = &[
     3, 1, 0, 1, 0, 1, 10, 1, 0, 9, 3, 0, 112, 1, 1, 4, 112, 1, 1, 0, 3, 2, 0, 2, 1, 1, 5, 0, 1, 1,
     1, 12, 0,
 ];
 
-/// Two checkpoints are carried, the first copy goes on to its second question and stops, and the second copy goes on
-/// from the last checkpoint: it tells the reply that the first copy gave, and asks again under the same number.
-const TAKEOVER: &[Turn<'static>] = &[
+/// Two checkpoints are sent, and the first is carried.
+const BEFORE: &[Turn<'static>] = &[
     First(Take(0, 1, 5)),
     First(Checkpoint(FIRST_WORDS)),
     Second(Come(true)),
@@ -45,7 +49,22 @@ const TAKEOVER: &[Turn<'static>] = &[
     First(Repeat(0, 1, 5)),
     First(Take(1, 1, 7)),
     First(Checkpoint(SECOND_WORDS)),
-    Second(Come(true)),
+];
+
+/// The second is carried whole.
+const COMES_WHOLE: &[Turn<'static>] = &[Second(Come(true)), Second(Come(false))];
+
+/// The second is carried as what changed.
+const COMES_CHANGED: &[Turn<'static>] = &[
+    First(ComeChanged(SECOND_CHANGE, false)),
+    Second(ComeChanged(SECOND_CHANGE, true)),
+    Second(ComeChanged(SECOND_CHANGE, false)),
+    Second(Come(false)),
+];
+
+/// The first copy goes on to its second question and stops, and the second copy goes on from the last checkpoint: it
+/// tells the reply that the first copy gave, and asks again under the same number.
+const TAKEOVER: &[Turn<'static>] = &[
     First(Learn),
     First(Pass),
     First(Ask(2, 12)),
@@ -84,11 +103,26 @@ fn copies_start_at_the_start_of_their_process(rt: HostRuntime) -> Result<(), Fai
     Ok(())
 }
 
+/// Whether the second copy goes on from the last checkpoint, where that comes so.
+fn goes_on(alloc: Global, coming: &[Turn<'_>]) -> Result<bool, Fail> {
+    let mut copies = adders(alloc)?;
+    let before = play(alloc, &mut copies, BEFORE)?;
+    let came = play(alloc, &mut copies, coming)?;
+    let after = play(alloc, &mut copies, TAKEOVER)?;
+    Ok(before == BEFORE.len() && came == coming.len() && after == TAKEOVER.len())
+}
+
 #[test]
 fn a_copy_goes_on_from_the_last_checkpoint(rt: HostRuntime) -> Result<(), Fail> {
-    let mut copies = adders(rt.alloc())?;
-    let made = play(rt.alloc(), &mut copies, TAKEOVER)?;
-    assert_eq!(rt; made, TAKEOVER.len());
+    let goes_on = goes_on(rt.alloc(), COMES_WHOLE)?;
+    assert!(rt; goes_on);
+    Ok(())
+}
+
+#[test]
+fn a_copy_goes_on_from_what_changed(rt: HostRuntime) -> Result<(), Fail> {
+    let goes_on = goes_on(rt.alloc(), COMES_CHANGED)?;
+    assert!(rt; goes_on);
     Ok(())
 }
 

@@ -1,5 +1,6 @@
 use crate::steps::{answer, ask, learn, pass, repeat, send, take, take_over};
 use crate::worded::words_of;
+use change_layout::from_words;
 use checkpoint_image::{Behaviour, ImageMessage};
 use gd_words::NoMemory;
 use process_control::CopyControl;
@@ -14,6 +15,8 @@ pub enum ScriptStep<'a> {
     Checkpoint(&'a [i16]),
     /// What was sent last comes: it applies it, or ignores it.
     Come(bool),
+    /// A checkpoint comes as what changed, in these words: it applies it, or ignores it.
+    ComeChanged(&'a [i16], bool),
     /// Learns that what it sent last was taken.
     Learn,
     /// Goes on after its checkpoint.
@@ -74,6 +77,9 @@ fn play_step<B: Behaviour>(
             has_words(alloc, sent, words)
         }
         ScriptStep::Come(applies) => Ok(comes(copy, sent) == applies),
+        ScriptStep::ComeChanged(words, applies) => {
+            Ok(comes_changed(alloc, copy, words)? == Some(applies))
+        }
         ScriptStep::Learn => Ok(learn(copy)),
         ScriptStep::Pass => Ok(pass(copy)),
         ScriptStep::Ask(number, word) => Ok(ask(copy, number, word)),
@@ -99,5 +105,17 @@ fn comes<B: Behaviour>(copy: &mut CopyControl<B>, sent: &Option<ImageMessage>) -
     match sent {
         None => false,
         Some(message) => copy.checkpoint_in(message),
+    }
+}
+
+/// Whether a copy applies a checkpoint that comes as what changed, in these words; none where they are of no such one.
+fn comes_changed<B: Behaviour>(
+    alloc: Global,
+    copy: &mut CopyControl<B>,
+    words: &[i16],
+) -> Result<Option<bool>, NoMemory> {
+    match from_words(alloc, words)? {
+        None => Ok(None),
+        Some(change) => Ok(Some(copy.change_in(&change))),
     }
 }

@@ -2,6 +2,7 @@
 use Rattle.std.proofs.Common.{◌≡◌, true, [], ◌∷◌, Option, Some, None, is_some, refl, ap, subst, sym}
 use Rattle.std.specs.Option.{option_map}
 use Rattle.checkpoint_image.specs.declared.message.ImageMessage.{ImageMessage}
+use Rattle.checkpoint_image.specs.declared.message.TakenMessage.{TakenMessage}
 use Rattle.world_semantics.specs.declared.which.Which.{Which}
 use Rattle.world_semantics.specs.declared.which.Which.TheVariants.{First, Second}
 use Rattle.world_semantics.specs.Core.{Core}
@@ -22,10 +23,13 @@ abbrev put : Which → ImageMessage → Core → Placed → Placed
 put k message core old = placed_with k (copy_applying (copy_of k old.pair) message (Some core)) old
 
 -- what it is after the other copy was covered too, and the records
-abbrev covered_after : Which → ImageMessage → Records → Placed → Placed
-covered_after k message before mid = record mid { pair = pair_covering mid.number k message before.kept mid.pair }
+abbrev pub covered_by : Which → TakenMessage → Records → Placed → Placed
+covered_by k taken before mid = record mid { pair = pair_covering mid.number k taken before.kept mid.pair }
 
-abbrev kept_after : Which → Records → Placed → Records
+abbrev covered_after : Which → ImageMessage → Records → Placed → Placed
+covered_after k message before mid = covered_by k (taken_of message) before mid
+
+abbrev pub kept_after : Which → Records → Placed → Records
 kept_after k before mid = record before { kept = (other_covering k mid before.kept).kept }
 
 settles-put : (k : Which) (old : Placed) (message : ImageMessage) (before : Records) (core : Core) (step : StepOutcome)
@@ -75,3 +79,18 @@ settles-applied old mid new k message before after step some put told process re
     (covered_after k message before mid) a)
     (sym records)
     (settles-mid old mid k message before step (core_by k old message) refl some put told))
+
+-- the same, where this is said to be taken
+pub settles-taken : (old mid new : Placed) (k : Which) (message : ImageMessage) (taken : TakenMessage)
+    (before after : Records) (step : StepOutcome) → taken ≡ taken_of message
+    → is_some (core_by k old message) ≡ true
+    → mid ≡ placed_with k (copy_applying (copy_of k old.pair) message (core_by k old message)) old
+    → step_sendings step ≡ Some (sent_at (copy_of k mid.pair).processor (Taking taken ∷ []))
+    → new ≡ covered_by k taken before mid → after ≡ kept_after k before mid
+    → Settles (checkpoint_step old.site old.number k old.pair before message (copy_of k old.pair).role) old before step
+    new after
+settles-taken old mid new k message taken before after step is some put told process records =
+    settles-applied old mid new k message before after step some put
+    (subst (λ (t : TakenMessage). step_sendings step
+    ≡ Some (sent_at (copy_of k mid.pair).processor (Taking t ∷ []))) is told)
+    (subst (λ (t : TakenMessage). new ≡ covered_by k t before mid) is process) records

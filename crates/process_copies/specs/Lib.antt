@@ -8,3 +8,4 @@ pub use Rattle.machine_states
 pub use Rattle.node_copies.specs.message_wires
 pub use Rattle.node_copies
 pub use Rattle.node_copies.specs.number_ranges
+pub use Rattle.node_copies.specs.processes

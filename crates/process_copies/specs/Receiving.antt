@@ -2,7 +2,9 @@
 use Rattle.std.specs.Prelude.{◌≡◌, ℕ, ◌==◌, Bool, false, List, ◌∷◌, Option}
 use Rattle.gd_words.specs.declared.message.Reply.{Reply}
 use Rattle.process_semantics.specs.Process as process
+use Rattle.change_layout.specs.declared.message.ChangeMessage.{ChangeMessage}
 use Rattle.checkpoint_image.specs.declared.message.ImageMessage.{ImageMessage}
+use Rattle.checkpoint_image.specs.declared.message.TakenMessage.{TakenMessage}
 use Rattle.tal_tree.specs.declared.act.Act.{Act}
 use Rattle.tal_tree.specs.declared.site.Site.{Site}
 use Rattle.world_semantics.specs.declared.role.Role.{Role}
@@ -10,8 +12,8 @@ use Rattle.world_semantics.specs.declared.role.Role.TheVariants.{Acting, Watchin
 use Rattle.world_semantics.specs.declared.which.Which.{Which}
 use Rattle.world_semantics.specs.Core.{Core}
 use Rattle.world_semantics.specs.World.{Copy, Pair, copy_of, other_of, with_copy}
-use Rattle.world_semantics.specs.Passes.{taken_of}
 use Rattle.computed_changes.specs.Fitting.{depths_of}
+use Rattle.computed_changes.specs.Changed.{core_changing}
 use Rattle.computed_changes.specs.Checkpoints.{core_applying}
 use Rattle.computed_changes.specs.Replies.{awaits}
 use Rattle.world_semantics.specs.Shares.{Sharing, covered_count, share_after_cover, share_of, with_share}
@@ -42,18 +44,26 @@ is_awaiting site number copy reply = awaits site number copy.core reply (process
 abbrev pub core_by : Which → Placed → ImageMessage → Option Core
 core_by k old message = core_applying (depths_of old.site old.number) (copy_of k old.pair) message
 
+-- and after one came as what changed
+abbrev pub core_changed_by : Which → Placed → ChangeMessage → Option Core
+core_changed_by k old change = core_changing (depths_of old.site old.number) (copy_of k old.pair) change
+
+-- the message that a checkpoint was taken which came as what changed
+abbrev pub taken_by_change : ChangeMessage → TakenMessage
+taken_by_change change = record { process = change.process; era = change.era; number = change.number }
+
 -- the share of the other copy after its checkpoint was applied, and the kept acts
 abbrev pub other_covering : Which → Placed → List Act → Sharing
 other_covering k old kept = share_after_cover old.number kept (share_of (copy_of (other_of k) old.pair))
 
 -- the process after one of its copies applied a checkpoint, as far as the other copy and the process are concerned
-abbrev pub pair_covering : ℕ → Which → ImageMessage → List Act → Pair → Pair
-pair_covering number k message kept pair =
+abbrev pub pair_covering : ℕ → Which → TakenMessage → List Act → Pair → Pair
+pair_covering number k taken kept pair =
     with_copy (other_of k) (with_share (share_after_cover number kept (share_of (copy_of (other_of k) pair))).share
     (copy_of (other_of k) pair))
     (record pair {
       base = covered_count number kept (share_of (copy_of (other_of k) pair));
-      takens = taken_of message ∷ pair.takens;
+      takens = taken ∷ pair.takens;
     })
 
 -- Again

@@ -5,7 +5,7 @@ ghost use Rattle.process_semantics.specs.Process as process;
 ghost use Rattle.plain_semantics.specs.Openers.{opener_of};
 ghost use Rattle.computed_changes.specs.Fitting.{depths_of};
 ghost use Rattle.computed_changes.specs.Replies.{is_to};
-ghost use Rattle.sendings.specs.letters.specs.Again.{awaited_at, awaited_by};
+ghost use Rattle.node_copies.specs.sendings.specs.letters.specs.Again.{awaited_at, awaited_by};
 ghost use Rattle.node_copies.specs.message_wires.specs.Idle.{waits_as, waits_at_mark};
 ghost use Rattle.sync_ids.specs.Tables.{IsSound};
 ghost use Rattle.world_semantics.specs.Core.{next_on};

@@ -5,9 +5,11 @@ ghost use Rattle.node_copies.specs.Seen.{drives_on, sectors_on};
 ghost use Rattle.process_semantics.specs.Process.{point};
 ghost use Rattle.plain_semantics.specs.Openers.{openers_of};
 ghost use Rattle.world_semantics.specs.World.{copy_of};
-ghost use Rattle.sendings.specs.letters.specs.Routes.{other_end};
+ghost use Rattle.node_copies.specs.sendings.specs.letters.specs.Routes.{other_end};
+ghost use Rattle.computed_changes.specs.Changed.{one_before};
 ghost use Rattle.computed_changes.specs.Handed.{copy_in};
 
+use crate::sent::SentCheckpoints;
 use checkpoint_image::{ImageMessage, TakenMessage};
 use disc_device::mirror::DriveState;
 use disc_device::{Disc, Stored};
@@ -21,8 +23,8 @@ use tal_tree::{OpenerSpec, Site};
 use world_semantics::{Role, Which};
 
 /// A process in its place in a site: its two copies in their processors, how many kept acts the last checkpoint covers,
-/// and its device, if it is a disc. The checkpoints that its copies ever sent, and which of them were taken, are seen
-/// by contracts alone.
+/// the last two checkpoints that its copies sent, and its device, if it is a disc. All that they ever sent, and which
+/// of them were taken, are seen by contracts alone.
 #[derive(Drop)]
 pub struct ProcessCopies {
     pub(crate) site: Snapshot<Site>,
@@ -32,7 +34,7 @@ pub struct ProcessCopies {
     pub(crate) first: NodeCopy,
     pub(crate) second: NodeCopy,
     pub(crate) base: u64,
-    pub(crate) checkpoints: GhostLog<ImageMessage>,
+    pub(crate) checkpoints: SentCheckpoints,
     pub(crate) takens: GhostLog<TakenMessage>,
     pub(crate) device: Option<Disc>,
 }
@@ -130,6 +132,13 @@ impl ProcessCopies {
             None => DriveState::Failed,
             Some(disc) => disc.standing(drive),
         }
+    }
+
+    /// The checkpoint that was sent before the last one.
+    pub fn checkpoint_before(&self) -> Option<&ImageMessage>
+        ensures { option_copied result ≡ one_before self.now.pair.checkpoints }
+    {
+        self.checkpoints.one_before()
     }
 
     pub fn processor(&self, which: Which) -> u8

@@ -1,34 +1,36 @@
 ghost use Rattle.std.specs.Prelude.{◌≡◌, ◌<◌, ◌∷◌, [], true, is_some, length, map, IfOk, IsTrue, OnOk, Some};
 ghost use Rattle.process_semantics.specs.declared.point.Point.TheVariants.{Await};
 ghost use Rattle.process_semantics.specs.Process as process;
-ghost use Rattle.file_calls.specs.Queue.{sent_again};
+ghost use Rattle.node_copies.specs.file_calls.specs.Queue.{sent_again};
 ghost use Rattle.plain_semantics.specs.Openers.{openers_of};
 ghost use Rattle.checkpoint_image.specs.Receive.{repeated};
 ghost use Rattle.world_semantics.specs.Shares.{covered_count, share_of, with_share};
 ghost use Rattle.node_copies.specs.number_ranges.specs.HasRoom.{CopyHasRoom, PairHasRoom};
-ghost use Rattle.sendings.specs.Seen.{message_of};
+ghost use Rattle.node_copies.specs.sendings.specs.Seen.{message_of};
 ghost use Rattle.world_semantics.specs.World.{copy_of, other_of};
 ghost use Rattle.world_semantics.specs.Messages.{Replying, Taking, sent_at};
 ghost use Rattle.world_semantics.specs.Passes.{taken_of};
+ghost use Rattle.computed_changes.specs.Changed.{change_step, change_step_on};
 ghost use Rattle.computed_changes.specs.Checkpoints.{checkpoint_step, is_of_last, taken_step, taken_step_where};
 ghost use Rattle.computed_changes.specs.Handed.{step_by, step_on};
 ghost use Rattle.computed_changes.specs.Laws.{NamesOpener};
 ghost use Rattle.computed_changes.specs.Replies.{awaits, got_step, reply_step, reply_step_where};
 ghost use Rattle.computed_changes.specs.Requests.{after_early_request, after_request, repeated_at, request_step};
-ghost use Rattle.node_copies.specs.Receiving.{copy_applying};
+ghost use Rattle.node_copies.specs.Receiving.{copy_applying, copy_changing};
 ghost use Rattle.world_semantics.specs.Records as happened;
 ghost use Rattle.node_copies.specs.Seen.{step_sendings};
-ghost use Rattle.process_copies.specs.Receiving.{Settles, core_by, is_awaiting, other_covering, pair_covering};
-ghost use Rattle.process_copies.specs.Receiving.{placed_with};
+ghost use Rattle.process_copies.specs.Receiving.{Settles, core_by, core_changed_by, is_awaiting, other_covering};
+ghost use Rattle.process_copies.specs.Receiving.{pair_covering, placed_with, taken_by_change};
 ghost use Rattle.process_copies.specs.Seen.{placed_after, records_after, sent_by};
 
 use crate::copies::ProcessCopies;
+use change_layout::ChangeMessage;
 use checkpoint_image::{ImageMessage, TakenMessage};
-use file_calls::Arrival;
 use gd_words::{NoMemory, Reply, Request};
+use node_copies::file_calls::Arrival;
+use node_copies::sendings::{Message, Sending};
 use node_copies::{Records, StepOutcome};
 use process_semantics::Point;
-use sendings::{Message, Sending};
 use world_semantics::{Role, Which};
 
 impl ProcessCopies {
@@ -244,7 +246,7 @@ impl ProcessCopies {
         if !self.apply(which, message) {
             return Ok(StepOutcome::Impossible);
         }
-        let step = self.applied(which, message, records)?;
+        let step = self.applied(which, taken_of(message), records)?;
         Ok(step)
     }
 
@@ -265,14 +267,14 @@ impl ProcessCopies {
     fn applied(
         &mut self,
         which: Which,
-        message: &ImageMessage,
+        taken: TakenMessage,
         records: &mut Records,
     ) -> Result<StepOutcome, NoMemory>
         ensures told { IfOk result (λ step. step_sendings step
-            ≡ Some (sent_at (copy_of which self.old.pair).processor (Taking (taken_of message.now) ∷ []))) }
+            ≡ Some (sent_at (copy_of which self.old.pair).processor (Taking taken ∷ []))) }
         ensures process { OnOk result (self.new
             ≡ record self.old {
-              pair = pair_covering self.old.number which message.now records.old.kept
+              pair = pair_covering self.old.number which taken records.old.kept
                   self.old.pair;
             }) }
         ensures records { OnOk result (records.new
@@ -282,7 +284,6 @@ impl ProcessCopies {
     {
         let node = self.processor(which);
         let base = self.cover_other(which, records)?;
-        let taken = taken_of(message);
         self.takens.add(&taken)?;
         self.base = base;
         Ok(StepOutcome::Sends(Sending::new(node, Message::Taking(taken))))
@@ -306,6 +307,66 @@ impl ProcessCopies {
             Which::Second => self.first.cover(number, records)?,
         };
         Ok(base)
+    }
+
+    /// A checkpoint that is for this process comes to it at a node as what changed since the one before it.
+    pub fn change_in(
+        &mut self,
+        node: u8,
+        change: &ChangeMessage,
+        records: &mut Records,
+    ) -> Result<StepOutcome, NoMemory>
+        ensures told { IfOk result (λ step. step_sendings step
+            ≡ sent_by (change_step_on self.old.site self.old.number node self.old.pair records.old change.now)) }
+        ensures process { OnOk result (self.new
+            ≡ placed_after self.old (change_step_on self.old.site self.old.number node self.old.pair records.old
+            change.now)) }
+        ensures records { OnOk result (records.new
+            ≡ records_after records.old (change_step_on self.old.site self.old.number node self.old.pair records.old
+            change.now)) }
+        ensures site { self.new.site ≡ self.old.site }
+        ensures number { self.new.number ≡ self.old.number }
+    {
+        match self.copy_in(node) {
+            None => Ok(StepOutcome::Impossible),
+            Some(which) => {
+                let step = self.change_to(which, change, records)?;
+                Ok(step)
+            }
+        }
+    }
+
+    #[tactic(auto, using(crate::proofs::Changing::change_refused))]
+    fn change_to(
+        &mut self,
+        which: Which,
+        change: &ChangeMessage,
+        records: &mut Records,
+    ) -> Result<StepOutcome, NoMemory>
+        ensures step { IfOk result (λ step. Settles
+            (change_step self.old.site self.old.number self.old.pair records.old change.now which)
+            self.old records.old step self.new records.new) }
+        ensures site { self.new.site ≡ self.old.site }
+        ensures number { self.new.number ≡ self.old.number }
+    {
+        if !self.apply_change(which, change) {
+            return Ok(StepOutcome::Impossible);
+        }
+        let step = self.applied(which, taken_by_change(change), records)?;
+        Ok(step)
+    }
+
+    /// A copy applies a checkpoint that came as what changed, or ignores it.
+    fn apply_change(&mut self, which: Which, change: &ChangeMessage) -> bool
+        ensures told { result ≡ is_some (core_changed_by which self.old change.now) }
+        ensures process { self.new
+            ≡ placed_with which (copy_changing (copy_of which self.old.pair) change.now
+            (core_changed_by which self.old change.now)) self.old }
+    {
+        match which {
+            Which::First => self.first.apply_change(change),
+            Which::Second => self.second.apply_change(change),
+        }
     }
 
     fn taken_to(&mut self, which: Which, taken: TakenMessage) -> StepOutcome
@@ -363,6 +424,17 @@ fn repeating(node: u8, arrival: Arrival) -> StepOutcome
     match arrival {
         Arrival::Waits | Arrival::Dropped => StepOutcome::Quiet,
         Arrival::Again(reply) => StepOutcome::Sends(Sending::new(node, Message::Replying(reply))),
+    }
+}
+
+/// The message that a checkpoint was taken which came as what changed.
+fn taken_by_change(change: &ChangeMessage) -> TakenMessage
+    ensures { result ≡ taken_by_change change.now }
+{
+    TakenMessage {
+        process: change.process,
+        era: change.era,
+        number: change.number,
     }
 }
 

@@ -11,7 +11,7 @@ ghost use Rattle.world_semantics.specs.Shares.{let_go};
 use crate::copies::ProcessCopies;
 use gd_words::{List, NoMemory};
 use node_copies::Records;
-use sendings::Sending;
+use node_copies::sendings::Sending;
 use world_semantics::{Role, Which};
 
 impl ProcessCopies {

@@ -13,9 +13,9 @@ ghost use Rattle.world_semantics.specs.Running.{step_of, step_of_copy};
 use crate::copies::ProcessCopies;
 use gd_words::NoMemory;
 use logs::Shared;
+use node_copies::sendings::{Message, Sending};
 use node_copies::{Downs, Records, StepOutcome};
 use process_semantics::Point;
-use sendings::{Message, Sending};
 use std::alloc::Global;
 use world_semantics::{Role, Which};
 
@@ -274,8 +274,9 @@ impl ProcessCopies {
             Which::First => self.first.send(alloc, number)?,
             Which::Second => self.second.send(alloc, number)?,
         };
-        self.checkpoints.add(&message)?;
         let message = Shared::new(alloc, message)?;
+        let sent = message.share()?;
+        self.checkpoints.add(sent)?;
         Ok(StepOutcome::Sends(Sending::new(node, Message::Checkpointing(message))))
     }
 }

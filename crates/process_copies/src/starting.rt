@@ -12,6 +12,7 @@ ghost use Rattle.node_copies.specs.Seen.{drives_on, file_row, sectors_on};
 ghost use Rattle.process_copies.specs.Starting.{HasAddress, HasSectors, IsStartable, placed_at_boot};
 
 use crate::copies::ProcessCopies;
+use crate::sent::SentCheckpoints;
 use disc_device::Disc;
 use gd_words::{List, NoMemory};
 use ghost_logs::GhostLog;
@@ -69,7 +70,7 @@ fn start_in(
         first,
         second,
         base: 0,
-        checkpoints: GhostLog::new(alloc),
+        checkpoints: SentCheckpoints::new(alloc),
         takens: GhostLog::new(alloc),
         device,
     })

@@ -17,7 +17,7 @@ use Rattle.tal_tree.specs.declared.site.Site.{Site}
 use Rattle.process_semantics.specs.Disc as disc
 use Rattle.process_semantics.specs.Process as process
 use Rattle.process_semantics.specs.Process.{ProcessState, Runs, Serves}
-use Rattle.disc_device.specs.Sectors.{Stored, blank, is_of_write, is_written}
+use Rattle.world_semantics.specs.disc_device.specs.Sectors.{Stored, blank, is_of_write, is_written}
 use Rattle.world_semantics.specs.checkpoint_image.specs.Behaving.{last_write_of}
 use Rattle.world_semantics.specs.Core.{Core, Deed, Went, Checkpointed, Took, Asked, Got, Answered, Acted, goes, marks}
 use Rattle.world_semantics.specs.Core.{takes, asks, gets, answers, acts}

@@ -4,7 +4,7 @@ use Rattle.std.specs.List.{filter}
 use Rattle.gd_words.specs.declared.device.DeviceCall.{DeviceCall}
 use Rattle.gd_words.specs.declared.device.DeviceCall.TheVariants.{Write}
 use Rattle.tal_tree.specs.declared.site.Kind.{Kind}
-use Rattle.disc_device.specs.Sectors.{Stored, stored_after}
+use Rattle.world_semantics.specs.disc_device.specs.Sectors.{Stored, stored_after}
 use Rattle.world_semantics.specs.Core.{Deed, Acted}
 use Rattle.world_semantics.specs.World.{device_at_boot}
 use Rattle.world_semantics.specs.Own.{found_on}

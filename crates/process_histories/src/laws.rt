@@ -10,7 +10,7 @@ ghost use Rattle.process_semantics.specs.declared.point.Point.TheVariants.{Take}
 ghost use Rattle.process_semantics.specs.Process.{in_hand, point};
 ghost use Rattle.world_semantics.specs.plain_semantics.specs.Openers.{files_of, openers_of};
 ghost use Rattle.world_semantics.specs.whole_states.specs.Processes.{IsRegularKind, IsWholeProcess};
-ghost use Rattle.disc_device.specs.Sectors.{Stored, is_written};
+ghost use Rattle.world_semantics.specs.disc_device.specs.Sectors.{Stored, is_written};
 ghost use Rattle.world_semantics.specs.checkpoint_image.specs.Behaving.{last_write_of};
 ghost use Rattle.world_semantics.specs.checkpoint_image.specs.declared.receive.OpenerBlock.{OpenerBlock};
 ghost use Rattle.world_semantics.specs.checkpoint_image.specs.Receive.{holds, last_ones};

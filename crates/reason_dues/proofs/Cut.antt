@@ -2,7 +2,7 @@
 use Rattle.std.proofs.Common.{◌≡◌, ℕ, Bool, true, false, arith, List, refl, ap, sym, ◌∙◌}
 use Rattle.std.specs.Prelude.{min, if◌then◌else◌}
 use Rattle.tal_tree.specs.declared.statement.What.{out-What}
-use Rattle.process_semantics.specs.State.{Entry, Run, Test, Last}
+use Rattle.path_semantics.specs.process_semantics.specs.State.{Entry, Run, Test, Last}
 use Rattle.path_semantics.specs.declared.dues.Dues.{Dues}
 use Rattle.path_semantics.specs.declared.reason.Reason.{Reason}
 use Rattle.path_semantics.specs.declared.reason.Reason.TheVariants.{Data, SyncBlock, Input, Depth}

@@ -2,7 +2,7 @@
 use Rattle.std.specs.Prelude.{◌≡◌, ◌<◌, ℕ, ◌==◌, ◌||◌, Bool, false, if◌then◌else◌}
 use Rattle.std.specs.Int.{bit_at}
 use Rattle.tal_tree.specs.declared.statement.What.{out-What}
-use Rattle.process_semantics.specs.State.{Entry, Run, Test, Last}
+use Rattle.path_semantics.specs.process_semantics.specs.State.{Entry, Run, Test, Last}
 use Rattle.path_semantics.specs.declared.reason.Reason.{Reason}
 use Rattle.path_semantics.specs.declared.reason.Reason.TheVariants.{Data, SyncBlock, Input, Depth}
 use Rattle.path_semantics.specs.Dues.{changed_by}

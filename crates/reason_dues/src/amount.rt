@@ -2,13 +2,13 @@ ghost use Rattle.std.specs.Prelude.{◌≡◌, ◌≤◌, min, Some};
 ghost use Rattle.std.specs.Option.{option_copied};
 ghost use Rattle.gd_words.specs.Members.{is_among};
 ghost use Rattle.tal_tree.specs.declared.statement.What.{out-What};
-ghost use Rattle.process_semantics.specs.SeenEntries.{entry_of};
+ghost use Rattle.path_semantics.specs.process_semantics.specs.SeenEntries.{entry_of};
 ghost use Rattle.path_semantics.specs.Dues.{global_of_spot, global_of, changed_by, changed_by_return, target_of, reads};
 ghost use Rattle.reason_dues.specs.Amounts.{clears, adds, adds_changed, one_more, after_what, after_changed};
 ghost use Rattle.reason_dues.specs.Amounts.{after_entry, may_break_at, depth_in, most_of};
 
+use path_semantics::process_semantics::Entry;
 use path_semantics::{Reason, asks, may_break};
-use process_semantics::Entry;
 use tal_tree::{FileUse, Program, Spot, Variable, What};
 
 /// How much is due after an entry.

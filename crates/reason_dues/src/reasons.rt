@@ -2,7 +2,7 @@ ghost use Rattle.std.specs.Prelude.{◌≡◌, ◌<◌, ◌||◌, ◌&&◌, ℕ,
 ghost use Rattle.std.specs.Bool.{OnTrue};
 ghost use Rattle.gd_words.specs.Members.{is_among};
 ghost use Rattle.tal_tree.specs.declared.statement.What.{out-What};
-ghost use Rattle.process_semantics.specs.SeenEntries.{entry_of};
+ghost use Rattle.path_semantics.specs.process_semantics.specs.SeenEntries.{entry_of};
 ghost use Rattle.path_semantics.specs.Dues.{changed_by, asked_by, global_of_spot, global_of};
 ghost use Rattle.path_semantics.specs.declared.reason.Reason.{Reason};
 ghost use Rattle.path_semantics.specs.Break.{omits_item, omits_file, may_break};
@@ -12,8 +12,8 @@ ghost use Rattle.reason_dues.specs.Sets.{has_number, AreNumbers, AreReasons, IsN
 
 use crate::amount::reads;
 use crate::number_set::Numbers;
+use path_semantics::process_semantics::Entry;
 use path_semantics::{Reason, sends};
-use process_semantics::Entry;
 use tal_tree::{Spot, Variable, What};
 
 /// A set of reasons that speak of globals and files below 64: at a node those of which something may be due there.

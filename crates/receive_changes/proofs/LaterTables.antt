@@ -1,23 +1,24 @@
 -- What taking and answering left of each opener's block, and that the change to it gives it back.
-use Rattle.std.proofs.Common.{◌≡◌, ℕ, zero, suc, ◌+◌, ◌-◌, ◌<◌, ◌≤◌, ◌==◌, ◌&&◌, ℤ, Bool, true, false, if◌then◌else◌, List}
-use Rattle.std.proofs.Common.{[], ◌∷◌, ◌++◌, length, Option, Some, None, refl, ap, ap₂, sym, subst, ◌∙◌, arith, slice_get}
+use Rattle.std.proofs.Common.{◌≡◌, ℕ, suc, ◌+◌, ◌-◌, ◌<◌, ◌≤◌, ◌==◌, ℤ, Bool, true, false, if◌then◌else◌, List}
+use Rattle.std.proofs.Common.{[], ◌∷◌, ◌++◌, length, Option, Some, None, refl, ap, ap₂, sym, subst, ◌∙◌, arith}
+use Rattle.std.proofs.Common.{slice_get}
 use Rattle.std.proofs.Common.{slice_set, append-nil, append_assoc, length-append}
-use Rattle.std.specs.Prelude.{nat_le, nat_lt}
+use Rattle.std.specs.Prelude.{nat_le}
 use Rattle.std.specs.Cmp.Derive.{both_true}
 use Rattle.std.proofs.lemmas.Bool.{eqb-true, eqb-false, leb-true, le-leb, ltb-true}
 use Rattle.std.proofs.lemmas.List.{nil_from_length, set_at, length-set}
 use Rattle.std.proofs.Math.Seq.{append_snoc}
-use Rattle.checkpoint_image.specs.Receive.{after_answering, after_taking, answered, is_place, last_ones}
-use Rattle.checkpoint_image.specs.declared.receive.OpenerBlock.{OpenerBlock}
-use Rattle.checkpoint_image.specs.declared.receive.ReceiveBlock.{ReceiveBlock}
-use Rattle.sync_ids.specs.Tables.{IsSound, Remembered, are_of_depths, can_hold, fits, is_of_depth, is_unanswered}
+use Rattle.sync_ids.specs.checkpoint_image.specs.Receive.{after_answering, after_taking, answered, is_place, last_ones}
+use Rattle.sync_ids.specs.checkpoint_image.specs.declared.receive.OpenerBlock.{OpenerBlock}
+use Rattle.sync_ids.specs.checkpoint_image.specs.declared.receive.ReceiveBlock.{ReceiveBlock}
+use Rattle.sync_ids.specs.Tables.{Remembered, are_of_depths, can_hold, fits, is_unanswered}
 use Rattle.sync_ids.proofs.Tables.{and-left, and-right, depth-at, lengths}
-use Rattle.receive_changes.specs.Changes.{add_few, adds_few, change_at, change_between, changed, changes_from}
-use Rattle.receive_changes.specs.Changes.{fits_change, is_untouched, put_at, put_in, with_change, with_changes}
+use Rattle.sync_ids.specs.Changes.{add_few, adds_few, change_at, change_between, changed, changes_from}
+use Rattle.sync_ids.specs.Changes.{fits_change, is_untouched, put_at, put_in, with_changes}
 use Rattle.receive_changes.specs.Later.{ComesTo, Same, Taken, Answered}
-use Rattle.receive_changes.specs.declared.change.OpenerChange.{OpenerChange}
-use Rattle.receive_changes.proofs.Lists.{get-set_same, get-set_other, get-seam, last-few, last-length, last-shorter}
-use Rattle.receive_changes.proofs.Lists.{last-again, last-onto, last-added}
+use Rattle.sync_ids.specs.declared.change.OpenerChange.{OpenerChange}
+use Rattle.sync_ids.proofs.Lists.{get-set_same, get-set_other, get-seam, last_few, last-length, last-shorter}
+use Rattle.sync_ids.proofs.Lists.{last_again, last_onto, last-added}
 
 -- One opener
 
@@ -33,7 +34,7 @@ since-same : (depth : ℕ) (held : Bool) (block : OpenerBlock) → length block.
 since-same depth held block few some = record {
   added = [];
   count = omega arith;
-  kept = sym (ap (last_ones depth) (append-nil block.kept) ∙ last-few depth block.kept few);
+  kept = sym (ap (last_ones depth) (append-nil block.kept) ∙ last_few depth block.kept few);
   some = some;
 }
 
@@ -55,7 +56,7 @@ since-answered depth before old new words since = record {
       omega (arith, same, since.some refl, length-append since.added (words ∷ []))
       );
   kept = ap (λ (ks : List (List ℤ)). last_ones depth (ks ++ words ∷ [])) since.kept
-      ∙ last-again depth (old.kept ++ since.added) (words ∷ [])
+      ∙ last_again depth (old.kept ++ since.added) (words ∷ [])
       ∙ ap (last_ones depth) (append_assoc old.kept since.added (words ∷ []));
   some = λ held. absurd (cc);
 }
@@ -69,7 +70,7 @@ since-put depth place before now old new since =
     (ap (λ (n : ℕ). last_ones depth (old.kept ++ last_ones n new.kept)) count
     ∙ ap (λ (ks : List (List ℤ)). last_ones depth (old.kept ++ last_ones (length since.added) ks)) since.kept
     ∙ ap (λ (ks : List (List ℤ)). last_ones depth (old.kept ++ ks)) (last-added depth old.kept since.added)
-    ∙ last-onto depth old.kept since.added ∙ sym since.kept)
+    ∙ last_onto depth old.kept since.added ∙ sym since.kept)
 
 -- a block that wasn't touched is the same
 since-untouched : (depth : ℕ) (before now : Bool) (old new : OpenerBlock) → length old.kept ≤ depth
@@ -84,7 +85,7 @@ since-untouched depth before now old new few since is =
     let none : since.added ≡ [] = nil_from_length since.added (omega (arith, since.count, same)) in
     ap₂ (λ (n : ℕ) (ks : List (List ℤ)). record { taken = n; kept = ks }) taken
     (sym (since.kept ∙ ap (λ (ks : List (List ℤ)). last_ones depth (old.kept ++ ks)) none
-    ∙ ap (last_ones depth) (append-nil old.kept) ∙ last-few depth old.kept few))
+    ∙ ap (last_ones depth) (append-nil old.kept) ∙ last_few depth old.kept few))
 
 -- All openers
 
@@ -139,7 +140,8 @@ table-answered depths base table place block deep words since held at of_place =
   where
     each : (k depth : ℕ) (old new : OpenerBlock) → slice_get depths k ≡ Some depth
         → slice_get base.openers k ≡ Some old
-        → slice_get (slice_set table.openers place (record block { kept = last_ones deep (block.kept ++ words ∷ []) })) k
+        → slice_get (slice_set table.openers place
+        (record block { kept = last_ones deep (block.kept ++ words ∷ []) })) k
         ≡ Some new
         → (b : Bool) → (place == k) ≡ b → Since depth (is_place base.in_hand k) old false new
     each k depth old new of was is true eq =
@@ -182,13 +184,14 @@ some-taken openers (Some place) k old can was held =
     (sym (ap is_unanswered (ap (slice_get openers) same ∙ was)) ∙ can) in
     omega (arith, fewer)
 
-table-same : (earlier : Remembered) → IsSound earlier → TableSince earlier.depths earlier.table earlier.table
+table-same : (earlier : Remembered) → fits earlier earlier.table ≡ true
+    → TableSince earlier.depths earlier.table earlier.table
 table-same earlier sound =
     let openers = earlier.table.openers in
     let are : are_of_depths openers earlier.depths ≡ true =
-    and-left (are_of_depths openers earlier.depths) (can_hold openers earlier.table.in_hand) sound.table in
+    and-left (are_of_depths openers earlier.depths) (can_hold openers earlier.table.in_hand) sound in
     let can : can_hold openers earlier.table.in_hand ≡ true =
-    and-right (are_of_depths openers earlier.depths) (can_hold openers earlier.table.in_hand) sound.table in record {
+    and-right (are_of_depths openers earlier.depths) (can_hold openers earlier.table.in_hand) sound in record {
       count = refl;
       each = λ k depth old new of was is.
           let found : Some old ≡ Some new = sym was ∙ is in
@@ -200,7 +203,7 @@ table-same earlier sound =
           (some-taken openers earlier.table.in_hand k old can was));
     }
 
-comes-since : (earlier : Remembered) (later : ReceiveBlock) → IsSound earlier
+comes-since : (earlier : Remembered) (later : ReceiveBlock) → fits earlier earlier.table ≡ true
     → ComesTo earlier.depths earlier.table later → TableSince earlier.depths earlier.table later
 comes-since earlier later sound Same = table-same earlier sound
 comes-since earlier later sound (Taken table place block came none at) =
@@ -317,13 +320,13 @@ all-few before now place least over (depth ∷ depths) (old ∷ olds) (new ∷ n
 
 -- The law
 
-openers-apart : (earlier : Remembered) (later : ReceiveBlock) → IsSound earlier
+openers-apart : (earlier : Remembered) (later : ReceiveBlock) → fits earlier earlier.table ≡ true
     → TableSince earlier.depths earlier.table later
     → Apart earlier.table.in_hand later.in_hand 0 earlier.depths earlier.table.openers later.openers
 openers-apart earlier later sound since =
     let openers = earlier.table.openers in
     let are : are_of_depths openers earlier.depths ≡ true =
-    and-left (are_of_depths openers earlier.depths) (can_hold openers earlier.table.in_hand) sound.table in
+    and-left (are_of_depths openers earlier.depths) (can_hold openers earlier.table.in_hand) sound in
     λ k m depth old new is of was found. (
       subst (λ (n : ℕ). Since depth (is_place earlier.table.in_hand n) old (is_place later.in_hand n) new)
           (let same : k ≡ m = omega (arith, is) in same)
@@ -331,26 +334,26 @@ openers-apart earlier later sound since =
       few-kept earlier.depths openers k depth old are of was,
     )
 
-pub later-gives : (earlier : Remembered) (later : ReceiveBlock) → IsSound earlier
+pub later-gives : (earlier : Remembered) (later : ReceiveBlock) → fits earlier earlier.table ≡ true
     → ComesTo earlier.depths earlier.table later
     → changed earlier.depths earlier.table (change_between earlier.table later) ≡ later
 later-gives earlier later sound came =
     let openers = earlier.table.openers in
     let since = comes-since earlier later sound came in
     let are : are_of_depths openers earlier.depths ≡ true =
-    and-left (are_of_depths openers earlier.depths) (can_hold openers earlier.table.in_hand) sound.table in
+    and-left (are_of_depths openers earlier.depths) (can_hold openers earlier.table.in_hand) sound in
     ap (λ (bs : List OpenerBlock). record { openers = bs; in_hand = later.in_hand })
     (all-put earlier.table.in_hand later.in_hand 0 [] [] earlier.depths openers later.openers refl refl
     (lengths openers earlier.depths are) since.count (openers-apart earlier later sound since))
 
-pub later-fits : (earlier : Remembered) (later : ReceiveBlock) → IsSound earlier
+pub later-fits : (earlier : Remembered) (later : ReceiveBlock) → fits earlier earlier.table ≡ true
     → ComesTo earlier.depths earlier.table later → fits earlier later ≡ true
     → fits_change earlier (change_between earlier.table later) ≡ true
 later-fits earlier later sound came fitting =
     let openers = earlier.table.openers in
     let since = comes-since earlier later sound came in
     let are : are_of_depths openers earlier.depths ≡ true =
-    and-left (are_of_depths openers earlier.depths) (can_hold openers earlier.table.in_hand) sound.table in
+    and-left (are_of_depths openers earlier.depths) (can_hold openers earlier.table.in_hand) sound in
     both_true
     (all-few earlier.table.in_hand later.in_hand 0 0 [] earlier.depths openers later.openers (omega arith) refl
     (lengths openers earlier.depths are) since.count (openers-apart earlier later sound since))

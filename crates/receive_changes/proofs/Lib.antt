@@ -1,3 +1,1 @@
 pub mod LaterTables
-pub mod Lists
-pub mod Steps

@@ -1,8 +1,8 @@
 -- Which receive tables come of one by requests that are taken and answered.
 use Rattle.std.specs.Prelude.{◌≡◌, ℕ, ℤ, List, slice_get, Some, None}
-use Rattle.checkpoint_image.specs.Receive.{after_answering, after_taking}
-use Rattle.checkpoint_image.specs.declared.receive.OpenerBlock.{OpenerBlock}
-use Rattle.checkpoint_image.specs.declared.receive.ReceiveBlock.{ReceiveBlock}
+use Rattle.sync_ids.specs.checkpoint_image.specs.Receive.{after_answering, after_taking}
+use Rattle.sync_ids.specs.checkpoint_image.specs.declared.receive.OpenerBlock.{OpenerBlock}
+use Rattle.sync_ids.specs.checkpoint_image.specs.declared.receive.ReceiveBlock.{ReceiveBlock}
 
 -- the tables that come of a table of openers of these depths: itself; that after a request was taken while none was in
 -- hand; and that after the request in hand was answered

@@ -1,2 +1,4 @@
-pub mod Changes
 pub mod Later
+pub use Rattle.sync_ids.specs.checkpoint_image
+pub use Rattle.sync_ids.specs.process_semantics
+pub use Rattle.sync_ids

@@ -1,16 +1,11 @@
-//! What changed in a receive table since an earlier moment, so that a checkpoint need not carry the whole table.
+//! Why what changed from a receive table to a later one, put into the first, gives the second. No code runs here.
 //!
-//! Below stand `checkpoint_image` with receive tables and what taking and answering change in them, and `sync_ids` with
-//! `Receive` that holds one. The layer above uses that `change_since` and `put_change` do what `specs/Changes.antt`
-//! says, and the law in `laws`: the change to a later table, put into the earlier one, gives the later one.
+//! Below stands `sync_ids` with changes and the tables into which they are put (`specs/Changes.antt`). The layer above
+//! uses `a_change_gives_the_later_table` for tables that came of one by taking and answering (`specs/Later.antt`).
 #![tactic(auto)]
 
-pub mod change;
 pub mod laws;
-pub mod put;
-pub mod since;
 
-pub use change::{OpenerChange, ReceiveChange};
 pub use laws::a_change_gives_the_later_table;
-pub use put::{fits_change, put_change};
-pub use since::change_since;
+pub use sync_ids;
+pub use sync_ids::{checkpoint_image, gd_words};

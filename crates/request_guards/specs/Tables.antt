@@ -4,6 +4,7 @@ use Rattle.gd_words.specs.declared.message.Request.{Request}
 use Rattle.checkpoint_image.specs.declared.receive.OpenerBlock.{OpenerBlock}
 use Rattle.checkpoint_image.specs.declared.receive.ReceiveBlock.{ReceiveBlock}
 use Rattle.sync_ids.specs.Tables.{Remembered}
+use Rattle.sync_ids.specs.declared.change.OpenerChange.{OpenerChange}
 
 -- a reply of one word
 abbrev pub reply : ℕ → List ℤ
@@ -16,6 +17,10 @@ shallow = record { taken = 5; kept = reply 5 ∷ [] }
 -- an opener of depth 4: seven of its requests were taken, and the replies to the last four are kept
 abbrev pub deep : OpenerBlock
 deep = record { taken = 7; kept = reply 4 ∷ reply 5 ∷ reply 6 ∷ reply 7 ∷ [] }
+
+-- the same opener after two more were taken and answered
+abbrev pub deeper : OpenerBlock
+deeper = record { taken = 9; kept = reply 6 ∷ reply 7 ∷ reply 8 ∷ reply 9 ∷ [] }
 
 -- an opener of which nothing was taken
 abbrev pub fresh : OpenerBlock
@@ -40,3 +45,7 @@ remembered = record { table = table; depths = 1 ∷ 4 ∷ 1 ∷ [] }
 -- a request of this number of the opener at a place
 abbrev pub request : ℕ → ℕ → Request
 request opener number = record { process = 3; opener = opener; number = number; words = pos 9 ∷ [] }
+
+-- what changed of the opener at a place: so many are taken now, and these replies were added
+abbrev pub since : ℕ → ℕ → List (List ℤ) → OpenerChange
+since opener taken added = record { opener = opener; taken = taken; added = added }

@@ -4,3 +4,4 @@ pub mod Plans
 pub mod Playing
 pub mod Rules
 pub mod Seen
+pub use Rattle.machine_states

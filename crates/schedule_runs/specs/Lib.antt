@@ -3,3 +3,4 @@ pub mod Lengths
 pub mod Rules
 pub mod Runs
 pub use Rattle.pair_machine
+pub use Rattle.pair_machine.specs.world_copies

@@ -13,5 +13,6 @@ pub mod ran;
 mod running;
 
 pub use laws::events_of_a_schedule_are_played;
+pub use pair_machine::world_copies;
 pub use ran::{Ending, Ran};
 pub use running::run;

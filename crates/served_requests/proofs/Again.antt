@@ -27,7 +27,7 @@ use Rattle.world_semantics.specs.World.{Copy, Pair, Terminal, World, terminal_no
 use Rattle.world_semantics.proofs.Lists.{some-same}
 use Rattle.letters.specs.Again.{is_rerouted, is_moved, rerouted, numbered, kept_for, kept_from, asks_again, tells_again}
 use Rattle.letters.specs.Again.{of_copies, of_terminals, terminals_ask, awaited_from, sent_again}
-use Rattle.awaited_requests.specs.Served.{reply_of, request_of}
+use Rattle.letter_laws.specs.awaited_requests.specs.Served.{reply_of, request_of}
 use Rattle.served_requests.proofs.Queues.{filter-in}
 use Rattle.served_requests.proofs.Sending.{map-in, sent-in}
 use Rattle.served_requests.proofs.Standings.{IsKept, kept-test}

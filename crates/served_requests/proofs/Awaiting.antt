@@ -27,10 +27,10 @@ use Rattle.world_semantics.proofs.Lists.{some-same, Changed, is_new, is_same, ch
 use Rattle.world_semantics.proofs.Reached.{one-acts}
 use Rattle.process_histories.proofs.Steady.{calm-away, got-calm}
 use Rattle.plain_histories.proofs.Openers.{opener-one}
-use Rattle.takeover_laws.specs.Fit.{IsFit}
-use Rattle.takeover_laws.proofs.Kept.{IsGood}
-use Rattle.awaited_requests.specs.Awaited.{IsAwaited, by_copy, by_terminal}
-use Rattle.awaited_requests.specs.Served.{request_of}
+use Rattle.letter_laws.specs.takeover_laws.specs.Fit.{IsFit}
+use Rattle.letter_laws.specs.takeover_laws.proofs.Kept.{IsGood}
+use Rattle.letter_laws.specs.awaited_requests.specs.Awaited.{IsAwaited, by_copy, by_terminal}
+use Rattle.letter_laws.specs.awaited_requests.specs.Served.{request_of}
 use Rattle.letter_laws.specs.Known.{WatchersAreCalm}
 use Rattle.letter_laws.proofs.Calm.{not-both}
 use Rattle.served_requests.proofs.Turned.{change-turned}

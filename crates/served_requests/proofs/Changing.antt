@@ -13,15 +13,16 @@ use Rattle.world_semantics.specs.Rules.{Change}
 use Rattle.world_semantics.specs.World.{Copy, Pair, World, copy_of}
 use Rattle.world_semantics.proofs.Growing.{change-grows}
 use Rattle.world_semantics.proofs.Lists.{some-same}
-use Rattle.takeover_laws.specs.Fit.{IsFit}
-use Rattle.takeover_laws.specs.Invariant.{IsAsked}
-use Rattle.takeover_laws.proofs.Kept.{IsGood}
+use Rattle.letter_laws.specs.takeover_laws.specs.Fit.{IsFit}
+use Rattle.letter_laws.specs.takeover_laws.specs.Invariant.{IsAsked}
+use Rattle.letter_laws.specs.takeover_laws.proofs.Kept.{IsGood}
 use Rattle.computed_changes.specs.Laws.{IsSent}
 use Rattle.letters.specs.Posts.{Post, after_change}
 use Rattle.letters.specs.Routes.{Letter, route_of, home_of, letters_of}
-use Rattle.awaited_requests.specs.Awaited.{IsAwaited}
-use Rattle.awaited_requests.specs.Seats.{AreSeated}
-use Rattle.awaited_requests.specs.Served.{reply_of, request_of, IsServed, route_stopped, is_owed, is_seen, AreServed}
+use Rattle.letter_laws.specs.awaited_requests.specs.Awaited.{IsAwaited}
+use Rattle.letter_laws.specs.awaited_requests.specs.Seats.{AreSeated}
+use Rattle.letter_laws.specs.awaited_requests.specs.Served.{reply_of, request_of, IsServed, route_stopped, is_owed}
+use Rattle.letter_laws.specs.awaited_requests.specs.Served.{is_seen, AreServed}
 use Rattle.letter_laws.specs.Known.{IsKnown}
 use Rattle.letter_laws.proofs.Known.{WasSentTo}
 use Rattle.served_requests.proofs.Awaiting.{WasAwaited, was_awaited, is_asked, awaited-before, come-none}

@@ -21,12 +21,12 @@ use Rattle.world_semantics.specs.Passes.{Passes, by_send, by_pass_again, by_pass
 use Rattle.world_semantics.specs.Rules.{Change, by_own, by_checkpoint, by_request, by_early_request, by_enter, by_print}
 use Rattle.world_semantics.specs.Rules.{by_stop, by_mark}
 use Rattle.world_semantics.proofs.Lists.{set-there}
-use Rattle.takeover_laws.specs.Fit.{IsFit}
-use Rattle.takeover_laws.proofs.Kept.{IsGood}
+use Rattle.letter_laws.specs.takeover_laws.specs.Fit.{IsFit}
+use Rattle.letter_laws.specs.takeover_laws.proofs.Kept.{IsGood}
 use Rattle.letters.specs.Posts.{Post}
 use Rattle.letters.specs.Routes.{Letter}
-use Rattle.awaited_requests.specs.Awaited.{IsAwaited}
-use Rattle.awaited_requests.specs.Served.{request_of, reply_of, HasSeen}
+use Rattle.letter_laws.specs.awaited_requests.specs.Awaited.{IsAwaited}
+use Rattle.letter_laws.specs.awaited_requests.specs.Served.{request_of, reply_of, HasSeen}
 use Rattle.letter_laws.specs.Known.{IsEarly}
 use Rattle.letter_laws.proofs.Calm.{not-both}
 use Rattle.served_requests.proofs.Numbers.{asked-low, early-low}

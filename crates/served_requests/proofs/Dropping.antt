@@ -18,13 +18,14 @@ use Rattle.world_semantics.specs.Rules.{by_own, by_request, by_early_request, by
 use Rattle.world_semantics.specs.World.{Pair, World, is_running, copy_of}
 use Rattle.world_semantics.proofs.Reached.{gone-is}
 use Rattle.world_semantics.proofs.Running.{enters-as}
-use Rattle.takeover_laws.proofs.Kept.{IsGood}
+use Rattle.letter_laws.specs.takeover_laws.proofs.Kept.{IsGood}
 use Rattle.computed_changes.specs.Laws.{IsSent}
 use Rattle.letters.specs.Posts.{IsTaken, takes_first, takes_later}
 use Rattle.letters.specs.Routes.{Letter, route_of}
 use Rattle.letters.proofs.Owed.{taken-there}
-use Rattle.awaited_requests.specs.Awaited.{IsAwaited, by_copy, by_terminal}
-use Rattle.awaited_requests.specs.Served.{reply_of, request_of, IsServed, route_stopped, is_owed, is_seen, AreServed}
+use Rattle.letter_laws.specs.awaited_requests.specs.Awaited.{IsAwaited, by_copy, by_terminal}
+use Rattle.letter_laws.specs.awaited_requests.specs.Served.{reply_of, request_of, IsServed, route_stopped, is_owed}
+use Rattle.letter_laws.specs.awaited_requests.specs.Served.{is_seen, AreServed}
 use Rattle.letter_laws.specs.Known.{IsHonest}
 use Rattle.served_requests.proofs.Routes.{route-where, rests-stopped}
 

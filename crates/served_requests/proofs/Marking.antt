@@ -20,15 +20,16 @@ use Rattle.world_semantics.specs.Rules.{by_stop, by_mark}
 use Rattle.world_semantics.specs.World.{Pair, World, has_noted, copy_of}
 use Rattle.world_semantics.proofs.Roles.{both-true}
 use Rattle.plain_histories.proofs.Openers.{opener-is}
-use Rattle.takeover_laws.specs.Fit.{IsFit}
-use Rattle.takeover_laws.proofs.Changing.{acts_by, causes-one, passes-one}
-use Rattle.takeover_laws.proofs.Kept.{IsGood}
+use Rattle.letter_laws.specs.takeover_laws.specs.Fit.{IsFit}
+use Rattle.letter_laws.specs.takeover_laws.proofs.Changing.{acts_by, causes-one, passes-one}
+use Rattle.letter_laws.specs.takeover_laws.proofs.Kept.{IsGood}
 use Rattle.letters.specs.Again.{is_rerouted, is_moved, sent_again}
 use Rattle.letters.specs.Posts.{Post, without_those_between, post_after_down}
 use Rattle.letters.specs.Routes.{Letter, home_of, is_between, letters_of, receiver_of, route_of}
-use Rattle.awaited_requests.specs.Awaited.{IsAwaited, by_copy, by_terminal}
-use Rattle.awaited_requests.specs.Seats.{IsLaidOut, AreSeated}
-use Rattle.awaited_requests.specs.Served.{reply_of, request_of, IsServed, route_stopped, is_owed, is_seen, AreServed}
+use Rattle.letter_laws.specs.awaited_requests.specs.Awaited.{IsAwaited, by_copy, by_terminal}
+use Rattle.letter_laws.specs.awaited_requests.specs.Seats.{IsLaidOut, AreSeated}
+use Rattle.letter_laws.specs.awaited_requests.specs.Served.{reply_of, request_of, IsServed, route_stopped, is_owed}
+use Rattle.letter_laws.specs.awaited_requests.specs.Served.{is_seen, AreServed}
 use Rattle.letter_laws.specs.Known.{IsKnown}
 use Rattle.served_requests.proofs.Again.{reply-again, copy-again, terminal-again}
 use Rattle.served_requests.proofs.Awaiting.{WasAwaited, was_awaited, is_asked, awaited-before}

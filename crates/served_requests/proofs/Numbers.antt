@@ -26,15 +26,15 @@ use Rattle.plain_histories.specs.Ledgers.{requests_of}
 use Rattle.plain_histories.proofs.Entries.{entry-most}
 use Rattle.plain_histories.proofs.Openers.{opener-one}
 use Rattle.plain_histories.proofs.Possible.{booked-ran}
-use Rattle.takeover_laws.specs.Fit.{IsFit}
-use Rattle.takeover_laws.specs.Invariant.{IsAsked}
-use Rattle.takeover_laws.proofs.Kept.{IsGood}
-use Rattle.awaited_requests.specs.Awaited.{IsAwaited, by_copy, by_terminal}
+use Rattle.letter_laws.specs.takeover_laws.specs.Fit.{IsFit}
+use Rattle.letter_laws.specs.takeover_laws.specs.Invariant.{IsAsked}
+use Rattle.letter_laws.specs.takeover_laws.proofs.Kept.{IsGood}
+use Rattle.letter_laws.specs.awaited_requests.specs.Awaited.{IsAwaited, by_copy, by_terminal}
 use Rattle.letter_laws.specs.Known.{IsEarly}
 use Rattle.letter_laws.proofs.Awaited.{acting-done}
 use Rattle.served_requests.proofs.Standings.{stands-low}
-use Rattle.awaited_requests.proofs.Awaited.{slot-counts, awaited-stands}
-use Rattle.awaited_requests.proofs.Leads.{copy-takes}
+use Rattle.letter_laws.specs.awaited_requests.proofs.Awaited.{slot-counts, awaited-stands}
+use Rattle.letter_laws.specs.awaited_requests.proofs.Leads.{copy-takes}
 
 module _ (site : Site) (fit : IsFit site) (events : ℕ) (w : World) (good : IsGood site events w) where
   -- of the copies of a process one acts at most

@@ -6,18 +6,18 @@ use Rattle.schedule.specs.declared.event.Event.{Event}
 use Rattle.world_semantics.specs.Messages.{Message, Sending, Cause, Handing, Stopping, NotingDown}
 use Rattle.world_semantics.specs.Rules.{Change}
 use Rattle.world_semantics.specs.World.{World, boot}
-use Rattle.takeover_laws.specs.Fit.{IsFit}
-use Rattle.takeover_laws.proofs.Kept.{IsGood, change-good}
+use Rattle.letter_laws.specs.takeover_laws.specs.Fit.{IsFit}
+use Rattle.letter_laws.specs.takeover_laws.proofs.Kept.{IsGood, change-good}
 use Rattle.letters.specs.Idle.{OneStops}
 use Rattle.letters.specs.Posts.{Post, post_at_boot, after_change, post_after_down, NotesLetters, no_mark, one_mark}
 use Rattle.letters.specs.Posts.{PlaysEvent, plays_run, plays_no_run, plays_enter, plays_no_enter, plays_nothing}
 use Rattle.letters.specs.Posts.{plays_hand, plays_drop, plays_again, plays_mark, plays_loss, plays_repeat, plays_drive}
 use Rattle.letters.specs.Posts.{plays_no_tick, plays_tick, plays_tick_stop, plays_fail, plays_no_fail}
 use Rattle.letters.proofs.Owed.{taken-there}
-use Rattle.awaited_requests.specs.Awaited.{IsAwaited, by_copy, by_terminal}
-use Rattle.awaited_requests.specs.Seats.{IsLaidOut, AreSeated}
-use Rattle.awaited_requests.specs.Served.{AreServed}
-use Rattle.awaited_requests.proofs.Seats.{seats-change}
+use Rattle.letter_laws.specs.awaited_requests.specs.Awaited.{IsAwaited, by_copy, by_terminal}
+use Rattle.letter_laws.specs.awaited_requests.specs.Seats.{IsLaidOut, AreSeated}
+use Rattle.letter_laws.specs.awaited_requests.specs.Served.{AreServed}
+use Rattle.letter_laws.specs.awaited_requests.proofs.Seats.{seats-change}
 use Rattle.letter_laws.specs.Known.{IsKnown}
 use Rattle.letter_laws.proofs.Calm.{begins-resting}
 use Rattle.letter_laws.proofs.Entered.{begins-even}

@@ -12,7 +12,7 @@ use Rattle.checkpoint_image.specs.Receive.{is_same_opener, is_outdone, waits, is
 use Rattle.checkpoint_image.specs.Receive.{is_next, chosen_after, chosen_by, chosen}
 use Rattle.world_semantics.proofs.Lists.{some-same}
 use Rattle.world_semantics.proofs.Roles.{both-true}
-use Rattle.takeover_laws.proofs.Checkpoints.{either}
+use Rattle.letter_laws.specs.takeover_laws.proofs.Checkpoints.{either}
 
 -- an item that passes a test is among those that do
 pub filter-in : {A : Type 0} (test : A → Bool) (x : A) (xs : List A) → test x ≡ true → IsAmong x xs

@@ -12,7 +12,7 @@ use Rattle.world_semantics.specs.Rules.{Change, by_own, by_checkpoint, by_reques
 use Rattle.world_semantics.specs.Rules.{by_stop, by_mark}
 use Rattle.world_semantics.specs.World.{Pair, Down, World, is_running, has_noted, copy_of}
 use Rattle.letters.specs.Routes.{route_of, route_to, home_of}
-use Rattle.awaited_requests.specs.Seats.{IsSeated}
+use Rattle.letter_laws.specs.awaited_requests.specs.Seats.{IsSeated}
 
 -- two forms of a process, in the same two processors
 abbrev pub SameSeats : Pair → Pair → Type 0

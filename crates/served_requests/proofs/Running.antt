@@ -7,9 +7,9 @@ use Rattle.world_semantics.specs.declared.role.Role.TheVariants.{Acting}
 use Rattle.world_semantics.specs.declared.which.Which.{Which}
 use Rattle.world_semantics.specs.World.{Pair, World, copy_of}
 use Rattle.world_semantics.proofs.Reached.{gone-is}
-use Rattle.takeover_laws.proofs.Kept.{IsGood}
-use Rattle.awaited_requests.specs.Awaited.{IsAwaited, by_copy, by_terminal}
-use Rattle.awaited_requests.specs.Seats.{IsLaidOut, AreSeated}
+use Rattle.letter_laws.specs.takeover_laws.proofs.Kept.{IsGood}
+use Rattle.letter_laws.specs.awaited_requests.specs.Awaited.{IsAwaited, by_copy, by_terminal}
+use Rattle.letter_laws.specs.awaited_requests.specs.Seats.{IsLaidOut, AreSeated}
 
 module _ (site : Site) (events : ℕ) (w : World) (good : IsGood site events w) where
   -- the processor of a copy that acts hasn't stopped

@@ -15,7 +15,7 @@ use Rattle.world_semantics.specs.declared.role.Role.TheVariants.{Acting, Watchin
 use Rattle.world_semantics.specs.Messages.{Asking, Replying, Sending, Cause, Handing}
 use Rattle.world_semantics.specs.World.{Copy}
 use Rattle.letters.specs.Posts.{Post}
-use Rattle.awaited_requests.specs.Served.{WaitsFor, reply_of, HasSeen}
+use Rattle.letter_laws.specs.awaited_requests.specs.Served.{WaitsFor, reply_of, HasSeen}
 use Rattle.letter_laws.proofs.Calm.{not-both}
 use Rattle.served_requests.proofs.Queues.{filter-in, waits-still, came-still, chosen-leaves}
 use Rattle.served_requests.proofs.Sending.{IsTold}

@@ -14,7 +14,7 @@ use Rattle.world_semantics.proofs.Lists.{some-same}
 use Rattle.plain_histories.proofs.Openers.{opener-is}
 use Rattle.letters.specs.Posts.{Post}
 use Rattle.letters.specs.Routes.{home_of, receiver_of, letter_of, letters_of}
-use Rattle.awaited_requests.specs.Served.{reply_of}
+use Rattle.letter_laws.specs.awaited_requests.specs.Served.{reply_of}
 
 pub map-in : {A B : Type 0} (f : A → B) (x : A) (xs : List A) → IsAmong x xs → IsAmong (f x) (map f xs)
 map-in f x [] among = among

@@ -18,8 +18,8 @@ use Rattle.world_semantics.specs.Rules.{pair_at_down, pair_after_down}
 use Rattle.world_semantics.proofs.Becoming.{entered-same, was-role}
 use Rattle.world_semantics.proofs.Lists.{Changed, is_new, is_same, changed, mapped}
 use Rattle.world_semantics.proofs.Roles.{taker-is}
-use Rattle.takeover_laws.specs.Fit.{IsFit}
-use Rattle.takeover_laws.proofs.Kept.{IsGood}
+use Rattle.letter_laws.specs.takeover_laws.specs.Fit.{IsFit}
+use Rattle.letter_laws.specs.takeover_laws.proofs.Kept.{IsGood}
 use Rattle.letter_laws.specs.Known.{WatchersAreCalm}
 use Rattle.served_requests.proofs.Sending.{map-in, sent-in}
 use Rattle.served_requests.proofs.Turns.{IsQuiet, is_quiet, has_heard, has_heard_early, has_taken_over, Goes, like}

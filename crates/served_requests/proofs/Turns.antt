@@ -30,9 +30,9 @@ use Rattle.world_semantics.proofs.Lists.{some-same}
 use Rattle.process_histories.proofs.Counts.{take-free}
 use Rattle.process_histories.proofs.Steady.{IsSteady, IsCalm, done-steady, calm-away, inner-calm, took-calm, asked-same}
 use Rattle.process_histories.proofs.Steady.{got-calm, answered-calm, marked-calm, device-calm}
-use Rattle.takeover_laws.specs.Fit.{IsFit}
-use Rattle.takeover_laws.proofs.Kept.{IsGood}
-use Rattle.awaited_requests.specs.Served.{request_of}
+use Rattle.letter_laws.specs.takeover_laws.specs.Fit.{IsFit}
+use Rattle.letter_laws.specs.takeover_laws.proofs.Kept.{IsGood}
+use Rattle.letter_laws.specs.awaited_requests.specs.Served.{request_of}
 use Rattle.letter_laws.specs.Known.{WatchersAreCalm}
 use Rattle.letter_laws.proofs.Awaited.{acting-done, asked-next}
 use Rattle.letter_laws.proofs.Calm.{not-both}

@@ -1,2 +1,2 @@
-pub use Rattle.awaited_requests
+pub use Rattle.letter_laws.specs.awaited_requests
 pub use Rattle.letter_laws

@@ -3,11 +3,11 @@ ghost use Rattle.std.specs.Prelude.{◌<◌, ℕ, List, length};
 ghost use Rattle.tal_tree.specs.declared.site.Site.{Site};
 ghost use Rattle.schedule.specs.declared.event.Event.{Event};
 ghost use Rattle.world_semantics.specs.Follows.{IsRun};
-ghost use Rattle.takeover_laws.specs.Fit.{IsFit};
+ghost use Rattle.letter_laws.specs.takeover_laws.specs.Fit.{IsFit};
 ghost use Rattle.letters.specs.Idle.{OneStops};
 ghost use Rattle.letters.specs.Posts.{Post, PlaysEvent, post_at_boot};
-ghost use Rattle.awaited_requests.specs.Seats.{IsLaidOut};
-ghost use Rattle.awaited_requests.specs.Served.{AreServed};
+ghost use Rattle.letter_laws.specs.awaited_requests.specs.Seats.{IsLaidOut};
+ghost use Rattle.letter_laws.specs.awaited_requests.specs.Served.{AreServed};
 ghost use Rattle.letter_laws.specs.Known.{IsKnown};
 
 /// Nothing is awaited at the beginning; and where awaited requests are served and a machine of letters plays an event,

@@ -15,9 +15,9 @@ use Rattle.machine_states.specs.declared.effect.Effect.TheVariants as effect
 use Rattle.packet_wires.specs.Nodes.{end_at}
 use Rattle.packet_wires.specs.Play.{Packeted, begun, completed, deliver_acted, ended, handed_words, over, received}
 use Rattle.packet_wires.specs.Wires.{Wires, arrived, nothing_sent, without_packet}
-use Rattle.event_parts.specs.Numbers.{CanPush}
-use Rattle.event_parts.specs.Parts.{carried_out, completed_by, delivered}
-use Rattle.event_parts.proofs.Numbers.{can-arrived}
+use Rattle.node.specs.event_parts.specs.Numbers.{CanPush}
+use Rattle.node.specs.event_parts.specs.Parts.{carried_out, completed_by, delivered}
+use Rattle.node.specs.event_parts.proofs.Numbers.{can-arrived}
 use Rattle.site_machine.specs.Needs.{CanHand, HaveNumbersLeft, IsReady}
 use Rattle.site_machine.specs.Told.{after_part}
 use Rattle.site_machine.proofs.Turns.{handed-in-turn}

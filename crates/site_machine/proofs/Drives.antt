@@ -5,7 +5,7 @@ use Rattle.machine_states.specs.States.{Settles, played_turn}
 use Rattle.machine_states.specs.declared.effect.Effect.{Effect}
 use Rattle.packet_wires.specs.Play.{Packeted, begun, ended}
 use Rattle.packet_wires.specs.Wires.{Wires}
-use Rattle.world_copies.specs.SiteWorld.{SettlesTurn, SiteWorld}
+use Rattle.open_links.specs.world_copies.specs.SiteWorld.{SettlesTurn, SiteWorld}
 
 -- a machine over this world, with these wires
 abbrev pub over_wires : Wires → SiteWorld → Packeted

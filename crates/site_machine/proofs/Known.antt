@@ -8,10 +8,10 @@ use Rattle.tal_tree.specs.declared.site.OpenerSpec.{OpenerSpec}
 use Rattle.tal_tree.specs.declared.site.Site.{Site}
 use Rattle.plain_semantics.specs.Openers.{openers_of}
 use Rattle.world_semantics.specs.Messages.{Message, Asking}
-use Rattle.message_layout.specs.Messages.{NodeMessage, Carrying, has_process, is_known}
-use Rattle.message_layout.specs.Reading.{node_message_in}
-use Rattle.message_layout.proofs.Exact.{read-written}
-use Rattle.world_copies.specs.Room.{NamesItsOpener}
+use Rattle.packet_wires.specs.message_layout.specs.Messages.{NodeMessage, Carrying, has_process, is_known}
+use Rattle.packet_wires.specs.message_layout.specs.Reading.{node_message_in}
+use Rattle.packet_wires.specs.message_layout.proofs.Exact.{read-written}
+use Rattle.open_links.specs.world_copies.specs.Room.{NamesItsOpener}
 use Rattle.site_machine.specs.Needs.{IsReadWithin}
 
 pub found_there : (openers : List OpenerSpec) (place : ℕ)

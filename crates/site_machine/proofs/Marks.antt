@@ -6,11 +6,12 @@ use Rattle.world_semantics.specs.Running.{Done}
 use Rattle.computed_changes.specs.Stopped.{down_done, world_at_down}
 use Rattle.letters.specs.Again.{sent_again}
 use Rattle.letters.specs.Routes.{letters_of}
+use Rattle.packet_wires.specs.Parcels.{parcels_of}
 use Rattle.packet_wires.specs.Play.{Packeted, after_marked, begun, marked_by, marks, over}
 use Rattle.packet_wires.specs.Wires.{Wires, all_posted, cut_off}
-use Rattle.event_parts.specs.Parts.{carried_out}
-use Rattle.event_parts.proofs.Adds.{adds-all-posted}
-use Rattle.event_parts.proofs.Turns.{carried-then}
+use Rattle.node.specs.event_parts.specs.Parts.{carried_out}
+use Rattle.node.specs.event_parts.proofs.Adds.{adds-all-posted}
+use Rattle.node.specs.event_parts.proofs.Turns.{carried-then}
 use Rattle.site_machine.specs.Needs.{AreWithin, MarksWithin}
 use Rattle.site_machine.specs.Told.{after_part, sent_all}
 
@@ -24,10 +25,10 @@ marked-steps s marked cut after node processor sendings done marks tells cuts po
     ∙ ap₂ sent_all tells
     (cuts ∙ ap (λ (one : Packeted). record one { wires = carried_out (cut_off node processor) one.wires }) marks)
     ∙ ap (λ (wires : Wires). record s { world = done.world; wires = wires })
-    (carried-then (cut_off node processor) (all_posted done.world.stopped (letters_of s.site done.world
-    (done.sendings ++ sent_again s.site s.world done.world node processor))) s.wires
-    (adds-all-posted done.world.stopped (letters_of s.site done.world
-    (done.sendings ++ sent_again s.site s.world done.world node processor))))
+    (carried-then (cut_off node processor) (all_posted done.world.stopped (parcels_of done.world
+    (letters_of s.site done.world (done.sendings ++ sent_again s.site s.world done.world node processor)))) s.wires
+    (adds-all-posted done.world.stopped (parcels_of done.world
+    (letters_of s.site done.world (done.sendings ++ sent_again s.site s.world done.world node processor)))))
 
 -- where nothing is to be marked
 pub mark-none : (node processor : ℕ) (s : Packeted) → down_done node processor s.world ≡ None
@@ -44,7 +45,7 @@ mark-some node processor s done some =
 pub marks-within : (node processor : ℕ) (t s : Packeted) → t ≡ s → (test : Bool)
     → down_done node processor t.world ≡ (if test then Some (world_at_down node processor t.world) else None)
     → test ≡ true → MarksWithin s.site s.world
-    → AreWithin ((world_at_down node processor s.world).sendings
+    → AreWithin (world_at_down node processor s.world).world ((world_at_down node processor s.world).sendings
     ++ sent_again s.site s.world (world_at_down node processor s.world).world node processor)
 marks-within node processor t s same test tells is within =
     within node processor (world_at_down node processor s.world)

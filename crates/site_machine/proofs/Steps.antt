@@ -1,19 +1,20 @@
 -- A change of the world that was made, and what it sends posted: the machine's state is what the change makes of it.
-use Rattle.std.proofs.Common.{◌≡◌, [], ◌∷◌, List, Option, Some, None, refl, ap, sym, subst, ◌∙◌}
+use Rattle.std.proofs.Common.{◌≡◌, [], ◌∷◌, List, Option, Some, None, refl, ap, sym, subst, subst₂, ◌∙◌}
 use Rattle.std.specs.List.{cons_option}
 use Rattle.world_semantics.specs.Messages.{Sending}
-use Rattle.world_semantics.specs.Running.{Done}
+use Rattle.world_semantics.specs.Running.{Done, world_after}
 use Rattle.machine_states.specs.States.{Settles}
 use Rattle.machine_states.specs.declared.effect.Effect.{Effect}
 use Rattle.letters.specs.Routes.{Letter, letter_of, letters_of}
+use Rattle.packet_wires.specs.Parcels.{parcel_of, parcels_of}
 use Rattle.packet_wires.specs.Play.{Packeted, after_any, begun, ended, made_by}
 use Rattle.packet_wires.specs.Wires.{Wires, all_posted, nothing_sent, posted}
-use Rattle.event_parts.specs.Numbers.{CanPush}
-use Rattle.event_parts.specs.Parts.{carried_out}
-use Rattle.event_parts.proofs.Adds.{adds-all-posted}
-use Rattle.event_parts.proofs.Numbers.{can-all-posted}
-use Rattle.event_parts.proofs.Turns.{carried-then}
-use Rattle.world_copies.specs.Told.{sent_in}
+use Rattle.node.specs.event_parts.specs.Numbers.{CanPush}
+use Rattle.node.specs.event_parts.specs.Parts.{carried_out}
+use Rattle.node.specs.event_parts.proofs.Adds.{adds-all-posted}
+use Rattle.node.specs.event_parts.proofs.Numbers.{can-all-posted}
+use Rattle.node.specs.event_parts.proofs.Turns.{carried-then}
+use Rattle.open_links.specs.world_copies.specs.Told.{sent_in}
 use Rattle.site_machine.specs.Needs.{AreWithin, AreWithinIfAny}
 use Rattle.site_machine.specs.Told.{Answers, after_part, sent_all, unsent}
 
@@ -31,12 +32,14 @@ answered s mid after answer done same sends answers =
     settled s mid after answer done same (subst (λ told. Answers told mid answer after) sends answers)
 
 -- what a change tells keeps to the layout, where all that it sends does
-pub told-within : (told : Option (List Sending)) (done : Option Done) → told ≡ sent_in done
-    → ((made : Done) → done ≡ Some made → AreWithin made.sendings) → AreWithinIfAny told
-told-within told done sends within = subst AreWithinIfAny (sym sends) (by done within)
+pub told-within : (s mid : Packeted) (told : Option (List Sending)) (done : Option Done) → mid ≡ unsent s done
+    → told ≡ sent_in done
+    → ((made : Done) → done ≡ Some made → AreWithin made.world made.sendings) → AreWithinIfAny mid.world told
+told-within s mid told done same sends within =
+    subst₂ AreWithinIfAny (sym (ap (λ (one : Packeted). one.world) same)) (sym sends) (by done within)
   where
-    by : (one : Option Done) → ((made : Done) → one ≡ Some made → AreWithin made.sendings)
-        → AreWithinIfAny (sent_in one)
+    by : (one : Option Done) → ((made : Done) → one ≡ Some made → AreWithin made.world made.sendings)
+        → AreWithinIfAny (world_after s.world one) (sent_in one)
     by None all = tt
     by (Some made) all = all made refl
 
@@ -47,25 +50,27 @@ sent-then sending rest s = by (letter_of s.site s.world sending)
   where
     by : (one : Option Letter)
         → record s {
-          wires = carried_out (all_posted s.world.stopped (letters_of s.site s.world rest))
-              (carried_out (all_posted s.world.stopped (cons_option one [])) s.wires);
+          wires = carried_out (all_posted s.world.stopped (parcels_of s.world (letters_of s.site s.world rest)))
+              (carried_out (all_posted s.world.stopped (parcels_of s.world (cons_option one []))) s.wires);
         }
         ≡ record s {
           wires = carried_out
-              (all_posted s.world.stopped (cons_option one (letters_of s.site s.world rest))) s.wires;
+              (all_posted s.world.stopped (parcels_of s.world (cons_option one (letters_of s.site s.world rest))))
+              s.wires;
         }
     by None = refl
     by (Some letter) =
         ap (λ (wires : Wires). record s { wires = wires })
-        (carried-then (posted s.world.stopped letter)
-        (all_posted s.world.stopped (letters_of s.site s.world rest)) s.wires
-        (adds-all-posted s.world.stopped (letters_of s.site s.world rest)))
+        (carried-then (posted s.world.stopped (parcel_of s.world letter))
+        (all_posted s.world.stopped (parcels_of s.world (letters_of s.site s.world rest))) s.wires
+        (adds-all-posted s.world.stopped (parcels_of s.world (letters_of s.site s.world rest))))
 
 -- what is pushed goes on to find a number
 pub can-sent : (sendings : List Sending) (s : Packeted) → CanPush s.wires.nodes
     → CanPush (sent_all sendings s).wires.nodes
 can-sent sendings s can =
-    can-all-posted s.world.stopped (letters_of s.site s.world sendings) (nothing_sent s.wires.nodes) can
+    can-all-posted s.world.stopped (parcels_of s.world (letters_of s.site s.world sendings))
+    (nothing_sent s.wires.nodes) can
 
 -- the same of a change that may be none
 any : (s mid after : Packeted) (answer : Effect) (done : Option Done) → mid ≡ unsent s done

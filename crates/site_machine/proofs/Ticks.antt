@@ -12,15 +12,15 @@ use Rattle.machine_states.specs.States.{Makes, Settles, Skips, Would, SecondStop
 use Rattle.machine_states.specs.declared.effect.Effect.{Effect}
 use Rattle.machine_states.specs.declared.effect.Effect.TheVariants as effect
 use Rattle.packet_wires.specs.message_wires.specs.Play.{has_stopped}
-use Rattle.world_copies.specs.number_ranges.specs.HasRoom.{CopyHasRoom}
+use Rattle.open_links.specs.world_copies.specs.number_ranges.specs.HasRoom.{CopyHasRoom}
 use Rattle.packet_wires.specs.Lines.{line_pulled}
 use Rattle.packet_wires.specs.Play.{Packeted, ended, line_of, marks_and_declares, over, pulled, pulls}
 use Rattle.packet_wires.specs.Play.{pulls_its}
 use Rattle.packet_wires.specs.Wires.{nothing_sent, ticked}
-use Rattle.event_parts.specs.Numbers.{CanPush}
-use Rattle.event_parts.specs.Parts.{carried_out}
-use Rattle.event_parts.proofs.Numbers.{can-ticked}
-use Rattle.world_copies.specs.Room.{AllWatchersHaveRoom, WatchersHaveRoom}
+use Rattle.node.specs.event_parts.specs.Numbers.{CanPush}
+use Rattle.node.specs.event_parts.specs.Parts.{carried_out}
+use Rattle.node.specs.event_parts.proofs.Numbers.{can-ticked}
+use Rattle.open_links.specs.world_copies.specs.Room.{AllWatchersHaveRoom, WatchersHaveRoom}
 use Rattle.site_machine.specs.Needs.{IsReady}
 use Rattle.site_machine.specs.Told.{after_part, in_tick}
 use Rattle.site_machine.proofs.Turns.{declared-in-turn}

@@ -5,20 +5,23 @@ use Rattle.alive_regroup.specs.Watching as watching
 use Rattle.alive_regroup.specs.Watching.{changed_at}
 use Rattle.world_semantics.specs.World.{World}
 use Rattle.world_semantics.specs.Running.{Done}
+use Rattle.computed_changes.specs.Changed.{change_done}
 use Rattle.computed_changes.specs.Handed.{handed_done}
 use Rattle.computed_changes.specs.Stopped.{down_done}
 use Rattle.letters.specs.Again.{sent_again}
 use Rattle.letters.specs.Routes.{letters_of}
-use Rattle.message_layout.specs.Messages.{NodeMessage, Carrying, Reporting, Declaring}
-use Rattle.message_layout.specs.Reading.{understood}
+use Rattle.packet_wires.specs.message_layout.specs.Messages.{NodeMessage, Carrying, Changing, Reporting, Declaring}
+use Rattle.packet_wires.specs.message_layout.specs.Reading.{understood}
+use Rattle.packet_wires.specs.Parcels.{parcels_of}
 use Rattle.packet_wires.specs.Play.{Packeted, Underway, after_any, begun, handed, handed_any, handed_words, marked_by}
 use Rattle.packet_wires.specs.Play.{declared, marks, marks_and_declares, over}
 use Rattle.packet_wires.specs.Wires.{Midst, Wires, all_posted, cut_off, declares, learns, nothing_sent}
-use Rattle.event_parts.specs.Parts.{OnlyAdds, carried_out}
-use Rattle.event_parts.proofs.Adds.{adds-all-posted, adds-cut-off, adds-declares, adds-learns, adds-nothing, adds-then}
-use Rattle.event_parts.proofs.Numbers.{can-all-posted, can-cut-off}
-use Rattle.event_parts.specs.Numbers.{CanPush}
-use Rattle.event_parts.proofs.Turns.{carried-then}
+use Rattle.node.specs.event_parts.specs.Parts.{OnlyAdds, carried_out}
+use Rattle.node.specs.event_parts.proofs.Adds.{adds-all-posted, adds-cut-off, adds-declares, adds-learns, adds-nothing}
+use Rattle.node.specs.event_parts.proofs.Adds.{adds-then}
+use Rattle.node.specs.event_parts.proofs.Numbers.{can-all-posted, can-cut-off}
+use Rattle.node.specs.event_parts.specs.Numbers.{CanPush}
+use Rattle.node.specs.event_parts.proofs.Turns.{carried-then}
 use Rattle.site_machine.specs.Told.{after_part}
 use Rattle.machine_states.specs.disc_device.specs.mirror.specs.declared.state.DriveState.{DriveState}
 
@@ -35,8 +38,8 @@ module _ (site : Site) (w : World) (drives : List (List DriveState)) (node : ℕ
   any-part None = record { world = w; part = λ midst. midst; adds = adds-nothing; same = λ midst. refl }
   any-part (Some done) = record {
     world = done.world;
-    part = all_posted done.world.stopped (letters_of site done.world done.sendings);
-    adds = adds-all-posted done.world.stopped (letters_of site done.world done.sendings);
+    part = all_posted done.world.stopped (parcels_of done.world (letters_of site done.world done.sendings));
+    adds = adds-all-posted done.world.stopped (parcels_of done.world (letters_of site done.world done.sendings));
     same = λ midst. refl;
   }
 
@@ -44,18 +47,23 @@ module _ (site : Site) (w : World) (drives : List (List DriveState)) (node : ℕ
   mark-part processor None = record { world = w; part = λ midst. midst; adds = adds-nothing; same = λ midst. refl }
   mark-part processor (Some done) =
       let posts : Midst → Midst = all_posted done.world.stopped
-      (letters_of site done.world (done.sendings ++ sent_again site w done.world node processor)) in record {
+      (parcels_of done.world (letters_of site done.world
+      (done.sendings ++ sent_again site w done.world node processor))) in record {
         world = done.world;
         part = λ midst. posts (cut_off node processor midst);
         adds = adds-then (cut_off node processor) posts (adds-cut-off node processor)
             (adds-all-posted done.world.stopped
-            (letters_of site done.world (done.sendings ++ sent_again site w done.world node processor)));
+            (parcels_of done.world (letters_of site done.world
+            (done.sendings ++ sent_again site w done.world node processor))));
         same = λ midst. refl;
       }
 
   handed-part : (message : NodeMessage) → IsPart (handed node message) site w drives
   handed-part (Carrying message) =
       let one = any-part (handed_done site node message w) in
+      record { world = one.world; part = one.part; adds = one.adds; same = one.same }
+  handed-part (Changing change) =
+      let one = any-part (change_done site node change w) in
       record { world = one.world; part = one.part; adds = one.adds; same = one.same }
   handed-part (Reporting from silent) = record {
     world = w;
@@ -132,7 +140,7 @@ can-marks node processor s can = by (down_done node processor s.world)
     by : (done : Option Done) → CanPush (over s.wires (marked_by node processor (begun s) done)).wires.nodes
     by None = can
     by (Some done) =
-        can-all-posted done.world.stopped (letters_of s.site done.world
-        (done.sendings ++ sent_again s.site s.world done.world node processor))
+        can-all-posted done.world.stopped (parcels_of done.world (letters_of s.site done.world
+        (done.sendings ++ sent_again s.site s.world done.world node processor)))
         (cut_off node processor (nothing_sent s.wires.nodes))
         (can-cut-off node processor (nothing_sent s.wires.nodes) can)

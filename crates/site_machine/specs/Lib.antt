@@ -1,7 +1,8 @@
 pub mod Needs
 pub mod Seen
 pub mod Told
-pub use Rattle.world_copies.specs.node_copies
+pub use Rattle.open_links.specs.world_copies.specs.node_copies
 pub use Rattle.packet_wires
-pub use Rattle.world_copies.specs.process_copies
-pub use Rattle.world_copies
+pub use Rattle.open_links.specs.world_copies.specs.process_copies
+pub use Rattle.open_links.specs.world_copies
+pub use Rattle.open_links.specs.processes

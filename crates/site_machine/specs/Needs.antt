@@ -5,37 +5,47 @@ use Rattle.tal_tree.specs.declared.site.Site.{Site}
 use Rattle.world_semantics.specs.World.{World}
 use Rattle.world_semantics.specs.Messages.{Message, Sending}
 use Rattle.world_semantics.specs.Running.{Done, run_done}
+use Rattle.change_layout.specs.declared.message.ChangeMessage.{ChangeMessage}
+use Rattle.computed_changes.specs.Changed.{change_done}
 use Rattle.computed_changes.specs.Entered.{enter_done}
 use Rattle.computed_changes.specs.Handed.{handed_done}
 use Rattle.computed_changes.specs.Stopped.{down_done, stopped_world}
 use Rattle.letters.specs.Again.{sent_again}
 use Rattle.link_control.specs.Ends.{End, HasNumbersLeft}
-use Rattle.message_layout.specs.Layout.{Fits, IsCarriedWithin, IsWithin}
-use Rattle.message_layout.specs.Messages.{NodeMessage, Carrying}
+use Rattle.packet_wires.specs.message_layout.specs.Layout.{Fits, IsCarriedWithin, IsWithin}
+use Rattle.packet_wires.specs.message_layout.specs.Messages.{NodeMessage, Carrying, Changing}
+use Rattle.packet_wires.specs.Parcels.{form_of}
 use Rattle.packet_wires.specs.Nodes.{Node}
-use Rattle.event_parts.specs.Numbers.{CanPush}
+use Rattle.node.specs.event_parts.specs.Numbers.{CanPush}
 use Rattle.packet_wires.specs.Play.{Packeted}
-use Rattle.world_copies.specs.number_ranges.specs.HasRoom.{WorldHasRoom}
+use Rattle.open_links.specs.world_copies.specs.number_ranges.specs.HasRoom.{WorldHasRoom}
 
--- each message that is sent keeps to the layout
-abbrev pub AreWithin : List Sending → Type 0
-AreWithin = All (λ sending. IsCarriedWithin sending.message)
+-- a message that is sent in this world keeps to the layout, whole and in the form in which it goes
+abbrev pub IsSentWithin : World → Message → Type 0
+IsSentWithin w message = IsCarriedWithin message × IsWithin (form_of w message)
 
-abbrev pub AreWithinIfAny : Option (List Sending) → Type 0
-AreWithinIfAny None = Unit {0}
-AreWithinIfAny (Some sendings) = AreWithin sendings
+abbrev pub AreWithin : World → List Sending → Type 0
+AreWithin w = All (λ sending. IsSentWithin w sending.message)
+
+abbrev pub AreWithinIfAny : World → Option (List Sending) → Type 0
+AreWithinIfAny w None = Unit {0}
+AreWithinIfAny w (Some sendings) = AreWithin w sendings
 
 -- and so does all that a mark sends, and what is sent again
 abbrev pub MarksWithin : Site → World → Type 0
 MarksWithin site w = (node processor : ℕ) (done : Done) → down_done node processor w ≡ Some done
-    → AreWithin (done.sendings ++ sent_again site w done.world node processor)
+    → AreWithin done.world (done.sendings ++ sent_again site w done.world node processor)
 
 -- whatever changes the world next, what that sends keeps to the layout. A line that is pulled stops its processor first
 pub record SendsWithin (site : Site) (w : World) : Type 0 where
-  pub runs : (number : ℕ) (done : Done) → run_done site number w ≡ Some done → AreWithin done.sendings
-  pub enters : (terminal : ℕ) (done : Done) → enter_done site terminal w ≡ Some done → AreWithin done.sendings
+  pub runs : (number : ℕ) (done : Done) → run_done site number w ≡ Some done
+      → AreWithin done.world done.sendings
+  pub enters : (terminal : ℕ) (done : Done) → enter_done site terminal w ≡ Some done
+      → AreWithin done.world done.sendings
   pub handed : (node : ℕ) (message : Message) (done : Done) → Fits site (Carrying message)
-      → handed_done site node message w ≡ Some done → AreWithin done.sendings
+      → handed_done site node message w ≡ Some done → AreWithin done.world done.sendings
+  pub changed : (node : ℕ) (change : ChangeMessage) (done : Done) → Fits site (Changing change)
+      → change_done site node change w ≡ Some done → AreWithin done.world done.sendings
   pub marked : MarksWithin site w
   pub pulled : (processor : ℕ) → MarksWithin site (stopped_world processor w)
 

@@ -1,7 +1,7 @@
 -- What the machine shows.
 use Rattle.std.specs.Prelude.{Bool}
 use Rattle.packet_wires.specs.Play.{Packeted}
-use Rattle.world_copies.specs.Closed.{closed_world}
+use Rattle.open_links.specs.world_copies.specs.Closed.{closed_world}
 
 -- a machine's state, and whether an allocation was once refused to it: then it answers so for good
 pub record MachineStanding : Type 0 where

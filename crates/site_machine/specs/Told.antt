@@ -6,9 +6,10 @@ use Rattle.world_semantics.specs.Running.{Done, world_after}
 use Rattle.letters.specs.Routes.{letters_of}
 use Rattle.machine_states.specs.declared.effect.Effect.{Effect}
 use Rattle.machine_states.specs.declared.effect.Effect.TheVariants as effect
+use Rattle.packet_wires.specs.Parcels.{parcels_of}
 use Rattle.packet_wires.specs.Play.{Packeted, Underway, begun, over}
 use Rattle.packet_wires.specs.Wires.{all_posted, nothing_sent, ticked}
-use Rattle.event_parts.specs.Parts.{carried_out}
+use Rattle.node.specs.event_parts.specs.Parts.{carried_out}
 
 -- the state after a change of its world, if one is made, where what that sends isn't posted yet
 abbrev pub unsent : Packeted → Option Done → Packeted
@@ -17,7 +18,10 @@ unsent s done = record s { world = world_after s.world done }
 -- the state after these messages were sent, by its routes
 abbrev pub sent_all : List Sending → Packeted → Packeted
 sent_all sendings s =
-    record s { wires = carried_out (all_posted s.world.stopped (letters_of s.site s.world sendings)) s.wires }
+    record s {
+      wires = carried_out (all_posted s.world.stopped (parcels_of s.world (letters_of s.site s.world sendings)))
+          s.wires;
+    }
 
 -- the answer where nothing was done, and where something was done that sends this, and the state after that was posted
 abbrev pub Answers : Option (List Sending) → Packeted → Effect → Packeted → Type 0

@@ -7,7 +7,7 @@ ghost use Rattle.machine_states.specs.declared.effect.Effect.TheVariants as effe
 ghost use Rattle.node.specs.Calls.{alive_address};
 ghost use Rattle.packet_wires.specs.Play.{begun, deliver_acted, ended, play};
 ghost use Rattle.packet_wires.specs.Wires.{bus_named, on_bus, without_packet};
-ghost use Rattle.event_parts.specs.Parts.{completed_by, delivered};
+ghost use Rattle.node.specs.event_parts.specs.Parts.{completed_by, delivered};
 ghost use Rattle.site_machine.specs.Needs.{HaveNumbersLeft, IsReady};
 
 use crate::whole::MachineParts;

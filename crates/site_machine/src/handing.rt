@@ -1,25 +1,27 @@
 ghost use Rattle.std.specs.Prelude.{◌≡◌, IfOk, OnOk};
 ghost use Rattle.std.specs.Option.{option_and_then, option_map};
+ghost use Rattle.computed_changes.specs.Changed.{change_done};
 ghost use Rattle.computed_changes.specs.Handed.{handed_done};
-ghost use Rattle.message_layout.specs.Layout.{Fits};
-ghost use Rattle.message_layout.specs.Messages.{Carrying};
-ghost use Rattle.message_layout.specs.Reading.{if_known, node_message_in};
+ghost use Rattle.packet_wires.specs.message_layout.specs.Layout.{Fits};
+ghost use Rattle.packet_wires.specs.message_layout.specs.Messages.{Carrying, Changing};
+ghost use Rattle.packet_wires.specs.message_layout.specs.Reading.{if_known, node_message_in};
 ghost use Rattle.node.specs.message_words.specs.Seen as seen;
-ghost use Rattle.world_copies.specs.node_copies.specs.Seen.{step_sendings};
-ghost use Rattle.world_copies.specs.number_ranges.specs.HasRoom.{WorldHasRoom};
+ghost use Rattle.open_links.specs.world_copies.specs.node_copies.specs.Seen.{step_sendings};
+ghost use Rattle.open_links.specs.world_copies.specs.number_ranges.specs.HasRoom.{WorldHasRoom};
 ghost use Rattle.packet_wires.specs.Play.{handed, handed_any, handed_words};
-ghost use Rattle.sendings.specs.Seen.{message_of};
-ghost use Rattle.world_copies.specs.Room.{NamesItsOpener};
-ghost use Rattle.world_copies.specs.Told.{sent_in};
+ghost use Rattle.open_links.specs.sendings.specs.Seen.{message_of};
+ghost use Rattle.open_links.specs.world_copies.specs.Room.{NamesItsOpener};
+ghost use Rattle.open_links.specs.world_copies.specs.Told.{sent_in};
 ghost use Rattle.site_machine.specs.Needs.{CanHand, IsReadWithin};
 ghost use Rattle.site_machine.specs.Told.{after_part, unsent};
 
 use crate::whole::MachineParts;
+use change_layout::ChangeMessage;
 use gd_words::{List, NoMemory};
 use logs::Shared;
 use node::message_words::{NodeMessage, read};
-use sendings::Message;
-use world_copies::node_copies::StepOutcome;
+use open_links::sendings::Message;
+use open_links::world_copies::node_copies::StepOutcome;
 
 impl MachineParts {
     /// The words of a whole message are handed over at a node, where there are any.
@@ -79,6 +81,7 @@ impl MachineParts {
                 self.hand_carried(node, Message::Checkpointing(image))
             }
             NodeMessage::Taking(taken) => self.hand_carried(node, Message::Taking(taken)),
+            NodeMessage::Changing(change) => self.hand_changed(node, &change),
             NodeMessage::Reporting { node: from, silent } => {
                 self.wires.note(node, from, silent);
                 Ok(())
@@ -96,6 +99,28 @@ impl MachineParts {
         let step = self.hand_over(node, message)?;
         self.tell(step)?;
         Ok(())
+    }
+
+    /// A checkpoint is handed over at a node as what changed since the one before it, and what that sends is posted.
+    fn hand_changed(&mut self, node: u8, change: &ChangeMessage) -> Result<(), NoMemory>
+        requires hands { CanHand self.old }
+        requires fits { Fits self.old.site (Changing change.now) }
+        ensures { OnOk result (self.new ≡ after_part (handed node (Changing change.now)) self.old) }
+    {
+        let step = self.hand_change(node, change)?;
+        self.tell(step)?;
+        Ok(())
+    }
+
+    /// A checkpoint is handed over at a node as what changed since the one before it. What that sends isn't posted yet.
+    fn hand_change(&mut self, node: u8, change: &ChangeMessage) -> Result<StepOutcome, NoMemory>
+        ensures told { IfOk result (λ step. step_sendings step
+            ≡ sent_in (change_done self.old.site node change.now self.old.world)) }
+        ensures state { OnOk result (self.new ≡ unsent self.old
+            (change_done self.old.site node change.now self.old.world)) }
+    {
+        let step = self.world.hand_change(node, change)?;
+        Ok(step)
     }
 
     /// A message of the world is handed over at a node. What that sends isn't posted yet.

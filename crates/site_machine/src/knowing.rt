@@ -1,8 +1,8 @@
 ghost use Rattle.std.specs.Prelude.{◌≡◌, drop, length, nat_lt, not};
 ghost use Rattle.std.specs.List.{list_all};
 ghost use Rattle.plain_semantics.specs.Openers.{openers_of};
-ghost use Rattle.message_layout.specs.Messages.{has_members, has_opener, has_process, has_processor};
-ghost use Rattle.message_layout.specs.Messages.{is_known};
+ghost use Rattle.packet_wires.specs.message_layout.specs.Messages.{has_members, has_opener, has_process, has_processor};
+ghost use Rattle.packet_wires.specs.message_layout.specs.Messages.{is_known};
 ghost use Rattle.node.specs.message_words.specs.Seen.{message_of};
 
 use crate::whole::MachineParts;
@@ -19,6 +19,7 @@ impl MachineParts {
             NodeMessage::Replying(reply) => self.has_opener(reply.process, reply.opener),
             NodeMessage::Checkpointing(message) => self.has_process(message.process),
             NodeMessage::Taking(taken) => self.has_process(taken.process),
+            NodeMessage::Changing(change) => self.has_process(change.process),
             NodeMessage::Reporting { node, silent } => {
                 self.has_processor(*node) && self.has_members(silent)
             }

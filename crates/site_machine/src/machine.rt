@@ -5,7 +5,7 @@ ghost use Rattle.std.specs.Option.{option_and_then, option_copied, option_map, u
 ghost use Rattle.schedule.specs.declared.event.Event.TheVariants as events;
 ghost use Rattle.machine_states.specs.States.{Settles};
 ghost use Rattle.machine_states.specs.declared.effect.Effect.TheVariants as effects;
-ghost use Rattle.world_copies.specs.node_copies.specs.ShownCounts.{replies_in, writes_in};
+ghost use Rattle.open_links.specs.world_copies.specs.node_copies.specs.ShownCounts.{replies_in, writes_in};
 ghost use Rattle.node.specs.Calls.{alive_address};
 ghost use Rattle.plain_semantics.specs.Openers.{openers_of};
 ghost use Rattle.packet_wires.specs.Idle.{is_idle};
@@ -13,11 +13,12 @@ ghost use Rattle.packet_wires.specs.Nodes.{end_at};
 ghost use Rattle.packet_wires.specs.Play.{count_on, kind_at, packet_at, packeted_at_boot, play, sender_at};
 ghost use Rattle.packet_wires.specs.Lines.{line_pulled};
 ghost use Rattle.packet_wires.specs.Wires.{bus_named, nothing_sent, ticked};
-ghost use Rattle.world_copies.specs.process_copies.specs.Starting.{IsStartable};
-ghost use Rattle.world_copies.specs.process_copies.specs.disc_device.specs.mirror.specs.States.{standing};
-ghost use Rattle.world_copies.specs.node_copies.specs.Seen.{drives_on, sectors_on};
-ghost use Rattle.world_copies.specs.Seen.{ArePlaced, drives_in, pairs_in, sectors_of};
+ghost use Rattle.open_links.specs.world_copies.specs.process_copies.specs.Starting.{IsStartable};
+ghost use Rattle.open_links.specs.world_copies.specs.process_copies.specs.disc_device.specs.mirror.specs.States.{standing};
+ghost use Rattle.open_links.specs.world_copies.specs.node_copies.specs.Seen.{drives_on, sectors_on};
+ghost use Rattle.open_links.specs.world_copies.specs.Seen.{ArePlaced, drives_in, pairs_in, sectors_of};
 ghost use Rattle.world_semantics.specs.Kept.{acts_of};
+ghost use Rattle.open_links.specs.node_needs.specs.NodeNeeds.{needs_at};
 ghost use Rattle.site_machine.specs.Needs.{IsReady};
 ghost use Rattle.site_machine.specs.Seen.{closed_state};
 
@@ -28,16 +29,17 @@ use gd_words::NoMemory;
 use link_control::Channel;
 use logs::Shared;
 use machine_states::Effect;
+use open_links::world_copies::Terminal;
+use open_links::world_copies::node_copies::Downs;
+use open_links::world_copies::process_copies::ProcessCopies;
+use open_links::world_copies::process_copies::disc_device::Disc;
+use open_links::world_copies::process_copies::disc_device::mirror::DriveState;
+use open_links::{NodeLinks, links_of};
 use packet_words::{BusName, Packet, PacketKind};
 use schedule::Event;
 use std::alloc::Global;
 use std::marker::Model;
 use tal_tree::{Act, Shown, Site, Who};
-use world_copies::Terminal;
-use world_copies::node_copies::Downs;
-use world_copies::process_copies::ProcessCopies;
-use world_copies::process_copies::disc_device::Disc;
-use world_copies::process_copies::disc_device::mirror::DriveState;
 
 /// The machine over packets. Once an allocation was refused to it, it answers so for good.
 #[derive(Drop)]
@@ -253,6 +255,13 @@ impl Machine {
         ensures { result.now ≡ self.now.state.world.terminals }
     {
         self.whole.world.terminals()
+    }
+
+    /// The open links of a node.
+    pub fn links(&self, node: u8) -> Result<NodeLinks, NoMemory>
+        ensures { IfOk result (λ links. links ≡ needs_at self.now.state.site self.now.state.world node) }
+    {
+        links_of(self.whole.alloc, &self.whole.world, node)
     }
 
     /// The acts that are kept, in order.

@@ -1,17 +1,17 @@
 ghost use Rattle.std.specs.Prelude.{◌≡◌, ◌++◌, IfOk, OnOk};
 ghost use Rattle.computed_changes.specs.Stopped.{world_at_down};
 ghost use Rattle.letters.specs.Again.{sent_again};
-ghost use Rattle.event_parts.specs.Numbers.{CanPush};
-ghost use Rattle.event_parts.specs.Parts.{carried_out};
+ghost use Rattle.node.specs.event_parts.specs.Numbers.{CanPush};
+ghost use Rattle.node.specs.event_parts.specs.Parts.{carried_out};
 ghost use Rattle.packet_wires.specs.Play.{after_marked, marks};
 ghost use Rattle.packet_wires.specs.Wires.{cut_off};
-ghost use Rattle.world_copies.specs.Room.{AllWatchersHaveRoom};
+ghost use Rattle.open_links.specs.world_copies.specs.Room.{AllWatchersHaveRoom};
 ghost use Rattle.site_machine.specs.Needs.{AreWithin, MarksWithin};
 ghost use Rattle.site_machine.specs.Told.{after_part};
 
 use crate::whole::MachineParts;
 use gd_words::{List, NoMemory};
-use sendings::Sending;
+use open_links::sendings::Sending;
 
 impl MachineParts {
     /// A node marks a processor that has stopped, unless it has marked it before.
@@ -31,8 +31,9 @@ impl MachineParts {
     fn mark_down(&mut self, node: u8, processor: u8) -> Result<(), NoMemory>
         requires watching { AllWatchersHaveRoom self.old.world.processes }
         requires numbered { CanPush self.old.wires.nodes }
-        requires within { AreWithin ((world_at_down node processor self.old.world).sendings ++ sent_again self.old.site
-            self.old.world (world_at_down node processor self.old.world).world node processor) }
+        requires within { AreWithin (world_at_down node processor self.old.world).world
+            ((world_at_down node processor self.old.world).sendings ++ sent_again self.old.site self.old.world
+            (world_at_down node processor self.old.world).world node processor) }
         ensures { OnOk result (self.new ≡ after_part
             (λ u. after_marked node processor u (world_at_down node processor self.old.world)) self.old) }
     {

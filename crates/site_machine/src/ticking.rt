@@ -1,11 +1,11 @@
 ghost use Rattle.std.specs.Prelude.{◌≡◌, slice_get, IfOk, OnOk, Some};
 ghost use Rattle.schedule.specs.declared.event.Event.TheVariants as event;
-ghost use Rattle.event_parts.specs.Numbers.{CanPush};
-ghost use Rattle.event_parts.specs.Parts.{carried_out};
+ghost use Rattle.node.specs.event_parts.specs.Numbers.{CanPush};
+ghost use Rattle.node.specs.event_parts.specs.Parts.{carried_out};
 ghost use Rattle.machine_states.specs.States.{Settles};
 ghost use Rattle.packet_wires.specs.Play.{ended, marks_and_declares, play, pulled, pulls};
 ghost use Rattle.packet_wires.specs.Wires.{declares, ticked};
-ghost use Rattle.world_copies.specs.Room.{AllWatchersHaveRoom};
+ghost use Rattle.open_links.specs.world_copies.specs.Room.{AllWatchersHaveRoom};
 ghost use Rattle.site_machine.specs.Needs.{IsReady, MarksWithin};
 ghost use Rattle.site_machine.specs.Told.{after_part, in_tick};
 

@@ -1,15 +1,15 @@
 ghost use Rattle.std.specs.Prelude.{◌≡◌, IfOk, OnOk};
 ghost use Rattle.packet_wires.specs.Play.{packeted_at_boot};
-ghost use Rattle.world_copies.specs.process_copies.specs.Starting.{IsStartable};
+ghost use Rattle.open_links.specs.world_copies.specs.process_copies.specs.Starting.{IsStartable};
 ghost use Rattle.site_machine.specs.Seen.{closed_state};
 
 use gd_words::NoMemory;
 use logs::Shared;
 use node::PacketWires;
+use open_links::world_copies::WorldCopies;
 use std::alloc::Global;
 use std::marker::Model;
 use tal_tree::Site;
-use world_copies::WorldCopies;
 
 /// All of the machine: the world, and the wires.
 #[derive(Drop)]

@@ -1,17 +1,28 @@
 ghost use Rattle.std.specs.Prelude.{◌≡◌, IfOk};
-ghost use Rattle.message_layout.specs.Layout.{IsCarriedWithin, words_of};
-ghost use Rattle.message_layout.specs.Messages.{Carrying};
-ghost use Rattle.sendings.specs.Seen.{message_of};
+ghost use Rattle.std.specs.Option.{option_copied};
+ghost use Rattle.packet_wires.specs.message_layout.specs.Layout.{IsCarriedWithin, IsWithin, words_of};
+ghost use Rattle.packet_wires.specs.message_layout.specs.world_semantics.specs.Messages.{Checkpointing};
+ghost use Rattle.packet_wires.specs.Parcels.{form_after, form_of};
+ghost use Rattle.open_links.specs.sendings.specs.Seen.{message_of};
 
+use checkpoint_image::ImageMessage;
 use gd_words::{List, NoMemory};
-use node::message_words::{checkpoint_words, reply_words, request_words, taken_words};
-use sendings::Message;
+use node::message_words::{
+    change_words, checkpoint_words, reply_words, request_words, taken_words,
+};
+use open_links::sendings::Message;
+use open_links::world_copies::WorldCopies;
 use std::alloc::Global;
 
-/// The words of a message of the world.
-pub(crate) fn words_of(alloc: Global, message: &Message) -> Result<List<i16>, NoMemory>
-    requires { IsCarriedWithin (message_of message.now) }
-    ensures { IfOk result (λ words. words ≡ words_of (Carrying (message_of message.now))) }
+/// The words of a message that was sent in this world last, in the form in which it goes.
+pub(crate) fn words_of(
+    alloc: Global,
+    world: &WorldCopies,
+    message: &Message,
+) -> Result<List<i16>, NoMemory>
+    requires within { IsCarriedWithin (message_of message.now) }
+    requires form { IsWithin (form_of world.now.world (message_of message.now)) }
+    ensures { IfOk result (λ words. words ≡ words_of (form_of world.now.world (message_of message.now))) }
 {
     match message {
         Message::Asking(request) => {
@@ -23,11 +34,40 @@ pub(crate) fn words_of(alloc: Global, message: &Message) -> Result<List<i16>, No
             Ok(words)
         }
         Message::Checkpointing(checkpoint) => {
-            let words = checkpoint_words(alloc, checkpoint.get())?;
+            let checkpoint = checkpoint.get();
+            let before = world.checkpoint_before(checkpoint.process);
+            let words = words_after(alloc, checkpoint, before)?;
             Ok(words)
         }
         Message::Taking(taken) => {
             let words = taken_words(alloc, *taken)?;
+            Ok(words)
+        }
+    }
+}
+
+/// The words of a checkpoint, where its process sent this one before it: as what changed since, unless it is the first
+/// of its era.
+fn words_after(
+    alloc: Global,
+    checkpoint: &ImageMessage,
+    before: Option<&ImageMessage>,
+) -> Result<List<i16>, NoMemory>
+    requires within { IsCarriedWithin (Checkpointing checkpoint.now) }
+    requires form { IsWithin (form_after checkpoint.now (option_copied before)) }
+    ensures { IfOk result (λ words. words ≡ words_of (form_after checkpoint.now (option_copied before.entry))) }
+{
+    match before {
+        None => {
+            let words = checkpoint_words(alloc, checkpoint)?;
+            Ok(words)
+        }
+        Some(before) => {
+            if checkpoint.number == 1 {
+                let words = checkpoint_words(alloc, checkpoint)?;
+                return Ok(words);
+            }
+            let words = change_words(alloc, before, checkpoint)?;
             Ok(words)
         }
     }

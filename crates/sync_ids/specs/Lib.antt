@@ -1,2 +1,6 @@
+pub mod Changes
+pub mod Changing
 pub mod Openers
 pub mod Tables
+pub use Rattle.checkpoint_image
+pub use Rattle.checkpoint_image.specs.process_semantics

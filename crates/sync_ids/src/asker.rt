@@ -1,5 +1,5 @@
 ghost use Rattle.std.specs.Prelude.{◌≡◌, ◌<◌, ◌≤◌, ◌+◌, length, replicate, slice_get, slice_index, slice_set};
-ghost use Rattle.gd_words.specs.Ranges.{HasNext};
+ghost use Rattle.checkpoint_image.specs.gd_words.specs.Ranges.{HasNext};
 
 use arrayvec::ArrayVec;
 use std::marker::Model;

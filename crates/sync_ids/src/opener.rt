@@ -1,13 +1,17 @@
-ghost use Rattle.std.specs.Prelude.{◌≡◌, ◌<◌, ◌≤◌, ◌+◌, [], ◌∷◌, ◌++◌, length, IfOk, OnOk};
-ghost use Rattle.gd_words.specs.Ranges.{HasNext};
+ghost use Rattle.std.specs.Prelude.{◌≡◌, ◌<◌, ◌≤◌, ◌+◌, [], ◌∷◌, ◌++◌, length, IfOk};
+ghost use Rattle.checkpoint_image.specs.gd_words.specs.Ranges.{HasNext};
 ghost use Rattle.circular_buffer.specs.Buffer.{buffer};
 ghost use Rattle.checkpoint_image.specs.Receive.{answered, last_ones, reply_kept, standing_in};
+ghost use Rattle.sync_ids.specs.Changes.{put_in};
+ghost use Rattle.sync_ids.specs.Changing.{fits_block, is_unanswered_after};
 ghost use Rattle.sync_ids.specs.Openers.{block_of, depth_of, untaken_of, with_block};
 ghost use Rattle.sync_ids.specs.Tables.{is_of_depth};
 
+use crate::change::OpenerChange;
+use crate::since::put_copies;
+use checkpoint_image::gd_words::{List, NoMemory, Words};
 use checkpoint_image::{OpenerBlock, RequestStanding};
 use circular_buffer::HeapCircularBuffer;
-use gd_words::{List, NoMemory, Words};
 use std::alloc::Global;
 
 /// What is remembered of one opener. The room of the kept replies is its depth.
@@ -117,16 +121,73 @@ impl Opener {
         self.taken = block.taken;
         refill(&mut self.kept, block.kept.as_slice());
     }
+
+    /// Whether a change can be put into its block: it adds no more replies than the depth, and no more are kept then
+    /// than were taken.
+    pub fn fits(&self, change: &OpenerChange) -> bool
+        ensures { result ≡ fits_block (depth_of self.now) (block_of self.now) change.now }
+    {
+        change.added.len() <= self.kept.capacity()
+            && self.kept_after(change) <= change.taken as usize
+    }
+
+    /// Whether its request has no reply after changes of openers, of which one may be its own.
+    pub fn is_unanswered_after(&self, place: u16, changes: &[OpenerChange]) -> bool
+        ensures { result ≡ is_unanswered_after (depth_of self.now) (block_of self.now) place changes.now }
+    {
+        for change in changes {
+            if change.opener == place {
+                return self.kept_after(change) < change.taken as usize;
+            }
+        }
+        self.kept.len() < self.taken as usize
+    }
+
+    /// How many replies are kept after a change.
+    fn kept_after(&self, change: &OpenerChange) -> usize
+        ensures { result ≡ length (put_in (depth_of self.now) (block_of self.now) change.now).kept }
+    {
+        let depth = self.kept.capacity();
+        let added = change.added.len();
+        if depth <= added {
+            return depth;
+        }
+        let kept = self.kept.len();
+        if kept <= depth - added {
+            kept + added
+        } else {
+            depth
+        }
+    }
+
+    /// Puts a change into its block; the oldest replies go where more than the depth would be kept.
+    pub fn add(&mut self, change: &OpenerChange)
+        ensures block { block_of self.new ≡ put_in (depth_of self.old) (block_of self.old) change.now }
+        ensures depth { depth_of self.new ≡ depth_of self.old }
+    {
+        self.taken = change.taken;
+        keep_all(&mut self.kept, change.added.as_slice());
+    }
 }
 
-/// Puts copies of replies behind others.
-fn put_copies(replies: &[Words], out: &mut List<Words>) -> Result<(), NoMemory>
-    ensures { OnOk result (out.new ≡ out.old ++ replies.now) }
+/// Keeps copies of replies behind those that are kept. Of more than there is room for, only the last are copied.
+#[tactic(auto, using(crate::proofs::Lists::last_onto))]
+fn keep_all(kept: &mut HeapCircularBuffer<Words>, replies: &[Words])
+    ensures { kept.new ≡ buffer (last_ones kept.old.capacity (kept.old.items ++ replies.now)) kept.old.capacity }
+{
+    let (_, last) = replies.split_at(replies.len().saturating_sub(kept.capacity()));
+    keep_each(kept, last);
+}
+
+/// Keeps copies of replies behind those that are kept, one by one.
+#[tactic(auto, using(crate::proofs::Lists::last_again, crate::proofs::Lists::last_few))]
+fn keep_each(kept: &mut HeapCircularBuffer<Words>, replies: &[Words])
+    requires { length kept.old.items ≤ kept.old.capacity }
+    ensures { kept.new ≡ buffer (last_ones kept.old.capacity (kept.old.items ++ replies.now)) kept.old.capacity }
 {
     for words in replies {
-        out.push(words.copy())?;
+        let _oldest = kept.push_back(words.copy());
     }
-    Ok(())
 }
 
 /// Puts copies of replies in the place of those that are kept.

@@ -1,15 +1,15 @@
-ghost use Rattle.std.specs.Prelude.{◌≡◌, ℕ, ◌<◌, ◌≤◌, IsTrue, All, if◌then◌else◌, length, map, slice_get, Some, None};
+ghost use Rattle.std.specs.Prelude.{◌≡◌, ℕ, ◌<◌, IsTrue, All, if◌then◌else◌, length, map, slice_get, Some, None};
 ghost use Rattle.std.specs.Prelude.{IfOk, IsSome};
-ghost use Rattle.gd_words.specs.Ranges.{HasNext};
+ghost use Rattle.checkpoint_image.specs.gd_words.specs.Ranges.{HasNext};
 ghost use Rattle.checkpoint_image.specs.Receive.{after_answering, after_taking, holds, standing_at};
 ghost use Rattle.checkpoint_image.specs.declared.receive.OpenerBlock.{OpenerBlock};
 ghost use Rattle.sync_ids.specs.Openers.{block_of, depth_of, untaken_of};
 ghost use Rattle.sync_ids.specs.Tables.{IsDepth, IsSound, are_of_depths, can_hold, fits, last_taken, nothing_taken};
 
 use crate::opener::Opener;
+use checkpoint_image::gd_words::{List, NoMemory, Words};
 use checkpoint_image::tal_tree::OpenerSpec;
 use checkpoint_image::{OpenerBlock, ReceiveBlock, RequestStanding};
-use gd_words::{List, NoMemory, Words};
 use std::alloc::Global;
 use std::marker::Model;
 
@@ -17,8 +17,8 @@ use std::marker::Model;
 /// in hand.
 #[derive(Drop)]
 pub struct Receive {
-    openers: Vec<Opener>,
-    in_hand: Option<u16>,
+    pub(crate) openers: Vec<Opener>,
+    pub(crate) in_hand: Option<u16>,
 }
 
 impl Model for Receive {

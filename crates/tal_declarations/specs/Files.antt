@@ -4,8 +4,8 @@ use Rattle.std.specs.Prelude.{Option, Some, None, if◌then◌else◌}
 use Rattle.std.specs.Int.{cast_unsigned, w16}
 use Rattle.std.specs.Option.{option_and_then}
 use Rattle.tal_syntax.specs.Grammar as g
-use Rattle.tal_tree.specs.declared.program.Target.{Target}
-use Rattle.tal_tree.specs.declared.program.Target.TheVariants as target
+use Rattle.tal_syntax.specs.tal_tree.specs.declared.program.Target.{Target}
+use Rattle.tal_syntax.specs.tal_tree.specs.declared.program.Target.TheVariants as target
 use Rattle.tal_names.specs.declared.meaning.Meaning.{Meaning}
 use Rattle.tal_names.specs.declared.meaning.Meaning.TheVariants as m
 use Rattle.tal_declarations.specs.declared.table.Files.{Files}

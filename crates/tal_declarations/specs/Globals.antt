@@ -4,9 +4,9 @@ use Rattle.std.specs.Prelude.{◌∷◌, ◌++◌, length, Option, Some, None, o
 use Rattle.gd_words.specs.Arithmetic.{wrap}
 use Rattle.tal_syntax.specs.tal_tokens.specs.declared.token.At.{At}
 use Rattle.tal_syntax.specs.Grammar as g
-use Rattle.tal_tree.specs.Shapes.{width}
-use Rattle.tal_tree.specs.declared.program.Shape.{Shape}
-use Rattle.tal_tree.specs.declared.program.Shape.TheVariants as shape
+use Rattle.tal_syntax.specs.tal_tree.specs.Shapes.{width}
+use Rattle.tal_syntax.specs.tal_tree.specs.declared.program.Shape.{Shape}
+use Rattle.tal_syntax.specs.tal_tree.specs.declared.program.Shape.TheVariants as shape
 use Rattle.tal_names.specs.declared.fault.Rule.TheVariants.{Unknown, Twice, WrongKind, Limit}
 use Rattle.tal_names.specs.declared.fault.RuleFault.{RuleFault}
 use Rattle.tal_names.specs.declared.meaning.Meaning.{Meaning}

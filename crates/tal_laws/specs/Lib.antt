@@ -1,1 +1,2 @@
 pub use Rattle.tal_reader
+pub use Rattle.tal_meaning

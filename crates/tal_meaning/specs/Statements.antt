@@ -1,6 +1,6 @@
 -- The numbered statements that the statements of a text without faults stand for.
 use Rattle.std.specs.Prelude.{ℤ, pos, Bool, true, false, List, [], ◌∷◌, ◌++◌, Option, Some, None, unwrap_or}
-use Rattle.tal_tokens.specs.declared.token.At.{At}
+use Rattle.tal_syntax.specs.tal_tokens.specs.declared.token.At.{At}
 use Rattle.tal_syntax.specs.Grammar as g
 use Rattle.tal_tree.specs.declared.expression.Expr.{Expr}
 use Rattle.tal_tree.specs.declared.statement.Statement.{Statement}

@@ -25,11 +25,11 @@ use tal_rules::statement::{after_call, inside_do, stepped};
 use tal_rules::tal_declarations::files::named_in;
 use tal_rules::tal_declarations::globals::{atom_of, constant_value};
 use tal_rules::walk::Walk;
+use tal_syntax::tal_tokens::At;
 use tal_syntax::{
     Answer, Assign, AssignCall, Call, Direction, Expr, ForHead, Next, NextValue, Otherwise, Return,
     Spot, Statement, Step, Test, Until,
 };
-use tal_tokens::At;
 use tal_tree::What;
 
 /// Puts one statement, on the line of a token, after those before.

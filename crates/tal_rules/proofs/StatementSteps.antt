@@ -1,6 +1,6 @@
 -- What stands after a statement, and its least fault, from those of its parts.
 use Rattle.std.proofs.Common.{◌≡◌, List, Option, ℕ, refl, ap, ◌∙◌}
-use Rattle.tal_tokens.specs.declared.token.At.{At}
+use Rattle.tal_syntax.specs.tal_tokens.specs.declared.token.At.{At}
 use Rattle.tal_syntax.specs.Grammar as g
 use Rattle.tal_names.specs.declared.fault.RuleFault.{RuleFault}
 use Rattle.tal_names.specs.declared.scope.Scope.{Scope}

@@ -1,7 +1,7 @@
 -- The faults of calls: of procedures and of the system.
 use Rattle.std.specs.Prelude.{ℕ, ◌+◌, ◌&&◌, ◌||◌, not, ◌==◌, nat_lt, nat_le, Bool, true, false, ℤ, pos, int_le, List}
 use Rattle.std.specs.Prelude.{[], ◌∷◌, ◌++◌, length, slice_get, Option, Some, None, is_none}
-use Rattle.tal_tokens.specs.declared.token.At.{At}
+use Rattle.tal_syntax.specs.tal_tokens.specs.declared.token.At.{At}
 use Rattle.tal_syntax.specs.Grammar as g
 use Rattle.tal_names.specs.declared.fault.Rule.TheVariants.{Unknown, Twice, WrongKind, NotBefore, Prologue, Limit}
 use Rattle.tal_names.specs.declared.fault.RuleFault.{RuleFault}

@@ -1,6 +1,6 @@
 -- The faults of expressions. What stands in a place is a condition or a value; parentheses hand their place on.
 use Rattle.std.specs.Prelude.{List, [], ◌++◌}
-use Rattle.tal_tokens.specs.declared.token.At.{At}
+use Rattle.tal_syntax.specs.tal_tokens.specs.declared.token.At.{At}
 use Rattle.tal_syntax.specs.Grammar as g
 use Rattle.tal_names.specs.declared.fault.Rule.TheVariants.{WrongKind}
 use Rattle.tal_names.specs.declared.fault.RuleFault.{RuleFault}

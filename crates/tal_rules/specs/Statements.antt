@@ -1,7 +1,7 @@
 -- The numbers of statements, the prologue of the main procedure, and the faults of statements.
 use Rattle.std.specs.Prelude.{ℕ, ◌+◌, ◌||◌, not, nat_lt, ℤ, pos, int_lt, Bool, true, false, List, [], ◌++◌, slice_get}
 use Rattle.std.specs.Prelude.{Option, Some, None, if◌then◌else◌}
-use Rattle.tal_tokens.specs.declared.token.At.{At}
+use Rattle.tal_syntax.specs.tal_tokens.specs.declared.token.At.{At}
 use Rattle.tal_syntax.specs.Grammar as g
 use Rattle.tal_names.specs.declared.fault.Rule.TheVariants.{WrongKind, Limit}
 use Rattle.tal_names.specs.declared.fault.RuleFault.{RuleFault}

@@ -1,6 +1,6 @@
 -- The faults of a whole text.
 use Rattle.std.specs.Prelude.{ℕ, ◌+◌, ◌||◌, ◌&&◌, not, min, Bool, true, false, List, [], ◌++◌, None, is_none, Option}
-use Rattle.tal_tokens.specs.declared.token.At.{At}
+use Rattle.tal_syntax.specs.tal_tokens.specs.declared.token.At.{At}
 use Rattle.tal_syntax.specs.Grammar as g
 use Rattle.tal_names.specs.declared.fault.Rule.TheVariants.{Prologue, NoMain}
 use Rattle.tal_names.specs.declared.fault.RuleFault.{RuleFault}

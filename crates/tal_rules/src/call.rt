@@ -29,8 +29,8 @@ use tal_names::names::Names;
 use tal_names::place::at_of_argument;
 use tal_names::scope::{Named, Scope};
 use tal_names::system::System;
+use tal_syntax::tal_tokens::At;
 use tal_syntax::{Argument, Arguments, Constant, NextArgument, NextValue};
-use tal_tokens::At;
 
 /// The most files.
 const FILES: u8 = 8;

@@ -30,11 +30,11 @@ use tal_names::lookup::{judge_kind, judge_name, meaning_of};
 use tal_names::meaning::{Meaning, Need, Wanted};
 use tal_names::scope::Scope;
 use tal_names::system::{System, system_of};
+use tal_syntax::tal_tokens::At;
 use tal_syntax::{
     Answer, Arguments, Assign, AssignCall, Call, Expr, ForHead, Next, NextValue, Otherwise, Return,
     Statement, Step, Test, Until,
 };
-use tal_tokens::At;
 
 /// The most numbered statements.
 const STATEMENTS: u16 = 2000;

@@ -26,9 +26,9 @@ use tal_names::fault::{Rule, RuleFault};
 use tal_names::least::with_fault_if;
 use tal_names::names::Names;
 use tal_names::scope::Scope;
+use tal_syntax::tal_tokens::At;
+use tal_syntax::tal_tokens::tal_tree::{FileUse, Item};
 use tal_syntax::{Heading, Local, Main, Next, Procedure, Statement, Text};
-use tal_tokens::At;
-use tal_tokens::tal_tree::{FileUse, Item};
 
 /// The most procedures.
 const PROCEDURES: u16 = 64;

@@ -1,5 +1,5 @@
 -- Where the adder of the examples stands in a deck.
-use Rattle.std.specs.Prelude.{pos, true, false, List, [], ◌∷◌, codes, replicate}
+use Rattle.std.specs.Prelude.{pos, true, false, [], ◌∷◌, codes, replicate}
 use Rattle.alive_regroup.specs.declared.set.ProcessorSet.{ProcessorSet}
 use Rattle.tal_tree.specs.declared.site.Site.{Site}
 use Rattle.trace_lines.specs.declared.places.Places.{Places}

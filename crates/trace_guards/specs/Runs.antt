@@ -1,9 +1,9 @@
 -- States of worked runs of the adder, and what is told of events there.
-use Rattle.std.specs.Prelude.{ℕ, List, [], ◌∷◌, ◌++◌, take, Option, Some, None, true, false, replicate}
+use Rattle.std.specs.Prelude.{ℕ, List, [], ◌∷◌, take, Option, Some, None, true, false, replicate}
 use Rattle.alive_regroup.specs.declared.set.ProcessorSet.{ProcessorSet}
 use Rattle.event_findings.specs.Told.{told}
-use Rattle.machine_views.specs.Views.{view_of}
-use Rattle.machine_views.specs.declared.views.CopyView.{CopyView}
+use Rattle.event_findings.specs.machine_views.specs.Views.{view_of}
+use Rattle.event_findings.specs.machine_views.specs.declared.views.CopyView.{CopyView}
 use Rattle.mirror.specs.declared.state.DriveState.{DriveState}
 use Rattle.schedule.specs.declared.event.DriveChange.{DriveChange}
 use Rattle.schedule.specs.declared.event.Event.{Event}

@@ -1,6 +1,7 @@
 //! What is told of events of worked runs.
-ghost use Rattle.std.specs.Prelude.{◌≡◌, true, false, pos, [], ◌∷◌, None, Some};
+ghost use Rattle.std.specs.Prelude.{◌≡◌, false, pos, [], ◌∷◌, None, Some};
 ghost use Rattle.event_findings.specs.HandedOver.{done_by};
+ghost use Rattle.event_findings.specs.Messages.{message_named};
 ghost use Rattle.event_findings.specs.Told.{shown_by};
 ghost use Rattle.process_semantics.specs.declared.point.Point.TheVariants as point;
 ghost use Rattle.mirror.specs.declared.state.DriveState.TheVariants.{Failed, Reviving, Working};
@@ -68,7 +69,7 @@ pub fn packets_are_told()
 {}
 
 /// The copy that acts hears that its checkpoint was taken. One that watches ignores a checkpoint that isn't the next
-/// one of its era, and one that acts ignores each.
+/// one of its era, and one that acts ignores each. A checkpoint has one name, whole or as what changed.
 pub fn checkpoints_are_told()
     ensures taken { told_in before_taken next_x
         ≡ piece (sort.LastPiece 1) 1 0 fate.Came taken_named ∷ finding.HearsTaken 0 0 1 ∷ [] }
@@ -80,6 +81,11 @@ pub fn checkpoints_are_told()
     ensures acts { done_by 0 (copies_of adder_at_boot) (name.Checkpoint 0 0 1)
         ≡ Some (finding.IgnoresCheckpoint 0 0 1 why.Acts) }
     ensures not_sent { done_by 0 (copies_of adder_at_boot) (name.Taken 0 0 1) ≡ None }
+    ensures whole { message_named adder_at_boot.site (pos 3 ∷ pos 0 ∷ pos 0 ∷ pos 1 ∷ pos 0 ∷ pos 2 ∷ [])
+        ≡ Some (name.Checkpoint 0 1 2) }
+    ensures changes { message_named adder_at_boot.site (pos 7 ∷ pos 0 ∷ pos 0 ∷ pos 1 ∷ pos 0 ∷ pos 2 ∷ [])
+        ≡ Some (name.Checkpoint 0 1 2) }
+    ensures no_kind { message_named adder_at_boot.site (pos 8 ∷ pos 0 ∷ []) ≡ None }
 {}
 
 /// A reply is shown by the event that prints it, once.

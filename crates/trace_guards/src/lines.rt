@@ -1,6 +1,6 @@
 //! Lines of a trace as they are written.
 ghost use Rattle.std.specs.Fmt.{decimal, signed_decimal};
-ghost use Rattle.std.specs.Prelude.{◌≡◌, true, false, pos, codes, [], ◌∷◌, ◌++◌, None, Some, ℕ, ℤ};
+ghost use Rattle.std.specs.Prelude.{◌≡◌, true, pos, codes, [], ◌∷◌, ◌++◌, None, Some, ℕ, ℤ};
 ghost use Rattle.mirror.specs.declared.state.DriveState.TheVariants.{Failed, Reviving, Working};
 ghost use Rattle.process_semantics.specs.declared.point.Point.TheVariants as point;
 ghost use Rattle.schedule.specs.declared.event.DriveChange.TheVariants.{Break, Copy, Revive};

@@ -1,5 +1,4 @@
 ghost use Rattle.std.specs.Prelude.{◌≡◌, ◌++◌, OnOk};
-ghost use Rattle.std.specs.Fmt.{decimal};
 ghost use Rattle.trace_lines.specs.Names.{numbered_text, pair_text, process_name, terminal_name};
 
 use gd_words::{List, NoMemory};

@@ -1,5 +1,4 @@
-ghost use Rattle.std.specs.Prelude.{◌≡◌, ◌++◌, map, OnOk};
-ghost use Rattle.text_pieces.specs.Signs.{shown_sign};
+ghost use Rattle.std.specs.Prelude.{◌≡◌, ◌++◌, OnOk};
 ghost use Rattle.trace_lines.specs.Statements.{is_blank, line_at, line_of, program_lines, source_of, statement_text};
 ghost use Rattle.trace_lines.specs.Statements.{trimmed};
 

@@ -15,8 +15,8 @@ use Rattle.schedule_loop.specs.Ends.{IsEndBy, IsTriedBy}
 use Rattle.schedule_loop.specs.Plans.{seen_none}
 use Rattle.schedule_loop.specs.Seen.{Scheduled, event_in}
 use Rattle.schedule_loop.specs.declared.ran.Ending.{Ending}
-use Rattle.site_machine.specs.packet_wires.specs.Idle.{is_idle}
-use Rattle.site_machine.specs.packet_wires.specs.Play.{Packeted, packeted_at_boot}
+use Rattle.packet_runs.specs.site_machine.specs.packet_wires.specs.Idle.{is_idle}
+use Rattle.packet_runs.specs.site_machine.specs.packet_wires.specs.Play.{Packeted, packeted_at_boot}
 use Rattle.traced_runs.specs.Traces.{AreAskedFor, IsWantOfMemory, Tells, Traces}
 use Rattle.traced_runs.specs.declared.fault.TraceFault.{TraceFault}
 use Rattle.traced_runs.specs.declared.fault.TraceFault.TheVariants as fault
@@ -120,7 +120,7 @@ ends_at_fault held faults sure old mid now t before after s n event (fault.Write
 ends_at_fault held faults sure old mid now t before after s n event (fault.NoMemory memory) tracing e stands puts =
     without_memory held faults sure old mid now t before s n memory tracing puts
 
-counted_at_end : (s left : Packeted) (n asked : ℕ) (idle : Bool) (ending : Ending)
+pub counted_at_end : (s left : Packeted) (n asked : ℕ) (idle : Bool) (ending : Ending)
     → IsEndBy packet_rules s n idle left asked ending → asked ≡ n
 counted_at_end s left n asked true ending end = end.2
 counted_at_end s left n asked false ending end = end.2

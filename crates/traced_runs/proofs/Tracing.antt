@@ -18,9 +18,9 @@ use Rattle.schedule_loop.specs.Plans.{seen_none, seen_on}
 use Rattle.schedule_loop.specs.Playing.{IsPlaying}
 use Rattle.schedule_loop.specs.Rules.{IsPlayBy}
 use Rattle.schedule_loop.specs.Seen.{Scheduled, event_in}
-use Rattle.site_machine.specs.Needs.{IsReady}
-use Rattle.site_machine.specs.packet_wires.specs.Play.{Packeted, packeted_at_boot, play}
-use Rattle.site_machine.specs.packet_wires.specs.Sights.{end_of, state_after}
+use Rattle.packet_runs.specs.site_machine.specs.Needs.{IsReady}
+use Rattle.packet_runs.specs.site_machine.specs.packet_wires.specs.Play.{Packeted, packeted_at_boot, play}
+use Rattle.packet_runs.specs.site_machine.specs.packet_wires.specs.Sights.{end_of, state_after}
 use Rattle.tal_tree.specs.declared.site.Site.{Site}
 use Rattle.trace_lines.specs.declared.places.Places.{Places}
 use Rattle.traced_runs.specs.Trace.{line_told, trace_from, trace_of}
@@ -39,7 +39,7 @@ made_is s next event (inl makes) = ap (λ made. state_after made s) makes
 made_is s next event (inr skips) = ap (λ made. state_after made s) skips.0 ∙ sym skips.1
 
 -- events of a schedule lead to the state that playing each of them makes
-leads_there : {site : Site} {lines : List Line} {stop : Option ProcessorStop} {events : List Event} {agenda : Agenda}
+pub leads_there : {site : Site} {lines : List Line} {stop : Option ProcessorStop} {events : List Event} {agenda : Agenda}
     {s : Packeted}
     → Plays packet_rules (course_on site lines stop) events agenda s → end_of (packeted_at_boot site) events ≡ s
 leads_there seen_none = refl
@@ -48,10 +48,10 @@ leads_there {site} (seen_on {events = before} {agenda = stood} {s = mid} {next =
     ∙ ap (λ (s : Packeted). state_after (play s plan.event) s) (leads_there plays)
     ∙ made_is mid after plan.event goes
 
-first_number : (n m : ℕ) → n + 0 ≡ m → n ≡ m
+pub first_number : (n m : ℕ) → n + 0 ≡ m → n ≡ m
 first_number n m is = omega (arith, is)
 
-later_number : (n k m : ℕ) → n + suc k ≡ m → (n + 1) + k ≡ m
+pub later_number : (n k m : ℕ) → n + suc k ≡ m → (n + 1) + k ≡ m
 later_number n k m is = omega (arith, is)
 
 trace_more : (site : Site) (places : Places) (manner : Manner) (n m : ℕ) (s : Packeted) (events : List Event)
@@ -69,7 +69,7 @@ trace_more site places manner n m s (one ∷ events) event is =
     (trace_from site places manner (n + 1) (state_after (play s one) s) events)
     (line_told site places manner m (end_of (state_after (play s one) s) events) event))
 
-next_number : (n played : ℕ) → n ≡ played → 1 + n ≡ played + 1
+pub next_number : (n played : ℕ) → n ≡ played → 1 + n ≡ played + 1
 next_number n played is = omega (arith, is)
 
 -- What is told

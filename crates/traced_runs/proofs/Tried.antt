@@ -9,8 +9,8 @@ use Rattle.machine_states.specs.declared.effect.Effect.{Effect}
 use Rattle.packet_runs.specs.Runs.{packet_rules}
 use Rattle.schedule.specs.declared.event.Event.{Event}
 use Rattle.schedule_loop.specs.Ends.{IsTriedBy}
-use Rattle.site_machine.specs.packet_wires.specs.Play.{Packeted, play}
-use Rattle.site_machine.specs.packet_wires.specs.Wires.{Wires}
+use Rattle.packet_runs.specs.site_machine.specs.packet_wires.specs.Play.{Packeted, play}
+use Rattle.packet_runs.specs.site_machine.specs.packet_wires.specs.Wires.{Wires}
 use Rattle.tal_tree.specs.declared.act.Shown.{Shown}
 use Rattle.tal_tree.specs.declared.site.Site.{Site}
 use Rattle.trace_forms.specs.Forms.{line_in}

@@ -6,8 +6,8 @@ use Rattle.machine_states.specs.declared.effect.Effect.TheVariants as effect
 use Rattle.schedule.specs.declared.event.Event.{Event}
 use Rattle.schedule_loop.specs.declared.ran.Ending.{Ending}
 use Rattle.schedule_loop.specs.declared.ran.Ending.TheVariants.{Second, Lost}
-use Rattle.site_machine.specs.packet_wires.specs.Play.{Packeted, packeted_at_boot, play}
-use Rattle.site_machine.specs.packet_wires.specs.Sights.{state_after}
+use Rattle.packet_runs.specs.site_machine.specs.packet_wires.specs.Play.{Packeted, packeted_at_boot, play}
+use Rattle.packet_runs.specs.site_machine.specs.packet_wires.specs.Sights.{state_after}
 use Rattle.tal_tree.specs.declared.site.Site.{Site}
 use Rattle.trace_forms.specs.Forms.{line_in}
 use Rattle.trace_forms.specs.declared.form.Form.{Form}

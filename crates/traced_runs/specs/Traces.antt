@@ -9,8 +9,8 @@ use Rattle.player.specs.declared.stop.ProcessorStop.{ProcessorStop}
 use Rattle.schedule.specs.declared.event.Event.{Event}
 use Rattle.schedule.specs.declared.line.Line.{Line}
 use Rattle.schedule_loop.specs.Ends.{Course, Plays, planned_in}
-use Rattle.site_machine.specs.packet_wires.specs.Play.{Packeted}
-use Rattle.site_machine.specs.packet_wires.specs.Wires.{Wires}
+use Rattle.packet_runs.specs.site_machine.specs.packet_wires.specs.Play.{Packeted}
+use Rattle.packet_runs.specs.site_machine.specs.packet_wires.specs.Wires.{Wires}
 use Rattle.tal_tree.specs.declared.site.Site.{Site}
 use Rattle.trace_lines.specs.declared.places.Places.{Places}
 use Rattle.traced_runs.specs.Trace.{trace_of}

@@ -2,7 +2,7 @@ ghost use Rattle.std.specs.Prelude.{◌≡◌, false, IfErr, IfOk};
 ghost use Rattle.event_findings.specs.Told.{found, shown_after};
 ghost use Rattle.packet_runs.specs.Runs.{packet_rules};
 ghost use Rattle.schedule_loop.specs.Ends.{IsTriedBy};
-ghost use Rattle.site_machine.specs.Needs.{IsReady};
+ghost use Rattle.packet_runs.specs.site_machine.specs.Needs.{IsReady};
 ghost use Rattle.trace_forms.specs.Forms.{line_in};
 ghost use Rattle.traced_runs.specs.Trace.{ending_of, line_told, told_line};
 ghost use Rattle.traced_runs.specs.Traces.{IsWantOfMemory, Tells};
@@ -13,9 +13,9 @@ use event_findings::{Noted, findings, note, shown_since, what_is_found_is_told};
 use gd_io::{Sink, put_all};
 use gd_words::{List, NoMemory};
 use machine_states::Effect;
+use packet_runs::site_machine::Machine;
 use schedule::Event;
 use schedule_loop::Ending;
-use site_machine::Machine;
 use std::alloc::Global;
 use tal_tree::Site;
 use trace_forms::{Form, put_line};
@@ -100,7 +100,7 @@ fn put_played<K: Sink>(sink: &mut K, played: PlayedLine) -> Result<Option<Ending
 }
 
 /// How a run ends before an event that has this answer, where it does.
-fn ending_of(effect: Effect) -> Option<Ending>
+pub fn ending_of(effect: Effect) -> Option<Ending>
     ensures { result ≡ ending_of effect }
 {
     match effect {

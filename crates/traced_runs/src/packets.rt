@@ -1,19 +1,19 @@
-ghost use Rattle.std.specs.Prelude.{◌≡◌, false, Bool, IfOk, None, Some};
+ghost use Rattle.std.specs.Prelude.{◌≡◌, false, IfOk, None, Some};
 ghost use Rattle.std.specs.Option.{option_copied};
 ghost use Rattle.packet_runs.specs.Runs.{concerned, is_alive, packet_rules, sender_of};
-ghost use Rattle.site_machine.specs.Needs.{IsReady};
-ghost use Rattle.site_machine.specs.packet_wires.specs.Play.{packeted_at_boot};
-ghost use Rattle.site_machine.specs.packet_wires.specs.Wires as wires;
-ghost use Rattle.site_machine.specs.process_copies.specs.Starting.{IsStartable};
+ghost use Rattle.packet_runs.specs.site_machine.specs.Needs.{IsReady};
+ghost use Rattle.packet_runs.specs.site_machine.specs.packet_wires.specs.Play.{packeted_at_boot};
+ghost use Rattle.packet_runs.specs.site_machine.specs.packet_wires.specs.Wires as wires;
+ghost use Rattle.packet_runs.specs.site_machine.specs.process_copies.specs.Starting.{IsStartable};
 
 use gd_words::NoMemory;
 use logs::Shared;
 use machine_states::Effect;
+use packet_runs::site_machine::Machine;
 use packet_words::{BusName, Packet, PacketKind};
 use player::Player;
 use schedule::{Counts, Event};
 use schedule_loop::ScheduleMachine;
-use site_machine::Machine;
 use std::alloc::Global;
 use tal_tree::Site;
 
@@ -25,7 +25,7 @@ pub struct ToldPackets {
 
 impl ToldPackets {
     /// The machine at the beginning.
-    pub(crate) fn boot(alloc: Global, site: &Shared<Site>) -> Result<ToldPackets, NoMemory>
+    pub fn boot(alloc: Global, site: &Shared<Site>) -> Result<ToldPackets, NoMemory>
         requires { IsStartable site.now }
         ensures { IfOk result (λ packets. packets.machine
             ≡ record { is_broken = false; state = packeted_at_boot site.now }) }

@@ -1,10 +1,10 @@
 ghost use Rattle.std.specs.Prelude.{◌≡◌, false, IfErr, IfOk};
 ghost use Rattle.packet_runs.specs.Runs.{course_on, packet_rules, sizes_of};
 ghost use Rattle.schedule_loop.specs.Ends.{CanBePlayed, IsEndBy};
-ghost use Rattle.site_machine.specs.Needs.{IsReady};
-ghost use Rattle.site_machine.specs.packet_wires.specs.Idle.{is_idle};
-ghost use Rattle.site_machine.specs.packet_wires.specs.Play.{packeted_at_boot};
-ghost use Rattle.site_machine.specs.process_copies.specs.Starting.{IsStartable};
+ghost use Rattle.packet_runs.specs.site_machine.specs.Needs.{IsReady};
+ghost use Rattle.packet_runs.specs.site_machine.specs.packet_wires.specs.Idle.{is_idle};
+ghost use Rattle.packet_runs.specs.site_machine.specs.packet_wires.specs.Play.{packeted_at_boot};
+ghost use Rattle.packet_runs.specs.site_machine.specs.process_copies.specs.Starting.{IsStartable};
 ghost use Rattle.traced_runs.specs.Traces.{IsWantOfMemory, Traces};
 
 use crate::fault::TraceFault;
@@ -120,7 +120,7 @@ fn ended(packets: ToldPackets, played: u32) -> Result<Ran, TraceFault>
 }
 
 /// How many processors, processes and terminals a site has.
-fn sizes_of(site: &Site) -> Sizes
+pub fn sizes_of(site: &Site) -> Sizes
     requires { IsStartable site.now }
     ensures { result ≡ sizes_of site.now }
 {

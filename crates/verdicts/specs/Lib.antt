@@ -1,3 +1,4 @@
 pub mod Causes
 pub mod Judgeable
 pub mod Refused
+pub use Rattle.discipline

@@ -6,4 +6,5 @@
 
 pub mod refused;
 
+pub use discipline;
 pub use refused::{RefusedProgram, first_refused};

@@ -4,6 +4,8 @@ use Rattle.std.specs.Option.{option_map}
 use Rattle.world_semantics.specs.World.{World}
 use Rattle.world_semantics.specs.Messages.{Message, Sending}
 use Rattle.world_semantics.specs.Running.{Done, Stepped, in_world, run_done, run_pair, step_of}
+use Rattle.change_layout.specs.declared.message.ChangeMessage.{ChangeMessage}
+use Rattle.computed_changes.specs.Changed.{change_brought, change_brought_to, change_step_on}
 use Rattle.computed_changes.specs.Handed.{brought, brought_to, step_on}
 use Rattle.process_copies.specs.Seen.{Placed, placed_after, records_after, sent_by}
 use Rattle.world_semantics.specs.Records.{Records, records_of}
@@ -49,6 +51,21 @@ told-found {s} {places} {k} {before} node message found =
     ap (brought_to s.site k node message s.world) (pair-there found)
     ∙ ap₂ (λ site number. option_map (in_world k s.world)
     (step_on site number node before.pair (records_of s.world) message))
+    (sym found.site) (sym found.number)
+
+-- the change where a checkpoint comes to it as what changed
+abbrev pub step_where_changed : SiteWorld → ℕ → Placed → ChangeMessage → Option Stepped
+step_where_changed s node before change =
+    change_step_on before.site before.number node before.pair (records_of s.world) change
+
+pub change-found : {s : SiteWorld} {places : List Placed} {k : ℕ} {before : Placed} (node : ℕ) (change : ChangeMessage)
+    → IsFound s places k before
+    → change_brought s.site k node change s.world
+    ≡ option_map (in_world k s.world) (step_where_changed s node before change)
+change-found {s} {places} {k} {before} node change found =
+    ap (change_brought_to s.site k node change s.world) (pair-there found)
+    ∙ ap₂ (λ site number. option_map (in_world k s.world)
+    (change_step_on site number node before.pair (records_of s.world) change))
     (sym found.site) (sym found.number)
 
 pub sent-step : (k : ℕ) (w : World) (step : Option Stepped) → sent_by step ≡ sent_in (option_map (in_world k w) step)

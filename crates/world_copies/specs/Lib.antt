@@ -10,3 +10,5 @@ pub mod Told
 pub use Rattle.process_copies.specs.node_copies
 pub use Rattle.process_copies.specs.number_ranges
 pub use Rattle.process_copies
+pub use Rattle.process_copies.specs.processes
+pub use Rattle.sendings

@@ -1,4 +1,6 @@
 ghost use Rattle.std.specs.Prelude.{◌≡◌, length, reverse};
+ghost use Rattle.std.specs.Option.{option_copied};
+ghost use Rattle.computed_changes.specs.Changed.{checkpoint_before};
 ghost use Rattle.process_copies.specs.node_copies.specs.ShownCounts.{replies_in, writes_in};
 ghost use Rattle.world_semantics.specs.Kept.{acts_of};
 ghost use Rattle.world_semantics.specs.World.{has_noted, is_running};
@@ -6,6 +8,7 @@ ghost use Rattle.world_copies.specs.Seen.{ArePlaced, drives_in, pairs_in};
 
 use crate::processors::Processors;
 use crate::terminal::Terminal;
+use checkpoint_image::ImageMessage;
 use gd_words::List;
 use logs::Shared;
 use process_copies::ProcessCopies;
@@ -110,6 +113,17 @@ impl WorldCopies {
         ensures placed { ArePlaced self.now.site result.now }
     {
         self.processes.as_slice()
+    }
+
+    /// The checkpoint that a process sent before its last one.
+    pub fn checkpoint_before(&self, process: u8) -> Option<&ImageMessage>
+        ensures { option_copied result ≡ checkpoint_before self.now.world process }
+    {
+        let place = usize::from(process);
+        if place >= self.processes.len() {
+            return None;
+        }
+        self.processes[place].checkpoint_before()
     }
 
     pub(crate) fn process_count(&self) -> usize

@@ -1,5 +1,6 @@
 ghost use Rattle.std.specs.Prelude.{◌≡◌, slice_get, IfOk, OnOk};
 ghost use Rattle.std.specs.Option.{option_map};
+ghost use Rattle.computed_changes.specs.Changed.{change_done};
 ghost use Rattle.computed_changes.specs.Handed.{brought, handed_done, replied_done, replied_to};
 ghost use Rattle.computed_changes.specs.Laws.{NamesOpener};
 ghost use Rattle.process_copies.specs.number_ranges.specs.HasRoom.{WorldHasRoom};
@@ -11,6 +12,7 @@ ghost use Rattle.world_copies.specs.SiteWorld.{changed_by};
 ghost use Rattle.world_copies.specs.Told.{sent_in};
 
 use crate::copies::WorldCopies;
+use change_layout::ChangeMessage;
 use gd_words::{NoMemory, Reply};
 use process_copies::node_copies::StepOutcome;
 use sendings::{Message, TERMINAL_NODE};
@@ -45,6 +47,21 @@ impl WorldCopies {
                 Ok(step)
             }
         }
+    }
+
+    /// A checkpoint is handed over at a node as what changed since the one before it.
+    pub fn hand_change(&mut self, node: u8, change: &ChangeMessage) -> Result<StepOutcome, NoMemory>
+        ensures told { IfOk result (λ step. step_sendings step
+            ≡ sent_in (change_done self.old.site node change.now self.old.world)) }
+        ensures state { OnOk result (self.new ≡ changed_by self.old
+            (change_done self.old.site node change.now self.old.world)) }
+    {
+        let place = usize::from(change.process);
+        if place >= self.processes.len() {
+            return Ok(StepOutcome::Impossible);
+        }
+        let step = self.processes[place].change_in(node, change, &mut self.records)?;
+        Ok(step)
     }
 
     /// A reply goes to the opener that stands at its place.

@@ -29,5 +29,6 @@ mod turning;
 
 pub use copies::WorldCopies;
 pub use process_copies;
-pub use process_copies::node_copies;
+pub use process_copies::{file_calls, node_copies, process_control, processes};
+pub use sendings;
 pub use terminal::Terminal;

@@ -6,7 +6,7 @@ use Rattle.plain_semantics.specs.declared.slot.Opener.{Opener}
 use Rattle.plain_semantics.specs.Openers.{opener_of}
 use Rattle.process_semantics.specs.declared.point.Point.TheVariants as point
 use Rattle.process_semantics.specs.Process as process
-use Rattle.process_histories.specs.Served.{disc_site}
+use Rattle.takeover_laws.specs.process_histories.specs.Served.{disc_site}
 use Rattle.world_semantics.specs.World.{Pair, Terminal, terminal_node, copy_of}
 use Rattle.world_semantics.specs.declared.role.Role.TheVariants.{Acting}
 use Rattle.world_semantics.specs.declared.which.Which.{Which}

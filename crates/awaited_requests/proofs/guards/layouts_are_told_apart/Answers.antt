@@ -1,5 +1,5 @@
 use Rattle.std.proofs.Common.{refl, arith}
-use Rattle.process_histories.specs.Served.{disc}
+use Rattle.takeover_laws.specs.process_histories.specs.Served.{disc}
 use Rattle.awaited_requests.proofs.guards.layouts_are_told_apart.Goals as goal
 
 pub returns-clause-same : goal.returns-clause-same

@@ -9,6 +9,9 @@ returns-in-Ok-clause-within c = (read-exact c.args.words.now c.in-Ok.message c.i
 pub returns-in-Ok-clause-words : goal.returns-in-Ok-clause-words
 returns-in-Ok-clause-words c = (read-exact c.args.words.now c.in-Ok.message c.in-Ok.ensures).0
 
+pub returns-in-Err-NoMessage-clause-told : goal.returns-in-Err-NoMessage-clause-told
+returns-in-Err-NoMessage-clause-told c = sym (c.in-Err-NoMessage.ensures (λ memory. absurd (cc)))
+
 pub returns-in-Err-NoMessage-clause-none : goal.returns-in-Err-NoMessage-clause-none
 returns-in-Err-NoMessage-clause-none c message is same =
     let none : message_in c.args.words.now ≡ None = c.in-Err-NoMessage.ensures (λ memory. absurd (cc)) in

@@ -1,6 +1,6 @@
 use Rattle.std.proofs.Common.{◌≡◌, ◌-◌, ◌+◌, suc, sym, ◌∙◌, arith}
 use Rattle.change_layout.specs.Reading.{change_in}
-use Rattle.checkpoint_image.proofs.Turns.{turns}
+use Rattle.receive_changes.specs.checkpoint_image.proofs.Turns.{turns}
 use Rattle.change_layout.proofs.reading.many_changes.Goals as goal
 
 pub loop-turn-preserved : goal.loop-turn-preserved

@@ -1,7 +1,7 @@
 use Rattle.std.proofs.Common.{◌≡◌, ◌-◌}
-use Rattle.checkpoint_image.specs.Reading.{many_in}
+use Rattle.receive_changes.specs.checkpoint_image.specs.Reading.{many_in}
 use Rattle.change_layout.specs.Reading.{change_in}
-use Rattle.checkpoint_image.proofs.Turns.{after}
+use Rattle.receive_changes.specs.checkpoint_image.proofs.Turns.{after}
 use Rattle.change_layout.proofs.reading.many_changes.Given as goal
 
 abbrev pub invariant-loop-turn : goal.invariant-loop-turn

@@ -1,4 +1,4 @@
-use Rattle.site_machine.specs.packet_wires.specs.Play.{play}
+use Rattle.machine_views.specs.site_machine.specs.packet_wires.specs.Play.{play}
 use Rattle.event_findings.specs.Told.{noted_of}
 use Rattle.event_findings.proofs.Settled.{found_is, shown_is}
 use Rattle.event_findings.proofs.laws.what_is_found_is_told.Goals as goal

@@ -1,6 +1,6 @@
 use Rattle.std.proofs.Common.{ℕ, List, [], sym, subst}
 use Rattle.process_images.proofs.Everything.{everything-listed}
-use Rattle.processes.specs.Seen.{state_of}
+use Rattle.site_machine.specs.processes.specs.Seen.{state_of}
 use Rattle.whole_states.specs.Listing.{MayList}
 use Rattle.machine_views.proofs.process.image_of_everything.Goals as goal
 

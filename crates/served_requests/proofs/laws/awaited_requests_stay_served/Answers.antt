@@ -1,7 +1,7 @@
 use Rattle.std.proofs.Common.{length, arith}
 use Rattle.world_semantics.proofs.Reached.{run-marks, run-roles}
-use Rattle.takeover_laws.proofs.Kept.{IsGood, run-keeps}
-use Rattle.awaited_requests.proofs.Seats.{run-seats}
+use Rattle.letter_laws.specs.takeover_laws.proofs.Kept.{IsGood, run-keeps}
+use Rattle.letter_laws.specs.awaited_requests.proofs.Seats.{run-seats}
 use Rattle.served_requests.proofs.Played.{served-begins, plays-served}
 use Rattle.served_requests.proofs.laws.awaited_requests_stay_served.Goals as goal
 

@@ -2,7 +2,7 @@ use Rattle.std.proofs.Common.{◌<◌, ℕ, Option, ap, arith, subst, sym}
 use Rattle.packet_runs.specs.Runs.{packet_rules}
 use Rattle.schedule_loop.specs.Ends.{IsTriedBy}
 use Rattle.schedule_loop.specs.declared.ran.Ending.{Ending}
-use Rattle.site_machine.specs.Seen.{MachineStanding}
+use Rattle.packet_runs.specs.site_machine.specs.Seen.{MachineStanding}
 use Rattle.traced_runs.proofs.Ends.{ends_at_fault, ends_at_harm, run_ends}
 use Rattle.traced_runs.proofs.Tracing.{begins, few_told, goes_on, ready_told}
 use Rattle.traced_runs.proofs.running.played.Goals as goal

@@ -1,10 +1,10 @@
 use Rattle.std.proofs.Common.{◌∙◌, ap, false, subst, sym}
 use Rattle.packet_runs.specs.Runs.{course_on, packet_rules}
 use Rattle.schedule_loop.specs.Ends.{CanBePlayed}
-use Rattle.site_machine.specs.Needs.{IsReady}
-use Rattle.site_machine.specs.Seen.{MachineStanding}
-use Rattle.site_machine.specs.packet_wires.specs.Play.{packeted_at_boot}
-use Rattle.site_machine.specs.process_copies.specs.Starting.{IsStartable}
+use Rattle.packet_runs.specs.site_machine.specs.Needs.{IsReady}
+use Rattle.packet_runs.specs.site_machine.specs.Seen.{MachineStanding}
+use Rattle.packet_runs.specs.site_machine.specs.packet_wires.specs.Play.{packeted_at_boot}
+use Rattle.packet_runs.specs.site_machine.specs.process_copies.specs.Starting.{IsStartable}
 use Rattle.tal_tree.specs.declared.site.Site.{Site}
 use Rattle.traced_runs.specs.Traces.{Traces}
 use Rattle.traced_runs.proofs.Ends.{without_memory_at_first}

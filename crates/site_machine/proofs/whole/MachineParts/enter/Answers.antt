@@ -4,7 +4,8 @@ use Rattle.site_machine.proofs.whole.MachineParts.enter.Goals as goal
 
 pub tell-requires-clause-within : goal.tell-requires-clause-within
 tell-requires-clause-within c =
-    told-within _ (enter_done c.args.self.now.site c.args.terminal c.args.self.now.world) c.in_ok-step.ensures.told
+    told-within c.args.self.now _ _ (enter_done c.args.self.now.site c.args.terminal c.args.self.now.world)
+    c.in_ok-step.ensures.state c.in_ok-step.ensures.told
     (c.requires.messages.enters c.args.terminal)
 
 pub returns : goal.returns

@@ -1,8 +1,8 @@
 use Rattle.std.proofs.Common.{◌∙◌, ap, subst, sym}
 use Rattle.packet_wires.specs.Play.{Packeted, begun, marks}
 use Rattle.packet_wires.specs.Wires.{declares}
-use Rattle.event_parts.specs.Numbers.{CanPush}
-use Rattle.event_parts.specs.Parts.{carried_out}
+use Rattle.node.specs.event_parts.specs.Numbers.{CanPush}
+use Rattle.node.specs.event_parts.specs.Parts.{carried_out}
 use Rattle.site_machine.proofs.Turns.{can-marks, declared-after}
 use Rattle.site_machine.proofs.whole.MachineParts.mark_and_declare.Goals as goal
 

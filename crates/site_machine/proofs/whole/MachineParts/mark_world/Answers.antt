@@ -1,6 +1,6 @@
 use Rattle.std.proofs.Common.{subst, sym}
 use Rattle.packet_wires.specs.Play.{Packeted}
-use Rattle.world_copies.specs.Room.{AllWatchersHaveRoom}
+use Rattle.open_links.specs.world_copies.specs.Room.{AllWatchersHaveRoom}
 use Rattle.site_machine.proofs.whole.MachineParts.mark_world.Goals as goal
 
 pub mark-requires : goal.mark-requires

@@ -4,7 +4,8 @@ use Rattle.site_machine.proofs.whole.MachineParts.run.Goals as goal
 
 pub tell-requires-clause-within : goal.tell-requires-clause-within
 tell-requires-clause-within c =
-    told-within _ (run_done c.args.self.now.site c.args.number c.args.self.now.world) c.in_ok-step.ensures.told
+    told-within c.args.self.now _ _ (run_done c.args.self.now.site c.args.number c.args.self.now.world)
+    c.in_ok-step.ensures.state c.in_ok-step.ensures.told
     (c.requires.messages.runs c.args.number)
 
 pub returns : goal.returns

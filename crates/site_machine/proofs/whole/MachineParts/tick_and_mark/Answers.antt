@@ -4,8 +4,8 @@ use Rattle.machine_states.specs.States.{Settles}
 use Rattle.machine_states.specs.declared.effect.Effect.TheVariants as effect
 use Rattle.packet_wires.specs.message_wires.specs.Play.{has_stopped}
 use Rattle.packet_wires.specs.Play.{Packeted, ended, pulled}
-use Rattle.event_parts.specs.Numbers.{CanPush}
-use Rattle.world_copies.specs.Room.{AllWatchersHaveRoom}
+use Rattle.node.specs.event_parts.specs.Numbers.{CanPush}
+use Rattle.open_links.specs.world_copies.specs.Room.{AllWatchersHaveRoom}
 use Rattle.site_machine.specs.Needs.{MarksWithin}
 use Rattle.site_machine.specs.Told.{in_tick}
 use Rattle.site_machine.proofs.Ticks.{first-settles, ready-watching, running-pulled, stopped-pulled, stopped-watching}

@@ -1,0 +1,391 @@
+-- Every change keeps checkpoints a chain, to which copies stand.
+use Rattle.std.proofs.Common.{◌≡◌, inl, inr, ℕ, ◌==◌, ◌&&◌, ◌||◌, Bool, true, false, if◌then◌else◌, List, []}
+use Rattle.std.proofs.Common.{◌∷◌, is_some, Option, Some, None, slice_get, refl, sym, subst, ◌∙◌, eq-eqb}
+use Rattle.gd_words.specs.Members.{IsAmong}
+use Rattle.gd_words.specs.declared.message.Request.{Request}
+use Rattle.tal_tree.specs.declared.act.Act.{Act}
+use Rattle.tal_tree.specs.declared.site.ProcessSpec.{ProcessSpec}
+use Rattle.tal_tree.specs.declared.site.Site.{Site}
+use Rattle.schedule.specs.declared.event.Event.{Event}
+use Rattle.disc_device.specs.Sectors.{Stored}
+use Rattle.plain_semantics.specs.Openers.{openers_of}
+use Rattle.process_semantics.specs.Image.{restored}
+use Rattle.process_semantics.specs.Process.{ProcessState}
+use Rattle.checkpoint_image.specs.declared.message.Image.{Image}
+use Rattle.checkpoint_image.specs.declared.message.ImageMessage.{ImageMessage}
+use Rattle.checkpoint_image.specs.declared.receive.ReceiveBlock.{ReceiveBlock}
+use Rattle.receive_changes.specs.Later.{ComesTo, Same}
+use Rattle.world_semantics.specs.declared.role.Role.{Role}
+use Rattle.world_semantics.specs.declared.role.Role.TheVariants.{Acting, Watching, Gone}
+use Rattle.world_semantics.specs.declared.which.Which.{Which}
+use Rattle.world_semantics.specs.declared.which.Which.TheVariants.{First, Second}
+use Rattle.world_semantics.specs.Core.{Advances, Core, Deed, put_in, with_files}
+use Rattle.world_semantics.specs.Follows.{IsRun, stays}
+use Rattle.world_semantics.specs.Kept.{Enters, begins, holds_on, keeps, repeats}
+use Rattle.world_semantics.specs.Messages.{Cause, Sending}
+use Rattle.world_semantics.specs.Passes.{Passes, by_acknowledge, by_apply, by_pass, by_pass_again, by_send}
+use Rattle.world_semantics.specs.Passes.{checkpoint_of}
+use Rattle.world_semantics.specs.Rules.{Change, by_checkpoint, by_early_request, by_enter, by_mark, by_own, by_print}
+use Rattle.world_semantics.specs.Rules.{by_request, by_stop, pair_after_down, pair_at_down, stopped_pair, taker}
+use Rattle.world_semantics.specs.World.{Copy, Down, Pair, World, boot, copy_of, has_noted, pair_at_boot}
+use Rattle.world_semantics.specs.World.{with_copy}
+use Rattle.world_semantics.proofs.Beginning.{all-begin}
+use Rattle.world_semantics.proofs.Fair.{fair-of, run-fair}
+use Rattle.world_semantics.proofs.Hands.{Stands, map-some}
+use Rattle.world_semantics.proofs.Lists.{map-all, set-all}
+use Rattle.world_semantics.proofs.Reached.{one-acts, run-roles}
+use Rattle.world_semantics.proofs.Roles.{taker-is}
+use Rattle.world_semantics.proofs.Runs.{holds-on}
+use Rattle.computed_changes.specs.Fitting.{depths_of}
+use Rattle.letter_laws.proofs.Reached.{IsReached, change-reached}
+use Rattle.checkpoint_chains.specs.Chains.{AllChained, IsChained, StandsTo}
+use Rattle.checkpoint_chains.proofs.Following.{deed-comes, goes-on}
+use Rattle.checkpoint_chains.proofs.Numbered.{link-more}
+
+-- One copy
+
+module _ (depths : List ℕ) (sent : List ImageMessage) where
+  -- no processor is forgotten that was marked
+  noted-less : (before after : Bool) (role : Role) (number : ℕ) (table : ReceiveBlock)
+      → (after ≡ false → before ≡ false) → StandsTo depths sent before role number table
+      → StandsTo depths sent after role number table
+  noted-less before after role number table less st =
+      record { acts = λ acting unmarked. st.acts acting (less unmarked); watches = st.watches }
+
+  -- its processor may stop
+  stop-stands : (noted here : Bool) (role : Role) (number : ℕ) (table : ReceiveBlock)
+      → StandsTo depths sent noted role number table
+      → StandsTo depths sent noted (if here then Gone else role) number table
+  stop-stands noted true role number table st = record { acts = λ e. absurd cc; watches = λ e. absurd cc }
+  stop-stands noted false role number table st = st
+
+  -- it takes over where its node marks the other's processor
+  taken-stands : (noted : Bool) (table : ReceiveBlock) → noted ≡ true → StandsTo depths sent noted Acting 0 table
+  taken-stands noted table is =
+      record { acts = λ acting unmarked. absurd (let bad = sym is ∙ unmarked in cc); watches = λ e. absurd cc }
+
+  -- it goes on acting
+  acts-stand : (noted : Bool) (role : Role) (number : ℕ) (table next : ReceiveBlock) → role ≡ Acting
+      → ((base : ReceiveBlock) → ComesTo depths base table → ComesTo depths base next)
+      → StandsTo depths sent noted role number table → StandsTo depths sent noted role number next
+  acts-stand noted role number table next acting more st = record {
+    acts = λ e unmarked. goes-on depths sent number table next more (st.acts e unmarked);
+    watches = λ e. absurd (let bad = sym acting ∙ e in cc);
+  }
+
+  -- it applied one of the checkpoints
+  applied-stands : (noted : Bool) (role : Role) (message : ImageMessage) (table : ReceiveBlock) → role ≡ Watching
+      → IsAmong message sent → message.image.receive ≡ table
+      → StandsTo depths sent noted role message.number table
+  applied-stands noted role message table watching among same = record {
+    acts = λ e. absurd (let bad = sym watching ∙ e in cc);
+    watches = λ e. inr (message, among, refl, same);
+  }
+
+  -- the other one sent one more
+  more-stands : (noted : Bool) (role : Role) (number : ℕ) (table : ReceiveBlock) (message : ImageMessage)
+      → (role ≡ Acting → ⊥)
+      → StandsTo depths sent noted role number table → StandsTo depths (message ∷ sent) noted role number table
+  more-stands noted role number table message other st = record {
+    acts = λ acting unmarked. absurd (other acting);
+    watches = λ watching. elim (st.watches watching) [
+      | inl none ↦ inl none
+      | inr one ↦ inr (one.0, inr one.1, one.2, one.3)
+    ];
+  }
+
+  -- it sent one more itself
+  sent-stands : (noted : Bool) (role : Role) (number : ℕ) (table : ReceiveBlock) (message : ImageMessage)
+      → role ≡ Acting → number ≡ message.number → message.image.receive ≡ table
+      → StandsTo depths (message ∷ sent) noted role number table
+  sent-stands noted role number table message acting count same = record {
+    acts = λ e unmarked. (count, subst (λ (t : ReceiveBlock). ComesTo depths message.image.receive t) same Same);
+    watches = λ e. absurd (let bad = sym acting ∙ e in cc);
+  }
+
+-- the table of what a checkpoint was put into is that of the checkpoint
+applied-table : (core applied : Core) (image : Image) → put_in core image ≡ Some applied
+    → image.receive ≡ applied.receive
+applied-table core applied image is =
+    map-some (λ (state : ProcessState). record {
+      state = state;
+      next = with_files image.files core.next;
+      receive = image.receive;
+    }) (λ (one : Core). image.receive ≡ one.receive)
+    (restored core.state (is_some image.receive.in_hand) image.body) applied (λ state there. refl) is
+
+-- One process
+
+module _ (site : Site) (number : ℕ) (marks : List Down) (pair : Pair)
+    (ok : IsChained (depths_of site number) marks pair)
+    (one : pair.first.role ≡ Acting → pair.second.role ≡ Acting → ⊥)
+    (stands : (k : Which) → Stands (copy_of k pair).core.state (is_some (copy_of k pair).core.receive.in_hand)) where
+  abbrev depths : List ℕ
+  depths = depths_of site number
+
+  more-of : (k : Which) (core : Core) (deed : Deed) → Advances (openers_of site number) (copy_of k pair).core deed core
+      → (base : ReceiveBlock) → ComesTo depths base (copy_of k pair).core.receive → ComesTo depths base core.receive
+  more-of k core deed advances base came =
+      deed-comes (openers_of site number) (copy_of k pair).core core deed advances (stands k) base came
+
+  own-first : (entered : Copy) (core : Core) (waiting : List Request) (sectors : List Stored) (deed : Deed) {act : Act}
+      {kept after : List Act} → pair.first.role ≡ Acting
+      → Advances (openers_of site number) pair.first.core deed core → Enters number act kept pair.first entered after
+      → IsChained depths marks (with_copy First (record entered { core = core; waiting = waiting })
+      (record pair { sectors = sectors }))
+  own-first entered core waiting sectors deed acting advances (holds_on e) = (
+    ok.0,
+    (
+      acts-stand depths pair.checkpoints _ _ _ _ core.receive acting (more-of First core deed advances) ok.1.0,
+      ok.1.1,
+    ),
+  )
+  own-first entered core waiting sectors deed acting advances (repeats e l) = (
+    ok.0,
+    (
+      acts-stand depths pair.checkpoints _ _ _ _ core.receive acting (more-of First core deed advances) ok.1.0,
+      ok.1.1,
+    ),
+  )
+  own-first entered core waiting sectors deed acting advances (begins e l t) = (
+    ok.0,
+    (
+      acts-stand depths pair.checkpoints _ _ _ _ core.receive acting (more-of First core deed advances) ok.1.0,
+      ok.1.1,
+    ),
+  )
+  own-first entered core waiting sectors deed acting advances (keeps e l t) = (
+    ok.0,
+    (
+      acts-stand depths pair.checkpoints _ _ _ _ core.receive acting (more-of First core deed advances) ok.1.0,
+      ok.1.1,
+    ),
+  )
+
+  own-second : (entered : Copy) (core : Core) (waiting : List Request) (sectors : List Stored) (deed : Deed) {act : Act}
+      {kept after : List Act} → pair.second.role ≡ Acting
+      → Advances (openers_of site number) pair.second.core deed core → Enters number act kept pair.second entered after
+      → IsChained depths marks (with_copy Second (record entered { core = core; waiting = waiting })
+      (record pair { sectors = sectors }))
+  own-second entered core waiting sectors deed acting advances (holds_on e) = (
+    ok.0,
+    (
+      ok.1.0,
+      acts-stand depths pair.checkpoints _ _ _ _ core.receive acting
+          (more-of Second core deed advances) ok.1.1,
+    ),
+  )
+  own-second entered core waiting sectors deed acting advances (repeats e l) = (
+    ok.0,
+    (
+      ok.1.0,
+      acts-stand depths pair.checkpoints _ _ _ _ core.receive acting
+          (more-of Second core deed advances) ok.1.1,
+    ),
+  )
+  own-second entered core waiting sectors deed acting advances (begins e l t) = (
+    ok.0,
+    (
+      ok.1.0,
+      acts-stand depths pair.checkpoints _ _ _ _ core.receive acting
+          (more-of Second core deed advances) ok.1.1,
+    ),
+  )
+  own-second entered core waiting sectors deed acting advances (keeps e l t) = (
+    ok.0,
+    (
+      ok.1.0,
+      acts-stand depths pair.checkpoints _ _ _ _ core.receive acting
+          (more-of Second core deed advances) ok.1.1,
+    ),
+  )
+
+  own-chained : (k : Which) (entered : Copy) (core : Core) (waiting : List Request) (sectors : List Stored)
+      (deed : Deed) {act : Act} {kept after : List Act} → (copy_of k pair).role ≡ Acting
+      → Advances (openers_of site number) (copy_of k pair).core deed core
+      → Enters number act kept (copy_of k pair) entered after
+      → IsChained depths marks (with_copy k (record entered { core = core; waiting = waiting })
+      (record pair { sectors = sectors }))
+  own-chained First entered core waiting sectors deed acting advances enters =
+      own-first entered core waiting sectors deed acting advances enters
+  own-chained Second entered core waiting sectors deed acting advances enters =
+      own-second entered core waiting sectors deed acting advances enters
+
+  passes-chained : {kept after : List Act} {next : Pair} {cause : Cause} {sendings : List Sending}
+      → Passes number marks kept pair cause sendings next after → IsChained depths marks next
+  passes-chained (by_send First acting at unsent unmarked) =
+      let message : ImageMessage = checkpoint_of number pair.first in (
+        link-more depths pair.checkpoints pair.first.number pair.first.core.receive message ok.0
+            (ok.1.0.acts acting unmarked) refl refl,
+        (
+          sent-stands depths pair.checkpoints _ pair.first.role message.number pair.first.core.receive message acting
+              refl refl,
+          more-stands depths pair.checkpoints _ pair.second.role pair.second.number pair.second.core.receive message
+              (one acting) ok.1.1,
+        ),
+      )
+  passes-chained (by_send Second acting at unsent unmarked) =
+      let message : ImageMessage = checkpoint_of number pair.second in (
+        link-more depths pair.checkpoints pair.second.number pair.second.core.receive message ok.0
+            (ok.1.1.acts acting unmarked) refl refl,
+        (
+          more-stands depths pair.checkpoints _ pair.first.role pair.first.number pair.first.core.receive message
+              (λ first. one first acting) ok.1.0,
+          sent-stands depths pair.checkpoints _ pair.second.role message.number pair.second.core.receive message acting
+              refl refl,
+        ),
+      )
+  passes-chained (by_pass_again First acting at may less) = ok
+  passes-chained (by_pass_again Second acting at may less) = ok
+  passes-chained (by_pass First acting at may most) = ok
+  passes-chained (by_pass Second acting at may most) = ok
+  passes-chained (by_apply First message applied watching among era next put) = (
+    ok.0,
+    (
+      applied-stands depths pair.checkpoints _ pair.first.role message applied.receive watching among
+          (applied-table pair.first.core applied message.image put),
+      ok.1.1,
+    ),
+  )
+  passes-chained (by_apply Second message applied watching among era next put) = (
+    ok.0,
+    (
+      ok.1.0,
+      applied-stands depths pair.checkpoints _ pair.second.role message applied.receive watching among
+          (applied-table pair.second.core applied message.image put),
+    ),
+  )
+  passes-chained (by_acknowledge First taken acting sent among era same) = ok
+  passes-chained (by_acknowledge Second taken acting sent among era same) = ok
+
+  waiting-chained : (k : Which) (waiting : List Request)
+      → IsChained depths marks (with_copy k (record (copy_of k pair) { waiting = waiting }) pair)
+  waiting-chained First waiting = ok
+  waiting-chained Second waiting = ok
+
+  stop-chained : (processor : ℕ) → IsChained depths marks (stopped_pair processor pair)
+  stop-chained processor = (
+    ok.0,
+    (
+      stop-stands depths pair.checkpoints _ (pair.first.processor == processor) pair.first.role _ _ ok.1.0,
+      stop-stands depths pair.checkpoints _ (pair.second.processor == processor) pair.second.role _ _ ok.1.1,
+    ),
+  )
+
+  right-none : (a b : Bool) → (a || b) ≡ false → b ≡ false
+  right-none true b is = absurd cc
+  right-none false b is = is
+
+  abbrev marked : ℕ → ℕ → List Down
+  marked node processor = record { node = node; down = processor } ∷ marks
+
+  less : (node processor a b : ℕ) → has_noted (marked node processor) a b ≡ false → has_noted marks a b ≡ false
+  less node processor a b = right-none (node == a && processor == b) (has_noted marks a b)
+
+  -- after the mark all stand as before
+  marked-first : (node processor : ℕ) → StandsTo depths pair.checkpoints
+      (has_noted (marked node processor) pair.first.processor pair.second.processor) pair.first.role pair.first.number
+      pair.first.core.receive
+  marked-first node processor =
+      noted-less depths pair.checkpoints _ _ _ _ _ (less node processor pair.first.processor pair.second.processor)
+      ok.1.0
+
+  marked-second : (node processor : ℕ) → StandsTo depths pair.checkpoints
+      (has_noted (marked node processor) pair.second.processor pair.first.processor) pair.second.role
+      pair.second.number pair.second.core.receive
+  marked-second node processor =
+      noted-less depths pair.checkpoints _ _ _ _ _ (less node processor pair.second.processor pair.first.processor)
+      ok.1.1
+
+  now-noted : (node processor a b : ℕ) → a ≡ node → b ≡ processor → has_noted (marked node processor) a b ≡ true
+  now-noted node processor a b here lost = rw (eq-eqb node a (sym here), eq-eqb processor b (sym lost)) refl
+
+  mark-chained : (node processor : ℕ) (k : Option Which) → taker node processor pair ≡ k
+      → IsChained depths (marked node processor) (pair_after_down k pair)
+  mark-chained node processor None is = (ok.0, (marked-first node processor, marked-second node processor))
+  mark-chained node processor (Some First) is =
+      let takes = taker-is node processor pair First is in (
+        ok.0,
+        (
+          taken-stands depths pair.checkpoints _ pair.first.core.receive
+              (now-noted node processor pair.first.processor pair.second.processor takes.there takes.lost),
+          marked-second node processor,
+        ),
+      )
+  mark-chained node processor (Some Second) is =
+      let takes = taker-is node processor pair Second is in (
+        ok.0,
+        (
+          marked-first node processor,
+          taken-stands depths pair.checkpoints _ pair.second.core.receive
+              (now-noted node processor pair.second.processor pair.first.processor takes.there takes.lost),
+        ),
+      )
+
+-- All processes
+
+module _ (site : Site) (w : World) (reached : IsReached site w) (all : AllChained site w) where
+  abbrev Of : List Down → ℕ → Pair → Type 0
+  Of marks number pair = IsChained (depths_of site number) marks pair
+
+  one-of : (number : ℕ) (pair : Pair) → slice_get w.processes number ≡ Some pair
+      → pair.first.role ≡ Acting → pair.second.role ≡ Acting → ⊥
+  one-of number pair there = one-acts w.stopped pair (run-roles reached.1 number pair there)
+
+  stands-of : (number : ℕ) (pair : Pair) → slice_get w.processes number ≡ Some pair → (k : Which)
+      → Stands (copy_of k pair).core.state (is_some (copy_of k pair).core.receive.in_hand)
+  stands-of number pair there k = (fair-of number w.replies k pair (run-fair reached.1 number pair there)).core.stands
+
+  chained-after : (next : World) (cause : Cause) (sendings : List Sending) → Change site w cause sendings next
+      → AllChained site next
+  chained-after next cause sendings (by_own {deed = deed} {core = core} {entered = entered} number k pair there acting
+      causes advances enters) =
+      set-all (Of w.marks) w.processes number _ all
+      (own-chained site number w.marks pair (all number pair there) (one-of number pair there)
+      (stands-of number pair there) k entered core _ _ deed acting advances enters)
+  chained-after next cause sendings (by_checkpoint number pair there passes) =
+      set-all (Of w.marks) w.processes number _ all
+      (passes-chained site number w.marks pair (all number pair there) (one-of number pair there)
+      (stands-of number pair there) passes)
+  chained-after next cause sendings (by_request request k pair sent there acting) =
+      set-all (Of w.marks) w.processes request.process _ all
+      (waiting-chained site request.process w.marks pair (all request.process pair there)
+      (one-of request.process pair there) (stands-of request.process pair there) k _)
+  chained-after next cause sendings (by_early_request request k pair sent there watching) =
+      set-all (Of w.marks) w.processes request.process _ all
+      (waiting-chained site request.process w.marks pair (all request.process pair there)
+      (one-of request.process pair there) (stands-of request.process pair there) k _)
+  chained-after next cause sendings (by_enter number terminal opener there even is opens) = all
+  chained-after next cause sendings (by_print number terminal reply there odd sent opens is) = all
+  chained-after next cause sendings (by_stop processor alive) =
+      map-all (Of w.marks) (stopped_pair processor) w.processes
+      (λ number pair there. stop-chained site number w.marks pair (all number pair there) (one-of number pair there)
+      (stands-of number pair there) processor)
+  chained-after next cause sendings (by_mark node processor down alive unmarked) =
+      map-all (Of (record { node = node; down = processor } ∷ w.marks)) (pair_at_down node processor) w.processes
+      (λ number pair there. mark-chained site number w.marks pair (all number pair there) (one-of number pair there)
+      (stands-of number pair there) node processor (taker node processor pair) refl)
+
+-- Runs
+
+chained-begin : (site : Site) → AllChained site (boot site)
+chained-begin site =
+    all-begin (λ number pair. IsChained (depths_of site number) [] pair) site begins
+  where
+    begins : (number from : ℕ) (spec : ProcessSpec)
+        → IsChained (depths_of site number) [] (pair_at_boot site from spec)
+    begins number from spec = (
+      tt,
+      (
+        record { acts = λ acting unmarked. refl; watches = λ e. absurd cc },
+        record { acts = λ e. absurd cc; watches = λ watching. inl refl },
+      ),
+    )
+
+pub run-chained : (site : Site) (events : List Event) (w : World) → IsRun site events w → AllChained site w
+run-chained site events w run =
+    (holds-on (λ (one : World). IsReached site one × AllChained site one)
+    (λ one next cause sendings change known. (
+      change-reached one next cause sendings change known.0,
+      chained-after site one known.0 known.1 next cause sendings change,
+    )) run (([], stays), chained-begin site)).1

@@ -1,0 +1,11 @@
+pub mod Answered
+pub mod Asked
+pub mod Coming
+pub mod Copies
+pub mod Got
+pub mod Lists
+pub mod Marks
+pub mod Messages
+pub mod Once
+pub mod Stops
+pub mod Taken

@@ -1,0 +1,2 @@
+pub use Rattle.message_wires
+pub use Rattle.number_ranges

@@ -1,0 +1,14 @@
+use Rattle.std.proofs.Common.{◌∙◌, refl}
+use Rattle.node_needs.specs.NodeNeeds.{awaited_at}
+use Rattle.open_links.specs.Parts.{awaited_of}
+use Rattle.open_links.proofs.Gathered.{process-step}
+use Rattle.open_links.proofs.telling.awaited.Goals as goal
+
+pub loop-process-preserved : goal.loop-process-preserved
+loop-process-preserved c =
+    c.loop-process.invariant
+    ∙ process-step (awaited_of c.args.node) c.args.processes.now c.loop-process.process-index c.process-item.result
+    c.loop-process.requests c.add_awaited.new.requests
+    (awaited_at c.process-item.result.site c.args.node c.process-item.result.number c.process-item.result.pair.first)
+    (awaited_at c.process-item.result.site c.args.node c.process-item.result.number c.process-item.result.pair.second)
+    c.loop-process-test.true c.process-item.is refl c.in_ok-add_awaited.ensures

@@ -1,0 +1,8 @@
+use Rattle.packets_laws.proofs.Newest.{first-goes, later-goes}
+use Rattle.packets_laws.proofs.laws.later_checkpoints_go_as_what_changed.Goals as goal
+
+pub returns : goal.returns
+returns c = record {
+  first = λ site events w message run newest is. first-goes w run message is;
+  later = λ site events w message run newest later. later-goes w run message newest later;
+}

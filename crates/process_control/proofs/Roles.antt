@@ -1,0 +1,70 @@
+-- What a checkpoint that came as what changed does to a copy, role by role.
+use Rattle.std.proofs.Common.{◌≡◌, ℕ, ◌+◌, ◌==◌, ◌&&◌, Bool, true, false, List, Option, None, refl, ◌∙◌}
+use Rattle.std.specs.Option.{option_and_then}
+use Rattle.change_layout.specs.Changing.{whole_of, whole_where}
+use Rattle.change_layout.specs.declared.message.ChangeMessage.{ChangeMessage}
+use Rattle.checkpoint_image.specs.declared.message.ImageMessage.{ImageMessage}
+use Rattle.sync_ids.specs.Changes.{add_few, changed, fits_change}
+use Rattle.sync_ids.specs.Tables.{Remembered, fits}
+use Rattle.sync_ids.specs.declared.change.ReceiveChange.{ReceiveChange}
+use Rattle.sync_ids.proofs.Tables.{and-right}
+use Rattle.world_semantics.specs.declared.role.Role.{Role}
+use Rattle.world_semantics.specs.declared.role.Role.TheVariants.{Acting, Watching, Gone}
+use Rattle.world_semantics.specs.Core.{Core}
+use Rattle.computed_changes.specs.Changed.{core_as_changed}
+use Rattle.computed_changes.specs.Checkpoints.{core_as, core_where}
+use Rattle.computed_changes.specs.Fitting.{put_fitting}
+use Rattle.process_control.specs.Changing.{changing_where}
+
+-- the table that comes of a change which fits does so too
+pub fits_whole : (r : Remembered) (change : ReceiveChange) → fits_change r change ≡ true
+    → fits r (changed r.depths r.table change) ≡ true
+fits_whole r change is = and-right (add_few r.depths 0 change.changes) (fits r (changed r.depths r.table change)) is
+
+module _ (depths : List ℕ) (era number : ℕ) (core : Core) (change : ChangeMessage) where
+  abbrev fit : Bool
+  fit = fits_change (record { table = core.receive; depths = depths }) change.image.receive
+
+  none : (role : Role) (b : Bool)
+      → ((message : ImageMessage) → core_as depths era number core message role ≡ None)
+      → option_and_then (λ message. core_as depths era number core message role)
+      (whole_where depths core.receive change b) ≡ None
+  none role true all = all (whole_of depths core.receive change)
+  none role false all = refl
+
+  pub acting : core_as_changed depths era number core change Acting ≡ None
+  acting = none Acting fit (λ message. refl)
+
+  pub gone : core_as_changed depths era number core change Gone ≡ None
+  gone = none Gone fit (λ message. refl)
+
+  abbrev by_next : Bool → Bool → Option Core
+  by_next b true =
+      option_and_then (λ message. put_fitting depths core message.image) (whole_where depths core.receive change b)
+  by_next b false = None
+
+  -- told of whether the change fits, and whether it is the next one
+  where_next : (b next : Bool) → option_and_then (λ message. core_where depths core message next)
+      (whole_where depths core.receive change b) ≡ by_next b next
+  where_next true true = refl
+  where_next true false = refl
+  where_next false true = refl
+  where_next false false = refl
+
+  by_where : (next : Bool) → by_next fit next ≡ changing_where depths core change next
+  by_where true = refl
+  by_where false = refl
+
+  abbrev is_next : Bool
+  is_next = change.era == era && change.number == number + 1
+
+  -- whole, it has the same era and number
+  as_next : (b : Bool) → option_and_then (λ message. core_as depths era number core message Watching)
+      (whole_where depths core.receive change b)
+      ≡ option_and_then (λ message. core_where depths core message is_next) (whole_where depths core.receive change b)
+  as_next true = refl
+  as_next false = refl
+
+  pub watching : core_as_changed depths era number core change Watching
+      ≡ changing_where depths core change (change.era == era && change.number == number + 1)
+  watching = as_next fit ∙ where_next fit is_next ∙ by_where is_next
