@@ -1,0 +1,12 @@
+mod Asking
+mod Commuting
+mod Deeds
+mod Factored
+mod Found
+mod Frames
+mod Kept
+mod Orderly
+mod Showing
+mod Turns
+mod Verdicts
+mod Views
