@@ -1,8 +1,10 @@
 ghost use Rattle.std.specs.Prelude.{◌≡◌, [], ◌∷◌, ◌++◌, codes, Some, None};
 ghost use Rattle.std.specs.Fmt.{decimal};
 ghost use Rattle.break_guards.specs.Sites.{replied, site, written};
-ghost use Rattle.break_text.specs.BreakText.{kept_text, line_text, runs_of, search_text, stop_text};
-ghost use Rattle.break_text.specs.BreakText.{wrong_text};
+ghost use Rattle.break_text.specs.BreakText.{kept_text, line_text, search_text, stop_text, wrong_text};
+ghost use Rattle.break_text.specs.break_runs.specs.Meanwhile.{sound_runs};
+ghost use Rattle.break_text.specs.break_runs.specs.break_progress.specs.Progress.{progress_text, runs_of, told_after};
+ghost use Rattle.break_text.specs.break_runs.specs.break_progress.specs.Progress.{tried_line};
 ghost use Rattle.break_text.specs.unfailing_judge.specs.declared.wrong.Wrong.TheVariants as wrong;
 ghost use Rattle.tal_tree.specs.declared.act.Act.TheVariants.{Step, Take, Enter, Print};
 
@@ -14,6 +16,27 @@ pub fn runs_that_dont_break_are_counted()
         ++ (codes "  with each processor stopped before each of the first " ++ decimal 1000
         ++ codes " events; the run with no stop asks for " ++ decimal 1200 ++ 10 ∷ [])
         ++ (codes "  the checker looks at paths and not at values: a refused program may never go wrong" ++ 10 ∷ []) }
+{}
+
+/// How far a search is is told after each hundred runs that don't break.
+pub fn how_far_a_search_is_is_told()
+    ensures few { progress_text 889 99 ≡ [] }
+    ensures between { told_after 889 150 ≡ [] }
+    ensures hundred { told_after 889 100 ≡ tried_line 889 100 }
+    ensures another { told_after 889 800 ≡ tried_line 889 800 }
+    ensures line { tried_line 889 100 ≡ ((decimal 100 ++ codes " of ") ++ decimal 889)
+        ++ (codes " runs are tried, and none of them breaks" ++ 10 ∷ []) }
+{}
+
+/// The runs that don't break are counted up to the one that does: that with no stop comes first, and then those of each
+/// processor in turn.
+pub fn runs_are_counted_up_to_a_break()
+    ensures none { sound_runs 3 296 None ≡ 889 }
+    ensures first { sound_runs 3 296 (Some (record { stop = None; wrong = wrong.Left })) ≡ 0 }
+    ensures later { sound_runs 3 296 (Some (record {
+      stop = Some (record { processor = 1; after = 46 });
+      wrong = wrong.Left;
+    })) ≡ 343 }
 {}
 
 /// A run that breaks is told by its stop.

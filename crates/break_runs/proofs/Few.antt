@@ -17,7 +17,7 @@ use Rattle.schedule_runs.proofs.Played.{played}
 use Rattle.schedule_runs.specs.Ends.{EndsAs}
 use Rattle.schedule_runs.specs.declared.ran.Ending.{Ending}
 use Rattle.schedule_runs.specs.declared.ran.Ending.TheVariants.{Idle, Cut, Second, Lost}
-use Rattle.world_copies.specs.Closed.{closed_world}
+use Rattle.schedule_runs.specs.world_copies.specs.Closed.{closed_world}
 use Rattle.world_semantics.specs.Kept.{acts_of, closed, held_by}
 use Rattle.world_semantics.specs.Shares.{let_go}
 use Rattle.world_semantics.specs.World.{Pair, World}

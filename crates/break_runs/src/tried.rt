@@ -1,6 +1,6 @@
 //! One run, with a stop or without.
 ghost use Rattle.std.specs.Prelude.{◌≡◌, ◌<◌, IfOk, length};
-ghost use Rattle.plain_machine.specs.Standing.{IsPlayable};
+ghost use Rattle.unfailing_judge.specs.plain_machine.specs.Standing.{IsPlayable};
 ghost use Rattle.schedule_runs.specs.pair_machine.specs.process_copies.specs.Starting.{IsStartable};
 ghost use Rattle.schedule_runs.specs.Lengths.{AsksForFewEvents};
 ghost use Rattle.world_semantics.specs.Kept.{closed};
@@ -11,11 +11,11 @@ use gd_words::NoMemory;
 use logs::Shared;
 use player::ProcessorStop;
 use schedule::Line;
+use schedule_runs::world_copies::laws::a_closed_world_has_the_closed_run;
 use schedule_runs::{Ending, Ran, run};
 use std::alloc::Global;
 use tal_tree::Site;
 use unfailing_judge::{Wrong, wrong_in};
-use world_copies::laws::a_closed_world_has_the_closed_run;
 
 /// What goes wrong in a run with this stop, if anything does.
 pub(crate) fn tried(

@@ -1,5 +1,5 @@
 -- What came of a search for a run that goes wrong, as text. Our own wording.
-use Rattle.std.specs.Prelude.{ℕ, ◌+◌, ◌*◌, List, [], ◌∷◌, ◌++◌, codes, Option, Some, None}
+use Rattle.std.specs.Prelude.{ℕ, List, [], ◌∷◌, ◌++◌, codes, Option, Some, None}
 use Rattle.std.specs.Fmt.{decimal}
 use Rattle.player.specs.declared.stop.ProcessorStop.{ProcessorStop}
 use Rattle.tal_tree.specs.declared.act.Act.{Act}
@@ -11,6 +11,7 @@ use Rattle.unfailing_judge.specs.declared.wrong.Apart.{Apart}
 use Rattle.unfailing_judge.specs.declared.wrong.Stuck.{Stuck}
 use Rattle.unfailing_judge.specs.declared.wrong.Wrong.{Wrong}
 use Rattle.unfailing_judge.specs.declared.wrong.Wrong.TheVariants as wrong
+use Rattle.break_runs.specs.break_progress.specs.Progress.{runs_of}
 use Rattle.break_runs.specs.declared.found.Break.{Break}
 use Rattle.break_runs.specs.declared.found.Search.{Search}
 
@@ -83,10 +84,6 @@ abbrev pub break_text : Site → Break → List ℕ
 break_text site found = stop_text found.stop ++ wrong_text site found.wrong
 
 -- None breaks
-
--- how many runs were tried: the one with no stop, and for each processor one for each place
-abbrev pub runs_of : ℕ → ℕ → ℕ
-runs_of processors places = 1 + processors * places
 
 abbrev pub asked_text : ℕ → ℕ → List ℕ
 asked_text asked places =

@@ -1,8 +1,9 @@
 ghost use Rattle.std.specs.Prelude.{◌≡◌, ◌++◌, OnOk};
-ghost use Rattle.break_text.specs.BreakText.{asked_text, runs_of, search_text, tried_text, unbroken_text};
+ghost use Rattle.break_text.specs.BreakText.{asked_text, search_text, tried_text, unbroken_text};
 
 use crate::broken::put_break;
 use break_runs::Search;
+use break_runs::break_progress::runs_of;
 use gd_words::{List, NoMemory};
 use std::alloc::Global;
 use tal_tree::Site;
@@ -33,13 +34,6 @@ fn put_unbroken(text: &mut List<u8>, site: &Site, asked: u64, places: u32) -> Re
         text,
         b"  the checker looks at paths and not at values: a refused program may never go wrong\n",
     )
-}
-
-/// How many runs were tried: the one with no stop, and for each processor one for each place.
-fn runs_of(processors: u8, places: u32) -> u64
-    ensures { result ≡ runs_of processors places }
-{
-    1 + u64::from(processors) * u64::from(places)
 }
 
 fn put_tried(text: &mut List<u8>, runs: u64) -> Result<(), NoMemory>

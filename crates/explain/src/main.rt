@@ -1,8 +1,8 @@
 //! The program `explain`: the words of the command line, the file that they name or standard input, standard output,
-//! and the top call of `explain_runner`.
+//! standard error for how far the search of `break` is, and the top call of `explain_runner`.
 //!
 //! Below stand `explain_runner`, whose `exit_number` does all the work, `explain_words` with the file's name, and
-//! `gd_io` with the ends. Nothing is written to standard error.
+//! `gd_io` with the ends.
 #![tactic(auto)]
 
 use explain_runner::exit_number;
@@ -40,17 +40,30 @@ fn main(rt: HostRuntime) -> ExitCode {
         return ExitCode::from(NO_MEMORY);
     };
     let mut sink = StdSink::new(rt.stdout());
+    let mut progress = StdSink::new(rt.stderr());
     match file {
         None => {
             let mut source = StdSource::new(rt.stdin());
-            let number = exit_number(rt.alloc(), words.as_slice(), &mut source, &mut sink);
+            let number = exit_number(
+                rt.alloc(),
+                words.as_slice(),
+                &mut source,
+                &mut sink,
+                &mut progress,
+            );
             ExitCode::from(number)
         }
         Some(path) => match fs::open(&rt, path) {
             Err(_) => ExitCode::from(READ_FAULT),
             Ok(opened) => {
                 let mut source = StdSource::new(opened);
-                let number = exit_number(rt.alloc(), words.as_slice(), &mut source, &mut sink);
+                let number = exit_number(
+                    rt.alloc(),
+                    words.as_slice(),
+                    &mut source,
+                    &mut sink,
+                    &mut progress,
+                );
                 ExitCode::from(number)
             }
         },

@@ -1,4 +1,4 @@
 pub mod Decided
 pub mod Ends
 pub mod Written
-pub use Rattle.traced_decks
+pub use Rattle.explain_chart.specs.traced_decks

@@ -9,15 +9,20 @@ use Rattle.explain_decks.specs.declared.status.Status.TheVariants as status
 use Rattle.gd_io.specs.Puts.{Puts}
 use Rattle.gd_io.specs.declared.writing.WriteFault.{WriteFault}
 use Rattle.fault_text.specs.trace_print.specs.FaultLine.{IsOfDeck, fault_line}
-use Rattle.traced_decks.specs.traced_runs.specs.Traces.{Traces}
-use Rattle.traced_decks.specs.traced_runs.specs.declared.fault.TraceFault.{TraceFault}
-use Rattle.traced_decks.specs.traced_runs.specs.declared.fault.TraceFault.TheVariants as fault
-use Rattle.traced_decks.specs.traced_runs.specs.packet_runs.specs.declared.ran.Ran.{Ran}
+use Rattle.explain_chart.specs.traced_decks.specs.traced_runs.specs.Traces.{Traces}
+use Rattle.explain_chart.specs.traced_decks.specs.traced_runs.specs.declared.fault.TraceFault.{TraceFault}
+use Rattle.explain_chart.specs.traced_decks.specs.traced_runs.specs.declared.fault.TraceFault.TheVariants as fault
+use Rattle.explain_chart.specs.traced_decks.specs.traced_runs.specs.packet_runs.specs.declared.ran.Ran.{Ran}
 use Rattle.verdicts.specs.Refused.{AreAccepted}
 
 -- where the deck doesn't have the processor that is to stop
 abbrev pub no_processor_line : List ℕ
 no_processor_line = codes "usage: --fail P:K stops a processor P that the deck has" ++ 10 ∷ []
+
+-- where a chart has no room for all events
+abbrev pub too_long_line : List ℕ
+too_long_line =
+    codes "usage: a chart has room for 400 events; --from E and --to E ask for fewer" ++ 10 ∷ []
 
 -- a deck that bytes spell, and all of whose programs are accepted
 pub record CanBeRun (run : TracedDeck) : Type 0 where
@@ -30,6 +35,7 @@ CanBeWritten (due.Refused refused) = IsOfDeck refused.fault
 CanBeWritten (due.Runs run) = CanBeRun run
 CanBeWritten (due.Judged judged) = Unit {0}
 CanBeWritten due.NoProcessor = Unit {0}
+CanBeWritten due.ChartTooLong = Unit {0}
 CanBeWritten due.ReadFault = Unit {0}
 CanBeWritten (due.NoMemory memory) = Unit {0}
 
@@ -68,6 +74,8 @@ module _ {K : Type 0} (held : K → Option (List ℕ)) (failed : K → ℕ) (sur
   Comes (due.Runs run) sink sink_now outcome = IsTraced run sink sink_now outcome
   Comes due.NoProcessor sink sink_now outcome =
       IsWritten no_processor_line status.NoProcessor sink sink_now outcome
+  Comes due.ChartTooLong sink sink_now outcome =
+      IsWritten too_long_line status.ChartTooLong sink sink_now outcome
   Comes (due.Refused refused) sink sink_now outcome =
       IsWritten (refused.told ++ fault_line refused.fault) (status.Refused refused.fault) sink sink_now outcome
   Comes due.ReadFault sink sink_now outcome = IsWritten [] status.ReadFault sink sink_now outcome
@@ -77,6 +85,7 @@ module _ {K : Type 0} (held : K → Option (List ℕ)) (failed : K → ℕ) (sur
 abbrev pub status_number : Status → ℕ
 status_number status.Done = 0
 status_number status.NoProcessor = 1
+status_number status.ChartTooLong = 1
 status_number (status.Refused fault) = 2
 status_number status.ProgramRefused = 3
 status_number status.ReadFault = 6

@@ -1,8 +1,9 @@
-ghost use Rattle.std.specs.Prelude.{◌≡◌, ◌≢◌, ◌≤◌, ◌<◌, length, IfOk};
+ghost use Rattle.std.specs.Prelude.{◌≡◌, ◌≢◌, ◌≤◌, ◌<◌, ℕ, List as Items, length, IfOk};
 ghost use Rattle.std.specs.Io.KnownBytes.{IsAtEnd};
 ghost use Rattle.deck_reader.specs.Decks.{Decks};
+ghost use Rattle.explain_break.specs.break_progress.specs.Progress.{GoesOut};
 ghost use Rattle.explain_decks.specs.Decided.{IsDueOfBytes, IsDueOfDeck, IsDueOfFault, IsDueOfSource, IsDueOfTrace};
-ghost use Rattle.explain_decks.specs.Decided.{IsOfWholeDeck, can_stop, due_of_told, has_processor};
+ghost use Rattle.explain_decks.specs.Decided.{IsOfWholeDeck, can_stop, due_of_chart, due_of_told, has_processor};
 ghost use Rattle.explain_decks.specs.Written.{CanBeWritten};
 ghost use Rattle.explain_left.specs.explain_why.specs.Judged.{IsJudgedDeck};
 ghost use Rattle.verdicts.specs.Refused.{AreAccepted};
@@ -11,50 +12,68 @@ use crate::due::{Due, RefusedDeck, TracedDeck};
 use crate::telling::Telling;
 use deck_reader::{Deck, read_deck};
 use explain_break::break_deck;
+use explain_chart::traced_decks::{Manner, places_of};
+use explain_chart::{ChartFault, chart_deck};
 use explain_left::explain_why::{
     JudgedDeck, judged_deck, programs_of_a_deck_can_be_judged, unrefused_programs_are_accepted,
 };
 use explain_left::left_deck;
 use fault_text::told_text;
-use gd_io::{Source, SourceFault, read_all};
+use gd_io::{Sink, Source, SourceFault, read_all};
 use gd_words::NoMemory;
 use player::ProcessorStop;
 use std::alloc::Global;
 use tal_tree::DeckFault;
-use traced_decks::{Manner, places_of};
 
 /// A deck has at most this many bytes.
 const MOST_BYTES: usize = 1_048_576;
 
-/// What is due of the bytes of a source. All memory is taken here.
-pub fn due_of_source<S: Source>(alloc: Global, telling: Telling, source: &mut S) -> Due
-    ensures due { IsDueOfSource telling (S.left source.old) (S.faults source.old) (S.faults source.new) result }
+/// What is due of the bytes of a source. All memory is taken here. How far a search is goes to `progress` meanwhile.
+pub fn due_of_source<S: Source, P: Sink>(
+    alloc: Global,
+    telling: Telling,
+    source: &mut S,
+    progress: &mut P,
+) -> Due
+    ensures due { (meanwhile : Items ℕ)
+        × GoesOut P.held P.faults P.sure progress.old progress.new meanwhile
+        × IsDueOfSource telling (S.left source.old) (S.faults source.old) (S.faults source.new) meanwhile result }
     ensures written { CanBeWritten result }
     ensures unfailing { S.sure source.old → result ≢ Due.ReadFault }
     ensures read_whole { IsOfWholeDeck result → IsAtEnd (S.left source.new) }
 {
     match read_all(alloc, source, MOST_BYTES) {
-        Ok(bytes) => due_of_bytes(alloc, telling, bytes.as_slice()),
+        Ok(bytes) => due_of_bytes(alloc, telling, bytes.as_slice(), progress),
         Err(SourceFault::Failed) => Due::ReadFault,
         Err(SourceFault::TooLong) => due_of_fault(alloc, &[], DeckFault::TooLong),
         Err(SourceFault::NoMemory(memory)) => Due::NoMemory(memory),
     }
 }
 
-fn due_of_bytes(alloc: Global, telling: Telling, bytes: &[u8]) -> Due
-    ensures due { IsDueOfBytes telling bytes.now result }
+fn due_of_bytes<P: Sink>(alloc: Global, telling: Telling, bytes: &[u8], progress: &mut P) -> Due
+    ensures due { (meanwhile : Items ℕ)
+        × GoesOut P.held P.faults P.sure progress.old progress.new meanwhile
+        × IsDueOfBytes telling bytes.now meanwhile result }
     ensures written { CanBeWritten result }
 {
     match read_deck(alloc, bytes) {
-        Ok(deck) => due_of_deck(alloc, telling, bytes, deck),
+        Ok(deck) => due_of_deck(alloc, telling, bytes, deck, progress),
         Err(fault) => due_of_fault(alloc, bytes, fault),
     }
 }
 
-fn due_of_deck(alloc: Global, telling: Telling, bytes: &[u8], deck: Deck) -> Due
+fn due_of_deck<P: Sink>(
+    alloc: Global,
+    telling: Telling,
+    bytes: &[u8],
+    deck: Deck,
+    progress: &mut P,
+) -> Due
     requires spelt { Decks bytes.now deck }
     requires few { length bytes.now ≤ 1048576 }
-    ensures due { IsDueOfDeck telling bytes.now deck result }
+    ensures due { (meanwhile : Items ℕ)
+        × GoesOut P.held P.faults P.sure progress.old progress.new meanwhile
+        × IsDueOfDeck telling bytes.now deck meanwhile result }
     ensures written { CanBeWritten result }
 {
     if !can_stop(telling, deck.site.processors) {
@@ -63,8 +82,9 @@ fn due_of_deck(alloc: Global, telling: Telling, bytes: &[u8], deck: Deck) -> Due
     match telling {
         Telling::Why => due_of_told(why_told(alloc, bytes, &deck)),
         Telling::Left(stop) => due_of_told(left_deck(alloc, bytes, deck, stop)),
-        Telling::Breaks => due_of_told(break_deck(alloc, bytes, deck)),
+        Telling::Breaks => due_of_told(break_deck(alloc, bytes, deck, progress)),
         Telling::Trace { stop, manner } => due_of_trace(alloc, bytes, deck, stop, manner),
+        Telling::Chart { stop, scope } => due_of_chart(chart_deck(alloc, bytes, deck, stop, scope)),
     }
 }
 
@@ -77,6 +97,7 @@ fn can_stop(telling: Telling, processors: u8) -> bool
         Telling::Left(stop) => has_processor(stop, processors),
         Telling::Breaks => true,
         Telling::Trace { stop, manner: _ } => has_processor(stop, processors),
+        Telling::Chart { stop, scope: _ } => has_processor(stop, processors),
     }
 }
 
@@ -105,6 +126,17 @@ fn due_of_told(told: Result<JudgedDeck, NoMemory>) -> Due
     match told {
         Err(memory) => Due::NoMemory(memory),
         Ok(judged) => Due::Judged(judged),
+    }
+}
+
+/// What is due where the chart of a deck was drawn, or there is none.
+fn due_of_chart(told: Result<JudgedDeck, ChartFault>) -> Due
+    ensures { result ≡ due_of_chart told }
+{
+    match told {
+        Ok(judged) => Due::Judged(judged),
+        Err(ChartFault::TooLong) => Due::ChartTooLong,
+        Err(ChartFault::NoMemory(memory)) => Due::NoMemory(memory),
     }
 }
 

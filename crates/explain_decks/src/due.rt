@@ -1,9 +1,9 @@
 use deck_reader::Deck;
+use explain_chart::traced_decks::{Manner, Places};
 use explain_left::explain_why::JudgedDeck;
 use gd_words::{List, NoMemory};
 use player::ProcessorStop;
 use tal_tree::DeckFault;
-use traced_decks::{Manner, Places};
 
 /// What is due once all is decided and nothing is written yet.
 #[derive(Drop)]
@@ -14,6 +14,9 @@ pub enum Due {
     Runs(TracedDeck),
     /// The bytes are a deck that doesn't have the processor which is to stop.
     NoProcessor,
+    /// The bytes are a deck whose programs are accepted, and more of its events are to be drawn than a chart has room
+    /// for.
+    ChartTooLong,
     Refused(RefusedDeck),
     ReadFault,
     NoMemory(NoMemory),

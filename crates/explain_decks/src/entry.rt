@@ -9,38 +9,41 @@ use crate::decide::due_of_source;
 use crate::due::{Due, RefusedDeck, TracedDeck};
 use crate::status::Status;
 use crate::telling::Telling;
+use explain_chart::traced_decks::{TraceFault, trace_deck};
 use fault_text::write_why;
 use gd_io::{Sink, Source, WriteFault, put_all};
 use std::alloc::Global;
-use traced_decks::{TraceFault, trace_deck};
 
 /// Tells of a deck as `tell` does, and answers the number of its status, with which the program ends.
-pub fn tell_number<S: Source, K: Sink>(
+pub fn tell_number<S: Source, K: Sink, P: Sink>(
     alloc: Global,
     telling: Telling,
     source: &mut S,
     sink: &mut K,
+    progress: &mut P,
 ) -> u8
     ensures { (status : Status)
-        × TellEnds S.left S.faults S.sure K.held K.faults K.sure telling source.old source.new sink.old sink.new status
+        × TellEnds S.left S.faults S.sure K.held K.faults K.sure P.held P.faults P.sure telling source.old source.new
+        sink.old sink.new progress.old progress.new status
         × (result ≡ status_number status) }
 {
-    tell(alloc, telling, source, sink).number()
+    tell(alloc, telling, source, sink, progress).number()
 }
 
 /// Reads a deck from the source to its end, and writes to the sink what is to be told of it. Where it can't be read,
 /// that is the fault as a sentence, the deck's line with its number, a caret under the column, what often lies behind
-/// it, and the line that `guardian` writes.
-pub fn tell<S: Source, K: Sink>(
+/// it, and the line that `guardian` writes. How far a search for a run that breaks is goes to `progress` meanwhile.
+pub fn tell<S: Source, K: Sink, P: Sink>(
     alloc: Global,
     telling: Telling,
     source: &mut S,
     sink: &mut K,
+    progress: &mut P,
 ) -> Status
-    ensures { TellEnds S.left S.faults S.sure K.held K.faults K.sure telling source.old source.new sink.old sink.new
-        result }
+    ensures { TellEnds S.left S.faults S.sure K.held K.faults K.sure P.held P.faults P.sure telling source.old
+        source.new sink.old sink.new progress.old progress.new result }
 {
-    let due = due_of_source(alloc, telling, source);
+    let due = due_of_source(alloc, telling, source, progress);
     put_due(alloc, due, sink)
 }
 
@@ -60,6 +63,11 @@ fn put_due<K: Sink>(alloc: Global, due: Due, sink: &mut K) -> Status
             sink,
             b"usage: --fail P:K stops a processor P that the deck has\n",
             Status::NoProcessor,
+        ),
+        Due::ChartTooLong => put_told(
+            sink,
+            b"usage: a chart has room for 400 events; --from E and --to E ask for fewer\n",
+            Status::ChartTooLong,
         ),
         Due::Refused(refused) => put_refused(sink, &refused),
         Due::ReadFault => put_told(sink, b"", Status::ReadFault),

@@ -11,6 +11,8 @@ pub enum Status {
     Done,
     /// The deck doesn't have the processor that is to stop.
     NoProcessor,
+    /// More events of the deck are to be drawn than a chart has room for.
+    ChartTooLong,
     /// The deck can be read, and a program of it is refused.
     ProgramRefused,
     Refused(DeckFault),
@@ -27,6 +29,7 @@ impl Status {
         match self {
             Status::Done => 0,
             Status::NoProcessor => 1,
+            Status::ChartTooLong => 1,
             Status::Refused(_) => 2,
             Status::ProgramRefused => 3,
             Status::ReadFault => 6,

@@ -1,5 +1,6 @@
+use explain_chart::Scope;
+use explain_chart::traced_decks::Manner;
 use player::ProcessorStop;
-use traced_decks::Manner;
 
 /// What is to be told of a deck.
 #[derive(Clone, Copy, PartialEq, Eq)]
@@ -14,5 +15,10 @@ pub enum Telling {
     Trace {
         stop: Option<ProcessorStop>,
         manner: Manner,
+    },
+    /// The chart of what a scope has of its run, with a stop of a processor where one is given.
+    Chart {
+        stop: Option<ProcessorStop>,
+        scope: Scope,
     },
 }

@@ -125,7 +125,8 @@ fn is_told(alloc: Global, row: &Row) -> Result<bool, Fail> {
     let deck = List::from_vec(Vec::from_slice(alloc, row.deck)?);
     let mut source = MemorySource::new(deck, List::new(alloc));
     let mut sink = MemorySink::new(alloc, 1000, List::new(alloc))?;
-    let number = tell_number(alloc, Telling::Why, &mut source, &mut sink);
+    let mut progress = MemorySink::new(alloc, 0, List::new(alloc))?;
+    let number = tell_number(alloc, Telling::Why, &mut source, &mut sink, &mut progress);
     Ok(number == row.number && sink.bytes() == row.told)
 }
 

@@ -1,5 +1,5 @@
 -- What the words of a command line of `explain` ask for. Our own rule.
-use Rattle.std.specs.Prelude.{◌≡◌, ℕ, Bool, true, false, List, [], ◌∷◌, Option, Some, None, option_and_then}
+use Rattle.std.specs.Prelude.{◌≡◌, ℕ, Bool, false, ◌||◌, List, [], ◌∷◌, Option, Some, None, option_and_then}
 use Rattle.std.specs.Prelude.{option_map, codes, if◌then◌else◌}
 use Rattle.std.specs.Option.{option_map_or}
 use Rattle.std.specs.Str.{bytes_eq}
@@ -10,7 +10,7 @@ use Rattle.command_words.specs.Asked.{stop_of}
 use Rattle.deck_lines.specs.Numbers.{written_number}
 use Rattle.explain_words.specs.Line.{the_line}
 use Rattle.explain_words.specs.declared.asked.Question.{Question}
-use Rattle.explain_words.specs.declared.asked.Question.TheVariants.{Why, Left, Breaks, Trace, Help, Version}
+use Rattle.explain_words.specs.declared.asked.Question.TheVariants.{Why, Left, Breaks, Trace, Chart, Help, Version}
 
 -- `why` takes no stop
 abbrev pub why_as : Option Text → Option Question
@@ -27,17 +27,20 @@ abbrev pub breaks_as : Option Text → Option Question
 breaks_as None = Some Breaks
 breaks_as (Some fail) = None
 
--- these three take no event, and tell it in one form
+-- these three take no event
 abbrev pub told_as : Text → Option Text → Option Question
 told_as mode fail =
     if bytes_eq mode (codes "why") then why_as fail else if bytes_eq mode (codes "left") then left_as fail
     else if bytes_eq mode (codes "break") then breaks_as fail else None
 
-abbrev pub without_events : Text → Option Text → Option Text → Option Text → Bool → Option Question
-without_events mode fail None None false = told_as mode fail
-without_events mode fail None None true = None
-without_events mode fail None (Some to) json = None
-without_events mode fail (Some from) to json = None
+abbrev pub without_events : Text → Option Text → Option Text → Option Text → Option Question
+without_events mode fail None None = told_as mode fail
+without_events mode fail None (Some to) = None
+without_events mode fail (Some from) to = None
+
+-- nor `--json` or `--alive`
+abbrev pub without_flags : Text → Option Text → Option Text → Option Text → Bool → Option Question
+without_flags mode fail from to flagged = if flagged then None else without_events mode fail from to
 
 -- the number of an event, or this one where the words give none
 abbrev pub event_number : Option Text → ℕ → Option ℕ
@@ -52,23 +55,38 @@ trace_within fail (Some from) None json = None
 trace_within fail None to json = None
 
 -- `trace` takes a stop, and the first and the last event, which are else the first and the last of all; and `--json`
-abbrev pub trace_as : Option Text → Option Text → Option Text → Bool → Option Question
-trace_as fail from to json = trace_within fail (event_number from 1) (event_number to 4294967295) json
+abbrev pub trace_as : Option Text → Option Text → Option Text → Bool → Bool → Option Question
+trace_as fail from to json alive =
+    if alive then None else trace_within fail (event_number from 1) (event_number to 4294967295) json
 
--- what a mode asks for with these values of `--fail`, `--from` and `--to`, and with `--json` or without it
-abbrev pub question_as : Text → Option Text → Option Text → Option Text → Bool → Option Question
-question_as mode fail from to json =
-    if bytes_eq mode (codes "trace") then trace_as fail from to json else without_events mode fail from to json
+abbrev pub chart_within : Option Text → Option ℕ → Option ℕ → Bool → Option Question
+chart_within None (Some from) (Some to) alive = Some (Chart None from to alive)
+chart_within (Some fail) (Some from) (Some to) alive =
+    option_map (λ stop. Chart (Some stop) from to alive) (stop_of fail)
+chart_within fail (Some from) None alive = None
+chart_within fail None to alive = None
 
--- whether `--json` is there
-abbrev pub asks_for_json : List Row → Bool
-asks_for_json rows = option_map_or (λ text. bytes_eq text (codes "true")) (first_of (codes "json") rows) false
+-- `chart` takes what `trace` takes, but `--alive` in place of `--json`
+abbrev pub chart_as : Option Text → Option Text → Option Text → Bool → Bool → Option Question
+chart_as fail from to json alive =
+    if json then None else chart_within fail (event_number from 1) (event_number to 4294967295) alive
+
+-- what a mode asks for with these values of `--fail`, `--from` and `--to`, and with `--json` and `--alive` or without
+abbrev pub question_as : Text → Option Text → Option Text → Option Text → Bool → Bool → Option Question
+question_as mode fail from to json alive =
+    if bytes_eq mode (codes "trace") then trace_as fail from to json alive
+    else if bytes_eq mode (codes "chart") then chart_as fail from to json alive
+    else without_flags mode fail from to (json || alive)
+
+-- whether a flag is there
+abbrev pub has_flag : Text → List Row → Bool
+has_flag id rows = option_map_or (λ text. bytes_eq text (codes "true")) (first_of id rows) false
 
 -- what the parts that clap tells apart ask for
 abbrev pub question_in : List Row → Option Question
 question_in rows = option_and_then
     (λ mode. question_as mode (first_of (codes "fail") rows) (first_of (codes "from") rows) (first_of (codes "to") rows)
-    (asks_for_json rows))
+    (has_flag (codes "json") rows) (has_flag (codes "alive") rows))
     (first_of (codes "mode") rows)
 
 -- what words ask for that clap refuses for this
@@ -109,3 +127,7 @@ left_with_stop processor after = Left (Some (record { processor = processor; aft
 -- `trace` with a stop of this processor after so many events, within these numbers, as text
 abbrev pub trace_with_stop : ℕ → ℕ → ℕ → ℕ → Question
 trace_with_stop processor after from to = Trace (Some (record { processor = processor; after = after })) from to false
+
+-- `chart` with a stop of this processor after so many events, within these numbers, without alive packets
+abbrev pub chart_with_stop : ℕ → ℕ → ℕ → ℕ → Question
+chart_with_stop processor after from to = Chart (Some (record { processor = processor; after = after })) from to false

@@ -32,13 +32,17 @@ to_rule = record (new_rule (codes "to")) { long = Some (codes "to"); action = So
 abbrev pub json_rule : Rule
 json_rule = record (new_rule (codes "json")) { long = Some (codes "json"); action = Some SetTrue }
 
+-- `--alive`, a flag
+abbrev pub alive_rule : Rule
+alive_rule = record (new_rule (codes "alive")) { long = Some (codes "alive"); action = Some SetTrue }
+
 -- a program that has a version, which `--version` asks for
 abbrev pub versioned : App → App
 versioned app = record app { top = record app.top { has_version = true } }
 
 abbrev pub the_line : App
-the_line = with_rule (with_rule (with_rule (with_rule (with_rule (with_rule (versioned (new_app (codes "explain")))
-    mode_rule) file_rule) fail_rule) from_rule) to_rule) json_rule
+the_line = with_rule (with_rule (with_rule (with_rule (with_rule (with_rule (with_rule
+    (versioned (new_app (codes "explain"))) mode_rule) file_rule) fail_rule) from_rule) to_rule) json_rule) alive_rule
 
 -- what clap makes of the words, the program's name first: it takes them, or refuses them for one of these kinds
 abbrev pub IsParse : List Text → Parse → Type 0

@@ -1,8 +1,8 @@
 ghost use Rattle.std.specs.Prelude.{◌≡◌, IfOk, map, option_map, string_bytes};
 ghost use Rattle.clap.specs.Words.{found_of, rows_of};
-ghost use Rattle.explain_words.specs.Asked.{IsAsked, IsFileAsked, asks_for_json, breaks_as, event_number};
-ghost use Rattle.explain_words.specs.Asked.{left_as, question_as, question_in, told_as, trace_as, trace_within, why_as};
-ghost use Rattle.explain_words.specs.Asked.{kind_question, without_events};
+ghost use Rattle.explain_words.specs.Asked.{IsAsked, IsFileAsked, breaks_as, chart_as, chart_within, event_number};
+ghost use Rattle.explain_words.specs.Asked.{has_flag, kind_question, left_as, question_as, question_in, told_as};
+ghost use Rattle.explain_words.specs.Asked.{trace_as, trace_within, why_as, without_events, without_flags};
 
 use crate::line::{Parse, parsed, text_of};
 use clap::ArgMatches;
@@ -29,6 +29,14 @@ pub enum Question {
         from: u32,
         to: u32,
         json: bool,
+    },
+    /// Of a deck, the chart of its run, with this stop of a processor where there is one, from the event of a number to
+    /// that of another, with alive packets or without.
+    Chart {
+        stop: Option<ProcessorStop>,
+        from: u32,
+        to: u32,
+        alive: bool,
     },
     /// What the program does and which words it takes.
     Help,
@@ -66,15 +74,16 @@ fn question_in(matches: &ArgMatches) -> Option<Question>
     let fail = text_of(matches, "fail");
     let from = text_of(matches, "from");
     let to = text_of(matches, "to");
-    let json = asks_for_json(matches);
-    question_as(mode, fail, from, to, json)
+    let json = has_flag(matches, "json");
+    let alive = has_flag(matches, "alive");
+    question_as(mode, fail, from, to, json, alive)
 }
 
-/// Whether `--json` is there. Not by `get_flag`, which promises nothing of other values than `true` and `false`.
-fn asks_for_json(matches: &ArgMatches) -> bool
-    ensures { result ≡ asks_for_json (rows_of (found_of matches.now)) }
+/// Whether a flag is there. Not by `get_flag`, which promises nothing of other values than `true` and `false`.
+fn has_flag(matches: &ArgMatches, id: &str) -> bool
+    ensures { result ≡ has_flag id.now (rows_of (found_of matches.now)) }
 {
-    match text_of(matches, "json") {
+    match text_of(matches, id) {
         Some(text) => text == "true",
         None => false,
     }
@@ -86,14 +95,32 @@ fn question_as(
     from: Option<&str>,
     to: Option<&str>,
     json: bool,
+    alive: bool,
 ) -> Option<Question>
     ensures { result ≡ question_as mode.now (option_map (λ text. text.now) fail.entry)
-        (option_map (λ text. text.now) from.entry) (option_map (λ text. text.now) to.entry) json }
+        (option_map (λ text. text.now) from.entry) (option_map (λ text. text.now) to.entry) json alive }
 {
     match mode {
-        "trace" => trace_as(fail, from, to, json),
-        _ => without_events(mode, fail, from, to, json),
+        "trace" => trace_as(fail, from, to, json, alive),
+        "chart" => chart_as(fail, from, to, json, alive),
+        _ => without_flags(mode, fail, from, to, json || alive),
     }
+}
+
+fn without_flags(
+    mode: &str,
+    fail: Option<&str>,
+    from: Option<&str>,
+    to: Option<&str>,
+    flagged: bool,
+) -> Option<Question>
+    ensures { result ≡ without_flags mode.now (option_map (λ text. text.now) fail.entry)
+        (option_map (λ text. text.now) from.entry) (option_map (λ text. text.now) to.entry) flagged }
+{
+    if flagged {
+        return None;
+    }
+    without_events(mode, fail, from, to)
 }
 
 fn without_events(
@@ -101,16 +128,14 @@ fn without_events(
     fail: Option<&str>,
     from: Option<&str>,
     to: Option<&str>,
-    json: bool,
 ) -> Option<Question>
     ensures { result ≡ without_events mode.now (option_map (λ text. text.now) fail.entry)
-        (option_map (λ text. text.now) from.entry) (option_map (λ text. text.now) to.entry) json }
+        (option_map (λ text. text.now) from.entry) (option_map (λ text. text.now) to.entry) }
 {
-    match (from, to, json) {
-        (None, None, false) => told_as(mode, fail),
-        (None, None, true) => None,
-        (None, Some(_), _) => None,
-        (Some(_), _, _) => None,
+    match (from, to) {
+        (None, None) => told_as(mode, fail),
+        (None, Some(_)) => None,
+        (Some(_), _) => None,
     }
 }
 
@@ -160,16 +185,70 @@ fn trace_as(
     from: Option<&str>,
     to: Option<&str>,
     json: bool,
+    alive: bool,
 ) -> Option<Question>
     ensures { result ≡ trace_as (option_map (λ text. text.now) fail.entry) (option_map (λ text. text.now) from.entry)
-        (option_map (λ text. text.now) to.entry) json }
+        (option_map (λ text. text.now) to.entry) json alive }
 {
+    if alive {
+        return None;
+    }
     trace_within(
         fail,
         event_number(from, 1),
         event_number(to, u32::MAX),
         json,
     )
+}
+
+fn chart_as(
+    fail: Option<&str>,
+    from: Option<&str>,
+    to: Option<&str>,
+    json: bool,
+    alive: bool,
+) -> Option<Question>
+    ensures { result ≡ chart_as (option_map (λ text. text.now) fail.entry) (option_map (λ text. text.now) from.entry)
+        (option_map (λ text. text.now) to.entry) json alive }
+{
+    if json {
+        return None;
+    }
+    chart_within(
+        fail,
+        event_number(from, 1),
+        event_number(to, u32::MAX),
+        alive,
+    )
+}
+
+fn chart_within(
+    fail: Option<&str>,
+    from: Option<u32>,
+    to: Option<u32>,
+    alive: bool,
+) -> Option<Question>
+    ensures { result ≡ chart_within (option_map (λ text. text.now) fail.entry) from to alive }
+{
+    let from = from?;
+    let to = to?;
+    match fail {
+        None => Some(Question::Chart {
+            stop: None,
+            from,
+            to,
+            alive,
+        }),
+        Some(fail) => {
+            let stop = stop_of(fail)?;
+            Some(Question::Chart {
+                stop: Some(stop),
+                from,
+                to,
+                alive,
+            })
+        }
+    }
 }
 
 /// The number of an event, or this one where the words give none.

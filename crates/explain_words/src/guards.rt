@@ -1,8 +1,8 @@
 ghost use Rattle.std.specs.Prelude.{◌≡◌, true, false, [], ◌∷◌, Option, Some, None, codes};
 ghost use Rattle.explain_words.specs.Asked.{IsAsked, IsAskedAfter, IsFileAfter, left_with_stop};
-ghost use Rattle.explain_words.specs.Asked.{trace_with_stop};
+ghost use Rattle.explain_words.specs.Asked.{chart_with_stop, trace_with_stop};
 ghost use Rattle.explain_words.specs.declared.asked.Question.{Question};
-ghost use Rattle.explain_words.specs.declared.asked.Question.TheVariants.{Why, Left, Breaks, Trace};
+ghost use Rattle.explain_words.specs.declared.asked.Question.TheVariants.{Why, Left, Breaks, Trace, Chart};
 
 /// `why`, alone or with a file, before `--` or after it.
 pub fn why_is_asked_for()
@@ -61,6 +61,23 @@ pub fn a_trace_is_asked_for()
     ensures longer { IsAskedAfter (codes "traces" ∷ []) None }
     ensures no_value { (question : Option Question) → IsAskedAfter (codes "trace" ∷ codes "--from" ∷ []) question
         → question ≡ None }
+{}
+
+/// `chart` takes a stop, the first and the last event, and `--alive`, which no other mode takes.
+pub fn a_chart_is_asked_for()
+    ensures alone { IsAskedAfter (codes "chart" ∷ []) (Some (Chart None 1 4294967295 false)) }
+    ensures file { IsAskedAfter (codes "chart" ∷ codes "a.deck" ∷ []) (Some (Chart None 1 4294967295 false)) }
+    ensures fail { IsAskedAfter (codes "chart" ∷ codes "--fail" ∷ codes "1:7" ∷ [])
+        (Some (chart_with_stop 1 7 1 4294967295)) }
+    ensures both { IsAskedAfter (codes "chart" ∷ codes "--from=20" ∷ codes "--to=40" ∷ [])
+        (Some (Chart None 20 40 false)) }
+    ensures alive { IsAskedAfter (codes "chart" ∷ codes "--alive" ∷ codes "a.deck" ∷ [])
+        (Some (Chart None 1 4294967295 true)) }
+    ensures trace { IsAskedAfter (codes "trace" ∷ codes "--alive" ∷ []) None }
+    ensures why { IsAskedAfter (codes "why" ∷ codes "--alive" ∷ []) None }
+    ensures json { IsAskedAfter (codes "chart" ∷ codes "--json" ∷ []) None }
+    ensures number { IsAskedAfter (codes "chart" ∷ codes "--to" ∷ codes "x" ∷ []) None }
+    ensures longer { IsAskedAfter (codes "charts" ∷ []) None }
 {}
 
 /// The second word is the file.

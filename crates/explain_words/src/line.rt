@@ -1,6 +1,6 @@
 ghost use Rattle.std.specs.Prelude.{◌≡◌, ◌≢◌, false, IfOk, map, option_map, string_bytes};
 ghost use Rattle.clap.specs.Words.{FailsBy, HasMatchesOf, app_of, fault_of, first_of, found_of, rows_of, rule_of};
-ghost use Rattle.explain_words.specs.Line.{IsParse, IsRefusedFor, fail_rule, file_rule, from_rule};
+ghost use Rattle.explain_words.specs.Line.{IsParse, IsRefusedFor, alive_rule, fail_rule, file_rule, from_rule};
 ghost use Rattle.explain_words.specs.Line.{json_rule, mode_rule, the_line, to_rule};
 
 use clap::error::ErrorKind;
@@ -24,7 +24,7 @@ fn mode_argument<'a>(alloc: Global) -> Arg<'a>
         .required(true)
         .action(ArgAction::Set)
         .help(
-            "why: tells why a deck can't be read, or why its programs are refused; left: runs a deck and tells what is left; break: looks for a run that breaks if a program is refused; trace: runs a deck and tells of each event what it did",
+            "why: tells why a deck can't be read, or why its programs are refused; left: runs a deck and tells what is left; break: looks for a run that breaks if a program is refused; trace: runs a deck and tells of each event what it did; chart: runs a deck and draws its messages",
         )
 }
 
@@ -45,7 +45,9 @@ fn fail_argument<'a>(alloc: Global) -> Arg<'a>
         .long("fail")
         .action(ArgAction::Set)
         .value_name("P:K")
-        .help("Of left and trace: stops processor P just before the event that K events precede")
+        .help(
+            "Of left, trace and chart: stops processor P just before the event that K events precede",
+        )
 }
 
 fn from_argument<'a>(alloc: Global) -> Arg<'a>
@@ -56,7 +58,7 @@ fn from_argument<'a>(alloc: Global) -> Arg<'a>
         .long("from")
         .action(ArgAction::Set)
         .value_name("E")
-        .help("Of trace: the first event that is told, by its number from 1")
+        .help("Of trace and chart: the first event that is told, by its number from 1")
 }
 
 fn to_argument<'a>(alloc: Global) -> Arg<'a>
@@ -67,7 +69,7 @@ fn to_argument<'a>(alloc: Global) -> Arg<'a>
         .long("to")
         .action(ArgAction::Set)
         .value_name("E")
-        .help("Of trace: the last event that is told")
+        .help("Of trace and chart: the last event that is told")
 }
 
 fn json_argument<'a>(alloc: Global) -> Arg<'a>
@@ -78,6 +80,16 @@ fn json_argument<'a>(alloc: Global) -> Arg<'a>
         .long("json")
         .action(ArgAction::SetTrue)
         .help("Of trace: writes each line as an object of JSON")
+}
+
+fn alive_argument<'a>(alloc: Global) -> Arg<'a>
+    ensures rule { rule_of result ≡ alive_rule }
+    ensures local { result.global ≡ false }
+{
+    Arg::new(alloc, "alive")
+        .long("alive")
+        .action(ArgAction::SetTrue)
+        .help("Of chart: draws alive packets too")
 }
 
 /// The words that a command line may have, as one simple command.
@@ -92,7 +104,8 @@ fn the_line<'a>(alloc: Global) -> Result<Command<'a>, AllocError>
         .arg(fail_argument(alloc))?
         .arg(from_argument(alloc))?
         .arg(to_argument(alloc))?
-        .arg(json_argument(alloc))
+        .arg(json_argument(alloc))?
+        .arg(alive_argument(alloc))
 }
 
 fn matches_of<'a>(alloc: Global, words: &'a [String]) -> Result<ArgMatches<'a>, Error>

@@ -1,7 +1,8 @@
 use Rattle.std.proofs.Common.{[], ◌∷◌, ◌++◌}
 use Rattle.std.specs.Prelude.{codes}
 use Rattle.text_pieces.proofs.Joins.{put_three}
-use Rattle.break_text.specs.BreakText.{asked_text, runs_of, tried_text}
+use Rattle.break_runs.specs.break_progress.specs.Progress.{runs_of}
+use Rattle.break_text.specs.BreakText.{asked_text, tried_text}
 use Rattle.break_text.proofs.whole.put_unbroken.Goals as goal
 
 pub returns : goal.returns

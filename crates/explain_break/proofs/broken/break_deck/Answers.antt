@@ -1,32 +1,63 @@
-use Rattle.std.proofs.Common.{List, inl, inr, subst, ◌∙◌}
+use Rattle.std.proofs.Common.{List, [], inl, inr, refl, subst}
+use Rattle.std.proofs.lemmas.Result.{IfOk-from_err}
 use Rattle.tal_tree.specs.declared.site.ProcessSpec.{ProcessSpec}
+use Rattle.break_text.specs.break_runs.specs.break_progress.proofs.Told.{nothing_goes_out, nothing_is_told}
 use Rattle.explain_why.specs.Judged.{IsJudgedDeck}
+use Rattle.explain_break.specs.Broken.{IsBreakDeck}
 use Rattle.explain_break.proofs.broken.break_deck.Goals as goal
-use Rattle.explain_break.proofs.broken.break_deck.Goals.{then-refused+in_ok-told, else-refused+in_ok-told-2}
+
+pub returns-in_err-judged : goal.returns-in_err-judged
+returns-in_err-judged g c = (
+  [],
+  nothing_goes_out g.K.Sink.held g.K.Sink.faults g.K.Sink.sure c.args.sink.now,
+  nothing_is_told,
+  IfOk-from_err c.from_residual.result (IsBreakDeck c.args.bytes.now c.args.deck []) c.from_residual.ensures.0,
+)
+
+pub returns-in_err-text : goal.returns-in_err-text
+returns-in_err-text g c = (
+  [],
+  nothing_goes_out g.K.Sink.held g.K.Sink.faults g.K.Sink.sure c.args.sink.now,
+  nothing_is_told,
+  IfOk-from_err c.from_residual-in_err-text.result (IsBreakDeck c.args.bytes.now c.args.deck [])
+      c.from_residual-in_err-text.ensures.0,
+)
+
+pub returns-then-judged : goal.returns-then-judged
+returns-then-judged g c =
+    let specs = c.args.deck.site.processes in
+    let is : IsJudgedDeck c.args.bytes.now specs c.in_ok-judged.judged =
+    subst (λ (all : List ProcessSpec). IsJudgedDeck c.args.bytes.now all c.in_ok-judged.judged) c.as_slice.ensures
+    c.in_ok-judged.ensures in
+    let found = c.in_ok-told.ensures in (
+      found.0,
+      found.1,
+      found.2,
+      inr (record {
+        whys = c.in_ok-judged.judged;
+        search = found.3.0;
+        refused = c.if-judged.true;
+        judged_is = is;
+        searched = found.3.1;
+        meanwhile_is = found.3.2;
+        answered = refl;
+        told_is = found.3.3;
+      }),
+    )
 
 pub returns : goal.returns
-returns c =
-    let judged = c.in_ok-judged.judged in
+returns g c =
     let specs = c.args.deck.site.processes in
-    let is : IsJudgedDeck c.args.bytes.now specs judged =
-    subst (λ (all : List ProcessSpec). IsJudgedDeck c.args.bytes.now all judged) c.as_slice.ensures
-    c.in_ok-judged.ensures in
-    elim c.if-refused.branch [
-      | then-refused+in_ok-told w ↦
-          let found = w.in_ok-told.ensures in
-          inr (record {
-            whys = judged;
-            search = found.0;
-            refused = w.if-refused.true;
-            judged_is = is;
-            searched = found.1;
-            answered = w.if-refused.true;
-            told_is = w.told-is ∙ found.2;
-          })
-      | else-refused+in_ok-told-2 w ↦
-          inl (
-            w.if-refused.false,
-            c.unrefused_programs_are_accepted.ensures c.args.bytes.now specs judged is w.if-refused.false,
-            w.told-is ∙ w.in_ok-told-2.ensures,
-          )
-    ]
+    let is : IsJudgedDeck c.args.bytes.now specs c.in_ok-judged.judged =
+    subst (λ (all : List ProcessSpec). IsJudgedDeck c.args.bytes.now all c.in_ok-judged.judged) c.as_slice.ensures
+    c.in_ok-judged.ensures in (
+      [],
+      nothing_goes_out g.K.Sink.held g.K.Sink.faults g.K.Sink.sure c.args.sink.now,
+      nothing_is_told,
+      inl (
+        refl,
+        c.unrefused_programs_are_accepted.ensures c.args.bytes.now specs c.in_ok-judged.judged is c.if-judged.false,
+        c.in_ok-text.ensures,
+        refl,
+      ),
+    )

@@ -22,4 +22,6 @@ returns c =
     let four = c.in_ok-arg-4.ensures.shape from.local ∙ ap₂ with_rule three from.rule in
     let json = c.json_argument.ensures in
     let five = c.in_ok-arg-5.ensures.shape to.local ∙ ap₂ with_rule four to.rule in
-    IfOk-weaker c.arg-6.result _ _ (λ line h. h.shape json.local ∙ ap₂ with_rule five json.rule) c.arg-6.ensures
+    let six = c.in_ok-arg-6.ensures.shape json.local ∙ ap₂ with_rule five json.rule in
+    let alive = c.alive_argument.ensures in
+    IfOk-weaker c.arg-7.result _ _ (λ line h. h.shape alive.local ∙ ap₂ with_rule six alive.rule) c.arg-7.ensures

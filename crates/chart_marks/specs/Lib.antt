@@ -1,0 +1,12 @@
+pub mod Chart
+pub mod Drawn
+pub mod Frame
+pub mod Groups
+pub mod Keys
+pub mod Layout
+pub mod Packets
+pub mod Signs
+pub mod Standings
+pub mod Ways
+pub use Rattle.svg_text
+pub use Rattle.trace_lines

@@ -1,0 +1,3 @@
+pub mod DeckCharts
+pub use Rattle.charted_runs
+pub use Rattle.traced_decks

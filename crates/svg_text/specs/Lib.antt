@@ -1,0 +1,5 @@
+pub mod Escapes
+pub mod Looks
+pub mod Marks
+pub mod Sheets
+pub mod Xml
