@@ -1,4 +1,4 @@
--- An accepted site is fit.
+-- An accepted site whose processes are each in two processors is fit.
 use Rattle.std.proofs.Common.{◌≡◌, ℕ, slice_get, Some, refl}
 use Rattle.tal_tree.specs.declared.site.Kind.{Kind}
 use Rattle.tal_tree.specs.declared.site.Kind.TheVariants as kind
@@ -9,14 +9,16 @@ use Rattle.takeover_laws.specs.discipline_laws.specs.Disciplined.{IsDisciplined}
 use Rattle.takeover_laws.specs.discipline_laws.proofs.Accepted.{accepted-disciplined}
 use Rattle.takeover_laws.specs.discipline_laws.proofs.Discs.{disc-disciplined}
 use Rattle.tal_laws.proofs.Regular.{read_is_regular}
+use Rattle.world_semantics.specs.Laws.{IsPlaced}
 use Rattle.takeover_laws.specs.Fit.{IsFit}
 use Rattle.accepted_sites.specs.Premises.{IsAcceptedSite}
 
-pub accepted-fit : (site : Site) → IsAcceptedSite site → IsFit site
-accepted-fit site accepted = record {
+pub accepted-fit : (site : Site) → IsAcceptedSite site → IsPlaced site → IsFit site
+accepted-fit site accepted placed = record {
   regular = λ number spec there. regular number spec there spec.what refl;
   disciplined = λ number spec there. disciplined number spec there spec.what refl;
   requests = accepted.requests;
+  seats = placed;
 }
   where
     regular : (number : ℕ) (spec : ProcessSpec) → slice_get site.processes number ≡ Some spec → (what : Kind)

@@ -5,5 +5,6 @@ pub mod Discs
 pub mod Listed
 pub mod Pairs
 pub mod Paths
+pub mod Placed
 pub mod Readings
 pub mod Syntaxes

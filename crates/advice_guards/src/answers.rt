@@ -16,7 +16,8 @@ pub fn answers_are_told()
       depths = 1 ∷ 1 ∷ [];
     }) }
     ensures several { IsAnswer two_lists (record {
-      lists = record { statement = 2; line = 12; items = 0 ∷ []; files = [] } ∷ record { statement = 3; line = 13; items = []; files = [] }
+      lists = record { statement = 2; line = 12; items = 0 ∷ []; files = [] }
+          ∷ record { statement = 3; line = 13; items = []; files = [] }
           ∷ record { statement = 5; line = 15; items = 1 ∷ []; files = [] } ∷ [];
       depths = 1 ∷ 1 ∷ [];
     }) }

@@ -46,8 +46,8 @@ pub fn a_loop_comes_back()
     ensures { (item : ℕ) → IsTrue (is_among item (0 ∷ [])) ↔ IsItemDue again 2 item }
 {}
 
-/// A DO's body is done before its test: its CHECKPOINT names what was set before the DO, which then isn't due behind the
-/// DO, and what the body sets behind it is due there in the next round.
+/// A DO's body is done before its test: its CHECKPOINT names what was set before the DO, which then isn't due behind
+/// the DO, and what the body sets behind it is due there in the next round.
 pub fn a_body_is_done_before_its_test()
     ensures inside { (item : ℕ) → IsTrue (is_among item (0 ∷ 1 ∷ [])) ↔ IsItemDue until 2 item }
     ensures behind { (item : ℕ) → IsTrue (is_among item (1 ∷ [])) ↔ IsItemDue until 5 item }

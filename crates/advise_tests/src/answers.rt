@@ -1,8 +1,8 @@
-use crate::programs::program_of;
 use advice::AdviseRefusal;
 use advise::advise;
 use path_semantics::Reason;
 use std::test::Fail;
+use worked_programs::program_of;
 
 /// What a CHECKPOINT has to name: the number of its statement, globals, and files.
 struct Named {

@@ -12,7 +12,7 @@ use Rattle.alive_regroup.specs.Watching.{is_held, is_missed, is_silent, is_silen
 heard-of : (one : Neighbour) → not (is_missed one) ≡ true
     → (is_silent one ≡ false) × (is_silent (neighbour_after_check one) ≡ false)
 heard-of Absent none = (refl, refl)
-heard-of Down none = (refl, refl)
+heard-of (Down came) none = (refl, refl)
 heard-of (Up true missed.None report) none = (refl, refl)
 heard-of (Up false missed.None report) none = (refl, refl)
 heard-of (Up came missed.One report) none = absurd (cc)

@@ -1,5 +1,5 @@
 -- Sets of processors.
-use Rattle.std.specs.Prelude.{ℕ, Bool, false, replicate, slice_get}
+use Rattle.std.specs.Prelude.{ℕ, Bool, false, replicate, slice_get, slice_set}
 use Rattle.std.specs.Option.{unwrap_or}
 use Rattle.alive_regroup.specs.declared.set.ProcessorSet.{ProcessorSet}
 
@@ -10,3 +10,7 @@ has set processor = unwrap_or (slice_get set.members processor) false
 -- the set without members
 abbrev pub nobody : ProcessorSet
 nobody = record { members = replicate 16 false }
+
+-- the set without a processor
+abbrev pub without : ℕ → ProcessorSet → ProcessorSet
+without processor set = record { members = slice_set set.members processor false }

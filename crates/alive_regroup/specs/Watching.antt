@@ -12,7 +12,7 @@ use Rattle.alive_regroup.specs.declared.neighbour.Neighbour.TheVariants.{Absent,
 use Rattle.std.specs.Bool.{beq}
 use Rattle.std.specs.Cmp.Lexicographic.{pointwise}
 use Rattle.alive_regroup.specs.declared.set.ProcessorSet.{ProcessorSet}
-use Rattle.alive_regroup.specs.Sets.{has, nobody}
+use Rattle.alive_regroup.specs.Sets.{has, nobody, without}
 
 -- Of one processor
 
@@ -31,42 +31,54 @@ is_more missed.More = true
 abbrev pub neighbour_after_alive : Neighbour → Neighbour
 neighbour_after_alive Absent = Absent
 neighbour_after_alive (Up came misses report) = Up true misses report
-neighbour_after_alive Down = Down
+neighbour_after_alive (Down came) = Down came
 
 -- after a check: no check has missed it where an alive packet came since the last one, and else one more has
 abbrev pub neighbour_after_check : Neighbour → Neighbour
 neighbour_after_check Absent = Absent
 neighbour_after_check (Up came misses report) = Up false (if came then missed.None else risen misses) report
-neighbour_after_check Down = Down
+neighbour_after_check (Down came) = Down false
 
 -- after a report from it
 abbrev pub neighbour_after_report : ProcessorSet → Neighbour → Neighbour
 neighbour_after_report set Absent = Absent
 neighbour_after_report set (Up came misses report) = Up came misses set
-neighbour_after_report set Down = Down
+neighbour_after_report set (Down came) = Down came
 
--- after it was noted down
+-- after it was noted down: whether an alive packet came since the last check is forgotten at checks alone
 abbrev pub neighbour_after_down : Neighbour → Neighbour
 neighbour_after_down Absent = Absent
-neighbour_after_down (Up came misses report) = Down
-neighbour_after_down Down = Down
+neighbour_after_down (Up came misses report) = Down came
+neighbour_after_down (Down came) = Down came
+
+-- after it was loaded again: it is up, missed by no check, and reported nobody
+abbrev pub neighbour_after_up : Neighbour → Neighbour
+neighbour_after_up Absent = Absent
+neighbour_after_up (Up came misses report) = Up came missed.None nobody
+neighbour_after_up (Down came) = Up came missed.None nobody
+
+-- after another processor was loaded again: its last report hasn't that one any more
+abbrev pub neighbour_after_up_of : ℕ → Neighbour → Neighbour
+neighbour_after_up_of processor Absent = Absent
+neighbour_after_up_of processor (Up came misses report) = Up came misses (without processor report)
+neighbour_after_up_of processor (Down came) = Down came
 
 -- it is another processor that isn't noted down
 abbrev pub is_up : Neighbour → Bool
 is_up Absent = false
 is_up (Up came misses report) = true
-is_up Down = false
+is_up (Down came) = false
 
 abbrev pub is_down : Neighbour → Bool
 is_down Absent = false
 is_down (Up came misses report) = false
-is_down Down = true
+is_down (Down came) = true
 
 -- two checks or more have missed it
 abbrev pub is_silent : Neighbour → Bool
 is_silent Absent = false
 is_silent (Up came misses report) = is_more misses
-is_silent Down = false
+is_silent (Down came) = false
 
 -- the last check missed it
 abbrev pub is_missed : Neighbour → Bool
@@ -74,22 +86,23 @@ is_missed Absent = false
 is_missed (Up came missed.None report) = false
 is_missed (Up came missed.One report) = true
 is_missed (Up came missed.More report) = true
-is_missed Down = false
+is_missed (Down came) = false
 
 -- where it has a say, it reported this processor last
 abbrev pub agrees : ℕ → Neighbour → Bool
 agrees processor Absent = true
 agrees processor (Up came misses report) = has report processor
-agrees processor Down = true
+agrees processor (Down came) = true
 
--- Of a node: its number, whether its next tick checks, what it knows of the processors 0 to 15, and the silent set that
--- it reported last
+-- Of a node: its number, whether its next tick checks, what it knows of the processors 0 to 15, the silent set that it
+-- reported last, and whether its next check reports even if it changes nothing
 
 pub record Watching : Type 0 where
   pub me : ℕ
   pub checks : Bool
   pub neighbours : List Neighbour
   pub told : ProcessorSet
+  pub due : Bool
 
 -- the silent set
 abbrev pub silent_set : List Neighbour → ProcessorSet
@@ -103,6 +116,12 @@ changed_at processor change w =
           (slice_get w.neighbours processor)) w.neighbours;
     }
 
+-- after a processor was loaded again: it is up, nobody reported it last, and the next check reports
+abbrev pub after_up : ℕ → Watching → Watching
+after_up processor w =
+    changed_at processor neighbour_after_up
+    (record w { neighbours = map (neighbour_after_up_of processor) w.neighbours; due = true })
+
 -- Ticks. Every second tick of a processor checks; the node of the terminals, 16, checks never
 
 abbrev pub does_check : Watching → Bool
@@ -114,17 +133,19 @@ after_check w = record w {
   checks = false;
   neighbours = map neighbour_after_check w.neighbours;
   told = silent_set (map neighbour_after_check w.neighbours);
+  due = false;
 }
 
 abbrev pub after_tick : Watching → Watching
 after_tick w = if does_check w then after_check w else record w { checks = true }
 
--- the silent set that is to be reported: where a check changed it
-abbrev pub set_to_tell : ProcessorSet → ProcessorSet → Option ProcessorSet
-set_to_tell before now = if pointwise beq before.members now.members then None else Some now
+-- the silent set that is to be reported: where a report is due, or a check changed the set
+abbrev pub set_to_tell : Bool → ProcessorSet → ProcessorSet → Option ProcessorSet
+set_to_tell due before now = if not due && pointwise beq before.members now.members then None else Some now
 
 abbrev pub told_by_tick : Watching → Option ProcessorSet
-told_by_tick w = if does_check w then set_to_tell w.told (silent_set (map neighbour_after_check w.neighbours)) else None
+told_by_tick w =
+    if does_check w then set_to_tell w.due w.told (silent_set (map neighbour_after_check w.neighbours)) else None
 
 -- The hold line
 
@@ -168,4 +189,4 @@ places = 0 ∷ 1 ∷ 2 ∷ 3 ∷ 4 ∷ 5 ∷ 6 ∷ 7 ∷ 8 ∷ 9 ∷ 10 ∷ 11 �
 
 abbrev pub begun : ℕ → ℕ → Watching
 begun me processors =
-    record { me = me; checks = false; neighbours = map (at_first me processors) places; told = nobody }
+    record { me = me; checks = false; neighbours = map (at_first me processors) places; told = nobody; due = false }

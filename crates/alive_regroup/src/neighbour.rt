@@ -1,6 +1,10 @@
 ghost use Rattle.std.specs.Prelude.{◌≡◌};
+ghost use Rattle.alive_regroup.specs.declared.neighbour.Missed.TheVariants as missed;
+ghost use Rattle.alive_regroup.specs.declared.neighbour.Neighbour.TheVariants.{Up};
+ghost use Rattle.alive_regroup.specs.Sets.{nobody};
 ghost use Rattle.alive_regroup.specs.Watching.{risen, is_more, neighbour_after_check, neighbour_after_alive, is_silent};
 ghost use Rattle.alive_regroup.specs.Watching.{is_up, is_down, neighbour_after_report, agrees, neighbour_after_down};
+ghost use Rattle.alive_regroup.specs.Watching.{neighbour_after_up, neighbour_after_up_of};
 ghost use Rattle.alive_regroup.specs.Watching.{is_missed};
 
 use crate::set::ProcessorSet;
@@ -13,9 +17,9 @@ pub enum Missed {
     More,
 }
 
-/// What a node knows of a number up to 15: it is no other processor of the site; it is one, of which an alive packet
-/// came since the last check or not, with the checks missed and the silent set that it reported last; or it is marked
-/// down.
+/// What a node knows of a number up to 15: it is no other processor of the site; it is one, with the checks missed and
+/// the silent set that it reported last; or it is one that is marked down. Of either an alive packet came since the last
+/// check or not.
 #[derive(Clone, Copy)]
 pub enum Neighbour {
     Absent,
@@ -24,7 +28,9 @@ pub enum Neighbour {
         missed: Missed,
         report: ProcessorSet,
     },
-    Down,
+    Down {
+        heard: bool,
+    },
 }
 
 impl Neighbour {
@@ -39,7 +45,7 @@ impl Neighbour {
                 missed: _,
                 report: _,
             } => *heard = true,
-            Neighbour::Down => {}
+            Neighbour::Down { heard: _ } => {}
         }
     }
 
@@ -59,7 +65,10 @@ impl Neighbour {
                 *heard = false;
                 missed.is_more()
             }
-            Neighbour::Down => false,
+            Neighbour::Down { heard } => {
+                *heard = false;
+                false
+            }
         }
     }
 
@@ -78,7 +87,7 @@ impl Neighbour {
                 missed: *missed,
                 report: set,
             },
-            Neighbour::Down => Neighbour::Down,
+            Neighbour::Down { heard } => Neighbour::Down { heard: *heard },
         }
     }
 
@@ -89,11 +98,41 @@ impl Neighbour {
         match self {
             Neighbour::Absent => Neighbour::Absent,
             Neighbour::Up {
-                heard: _,
+                heard,
                 missed: _,
                 report: _,
-            } => Neighbour::Down,
-            Neighbour::Down => Neighbour::Down,
+            }
+            | Neighbour::Down { heard } => Neighbour::Down { heard: *heard },
+        }
+    }
+
+    /// After it was loaded again.
+    pub fn come_up(&self) -> Neighbour
+        ensures { result ≡ neighbour_after_up self.now }
+    {
+        match self {
+            Neighbour::Absent => Neighbour::Absent,
+            Neighbour::Up {
+                heard,
+                missed: _,
+                report: _,
+            }
+            | Neighbour::Down { heard } => neighbour_up(*heard),
+        }
+    }
+
+    /// Another processor was loaded again.
+    pub fn forget(&mut self, processor: u8)
+        ensures { self.new ≡ neighbour_after_up_of processor self.old }
+    {
+        match self {
+            Neighbour::Absent => {}
+            Neighbour::Up {
+                heard: _,
+                missed: _,
+                report,
+            } => *report = report.without(processor),
+            Neighbour::Down { heard: _ } => {}
         }
     }
 
@@ -108,7 +147,7 @@ impl Neighbour {
                 missed: _,
                 report: _,
             } => true,
-            Neighbour::Down => false,
+            Neighbour::Down { heard: _ } => false,
         }
     }
 
@@ -123,7 +162,7 @@ impl Neighbour {
                 missed: _,
                 report: _,
             } => false,
-            Neighbour::Down => true,
+            Neighbour::Down { heard: _ } => true,
         }
     }
 
@@ -138,7 +177,7 @@ impl Neighbour {
                 missed,
                 report: _,
             } => missed.is_more(),
-            Neighbour::Down => false,
+            Neighbour::Down { heard: _ } => false,
         }
     }
 
@@ -153,7 +192,7 @@ impl Neighbour {
                 missed,
                 report: _,
             } => !matches!(missed, Missed::None),
-            Neighbour::Down => false,
+            Neighbour::Down { heard: _ } => false,
         }
     }
 
@@ -168,8 +207,20 @@ impl Neighbour {
                 missed: _,
                 report,
             } => report.has(processor),
-            Neighbour::Down => true,
+            Neighbour::Down { heard: _ } => true,
         }
+    }
+}
+
+/// A processor that is up, of which an alive packet came since the last check or not. No check missed it, and it
+/// reported nobody.
+pub(crate) fn neighbour_up(heard: bool) -> Neighbour
+    ensures { result ≡ Up heard missed.None nobody }
+{
+    Neighbour::Up {
+        heard,
+        missed: Missed::None,
+        report: ProcessorSet::nobody(),
     }
 }
 

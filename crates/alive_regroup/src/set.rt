@@ -1,5 +1,5 @@
 ghost use Rattle.std.specs.Prelude.{◌≡◌};
-ghost use Rattle.alive_regroup.specs.Sets.{has, nobody};
+ghost use Rattle.alive_regroup.specs.Sets.{has, nobody, without};
 
 /// A set of processors: for each number from 0 on whether the processor is a member.
 #[derive(Clone, Copy, PartialEq, Eq)]
@@ -25,5 +25,17 @@ impl ProcessorSet {
             Some(there) => *there,
             None => false,
         }
+    }
+
+    /// The set without a processor.
+    pub fn without(&self, processor: u8) -> ProcessorSet
+        ensures { result ≡ without processor self.now }
+    {
+        let mut members = self.members;
+        let place = usize::from(processor);
+        if place < members.len() {
+            members[place] = false;
+        }
+        ProcessorSet { members }
     }
 }

@@ -7,9 +7,10 @@ ghost use Rattle.alive_regroup.specs.Watching.{Watching, neighbour_after_alive, 
 ghost use Rattle.alive_regroup.specs.Watching.{neighbour_after_down, is_down, is_up, is_silent, changed_at};
 ghost use Rattle.alive_regroup.specs.Watching.{neighbour_after_check, is_marked, is_missed, after_tick, misses_none};
 ghost use Rattle.alive_regroup.specs.Watching.{is_coordinator, is_held, all_but, agrees, begun, at_first, is_silent_at};
-ghost use Rattle.alive_regroup.specs.Watching.{does_check, told_by_tick};
+ghost use Rattle.alive_regroup.specs.Watching.{after_up, does_check, neighbour_after_up, neighbour_after_up_of};
+ghost use Rattle.alive_regroup.specs.Watching.{told_by_tick};
 
-use crate::neighbour::{Missed, Neighbour};
+use crate::neighbour::{Neighbour, neighbour_up};
 use crate::set::ProcessorSet;
 use std::marker::Model;
 
@@ -23,6 +24,7 @@ pub struct Watch {
     checks: bool,
     neighbours: [Neighbour; 16],
     told: ProcessorSet,
+    due: bool,
 }
 
 impl Model for Watch {
@@ -30,9 +32,21 @@ impl Model for Watch {
 
     ghost Value = { Watching };
 
-    ghost view = { λ watch. record { me = watch.me; checks = watch.checks; neighbours = watch.neighbours; told = watch.told } };
+    ghost view = { λ watch. record {
+      me = watch.me;
+      checks = watch.checks;
+      neighbours = watch.neighbours;
+      told = watch.told;
+      due = watch.due;
+    } };
 
-    ghost inverse = { λ w. record { me = w.me; checks = w.checks; neighbours = w.neighbours; told = w.told } };
+    ghost inverse = { λ w. record {
+      me = w.me;
+      checks = w.checks;
+      neighbours = w.neighbours;
+      told = w.told;
+      due = w.due;
+    } };
 }
 
 impl Watch {
@@ -47,7 +61,15 @@ impl Watch {
             checks: false,
             neighbours,
             told: ProcessorSet::nobody(),
+            due: false,
         }
+    }
+
+    /// The number of the node.
+    pub fn me(&self) -> u8
+        ensures { result ≡ self.now.me }
+    {
+        self.me
     }
 
     /// An alive packet came from a processor.
@@ -80,6 +102,24 @@ impl Watch {
         }
     }
 
+    /// A processor was loaded again: the next check reports, even if it changes nothing.
+    pub fn on_up(&mut self, processor: u8)
+        ensures { self.new ≡ after_up processor self.old }
+    {
+        none_reports(&mut self.neighbours, processor);
+        self.due = true;
+        self.come_up(processor);
+    }
+
+    fn come_up(&mut self, processor: u8)
+        ensures { self.new ≡ changed_at processor neighbour_after_up self.old }
+    {
+        let place = usize::from(processor);
+        if let Some(neighbour) = self.neighbours.get(place) {
+            self.neighbours[place] = neighbour.come_up();
+        }
+    }
+
     /// Whether the node has marked a processor down.
     pub fn marked(&self, processor: u8) -> bool
         ensures { result ≡ is_marked processor self.now }
@@ -104,7 +144,7 @@ impl Watch {
         self.me < 16 && self.checks
     }
 
-    /// The node's tick: the silent set to report, where a check changed it.
+    /// The node's tick: the silent set to report, where a check changed it or a report is due.
     pub fn tick(&mut self) -> Option<ProcessorSet>
         ensures told { result ≡ told_by_tick self.old }
         ensures after { self.new ≡ after_tick self.old }
@@ -118,8 +158,10 @@ impl Watch {
             members: check_all(&mut self.neighbours),
         };
         let before = self.told;
+        let is_due = self.due;
         self.told = silent;
-        if before == silent {
+        self.due = false;
+        if !is_due && before == silent {
             None
         } else {
             to_report(silent)
@@ -235,11 +277,7 @@ fn at_first(me: u8, processors: u8, place: u8) -> Neighbour
     ensures { result ≡ at_first me processors place }
 {
     if place < processors && place != me {
-        Neighbour::Up {
-            heard: false,
-            missed: Missed::None,
-            report: ProcessorSet::nobody(),
-        }
+        neighbour_up(false)
     } else {
         Neighbour::Absent
     }
@@ -255,6 +293,15 @@ fn check_all(neighbours: &mut [Neighbour; 16]) -> [bool; 16]
         members[place] = neighbours[place].check();
     }
     members
+}
+
+/// No neighbour has this processor in its last report any more.
+fn none_reports(neighbours: &mut [Neighbour; 16], processor: u8)
+    ensures { neighbours.new ≡ map (neighbour_after_up_of processor) neighbours.old }
+{
+    for place in 0..16 {
+        neighbours[place].forget(processor);
+    }
 }
 
 fn all_agree(neighbours: &[Neighbour], processor: u8) -> bool

@@ -6,7 +6,8 @@ use Rattle.std.proofs.Common.{arith}
 use Rattle.std.specs.List.{list_all}
 use Rattle.schedule.specs.declared.event.Counts.{Counts}
 use Rattle.schedule.specs.declared.event.Event.{Event}
-use Rattle.schedule.specs.declared.event.Event.TheVariants.{Run, Enter, Deliver, Lose, Repeat, Tick, Fail, Drive}
+use Rattle.schedule.specs.declared.event.Event.TheVariants.{Run, Enter, Deliver, Lose, Repeat, Tick, Fail, Reload}
+use Rattle.schedule.specs.declared.event.Event.TheVariants.{Drive}
 use Rattle.schedule.specs.declared.line.Line.{Line}
 use Rattle.schedule.specs.declared.line.Line.TheVariants.{One, Many, Drain, Mix, Mute, Until}
 use Rattle.player.specs.declared.stop.ProcessorStop.{ProcessorStop}
@@ -73,6 +74,8 @@ line-gives sizes w counts counted s (standing.Event (Deliver bus k) left) h = ab
 line-gives sizes w counts counted s (standing.Event (Lose bus k) left) h = absurd (let bad : false ≡ true = h.1 in cc)
 line-gives sizes w counts counted s (standing.Event (Repeat bus k) left) h = absurd (let bad : false ≡ true = h.1 in cc)
 line-gives sizes w counts counted s (standing.Event (Tick node) left) h = absurd (let bad : false ≡ true = h.1 in cc)
+line-gives sizes w counts counted s (standing.Event (Reload processor) left) h = absurd (let bad : false ≡ true = h.1 in
+    cc)
 line-gives sizes w counts counted s (standing.Event (Drive change) left) h = absurd (let bad : false ≡ true = h.1 in
     cc)
 line-gives {S} {P} sizes w counts counted s (standing.Rounds kind left at) h =
@@ -246,32 +249,55 @@ tick-turn node (ticks other low came at) is below = (came.0, at ∙ (let same : 
 tick-turn node (ends came all) is below =
     absurd (let same : 16 ≡ node = cc in let bad : 16 < 16 = omega (arith, below, same) in omega (arith, bad))
 
--- no turn is one of a drive
-turn-no-drive : {sizes : Sizes} {x y : ℕ} {from to : Place} {event : Event} (change : DriveEvent)
-    → Turns sizes x y from event to → event ≡ Drive change → ⊥
-turn-no-drive change (enters terminal early low) is = cc
-turn-no-drive change (runs process early low) is = cc
-turn-no-drive change (delivers_x left some at) is = cc
-turn-no-drive change (delivers_y left empty some at) is = cc
-turn-no-drive change (ticks other low came at) is = cc
-turn-no-drive change (ends came all) is = cc
+-- no turn is one of a drive or loads a processor again
+abbrev IsOfTurns : Event → Type 0
+IsOfTurns (Run process) = Unit {0}
+IsOfTurns (Enter terminal) = Unit {0}
+IsOfTurns (Deliver bus k) = Unit {0}
+IsOfTurns (Lose bus k) = Unit {0}
+IsOfTurns (Repeat bus k) = Unit {0}
+IsOfTurns (Tick node) = Unit {0}
+IsOfTurns (Fail processor) = Unit {0}
+IsOfTurns (Reload processor) = ⊥
+IsOfTurns (Drive change) = ⊥
+
+of-turns : {sizes : Sizes} {x y : ℕ} {from to : Place} {event : Event} → Turns sizes x y from event to
+    → IsOfTurns event
+of-turns (enters terminal early low) = tt
+of-turns (runs process early low) = tt
+of-turns (delivers_x left some at) = tt
+of-turns (delivers_y left empty some at) = tt
+of-turns (ticks other low came at) = tt
+of-turns (ends came all) = tt
+
+calm-event : {S P : Type 0} (sizes : Sizes) (w : Sight S P) (counts : S → Counts) → CountsBuses w.buses counts
+    → (before : ℕ) (agenda : Agenda) (s : S) → RunsFresh sizes w counts agenda s → (plan : Plan)
+    → upcoming sizes before (counts s) agenda ≡ Some plan → IsOfTurns plan.event
+calm-event {S} {P} sizes w counts counted before agenda s h plan comes =
+    by plan (plan-is (PlansFresh sizes w counts s) _ plan
+    (upcoming-fresh sizes w counts counted s before agenda.standing agenda.lines agenda.stop agenda.held_back h) comes)
+  where
+    at_turn : (now : LinePlace) (event : Event) → ComesFresh sizes w counts s now event → IsOfTurns event
+    at_turn _ _ (by_turn kind left from to event turn h drain low) = of-turns turn
+    at_turn _ _ (by_stop left processor h) = tt
+
+    by : (plan : Plan) → PlansFresh sizes w counts s plan → IsOfTurns plan.event
+    by _ (its_own now lines stop event comes calm) = at_turn now event comes
+    by _ (stop_first now lines stop event processor comes calm) = tt
 
 -- in a calm schedule nothing of a drive comes
 pub no-drive : {S P : Type 0} (sizes : Sizes) (w : Sight S P) (counts : S → Counts) → CountsBuses w.buses counts
     → (before : ℕ) (agenda : Agenda) (s : S) → RunsFresh sizes w counts agenda s → (plan : Plan)
     → upcoming sizes before (counts s) agenda ≡ Some plan → (change : DriveEvent) → plan.event ≡ Drive change → ⊥
-no-drive {S} {P} sizes w counts counted before agenda s h plan comes change is =
-    by plan (plan-is (PlansFresh sizes w counts s) _ plan
-    (upcoming-fresh sizes w counts counted s before agenda.standing agenda.lines agenda.stop agenda.held_back h) comes)
-    is
-  where
-    at_turn : (now : LinePlace) (event : Event) → ComesFresh sizes w counts s now event → event ≡ Drive change → ⊥
-    at_turn _ _ (by_turn kind left from to event turn h drain low) is = turn-no-drive change turn is
-    at_turn _ _ (by_stop left processor h) is = absurd (cc)
+no-drive sizes w counts counted before agenda s h plan comes change is =
+    subst IsOfTurns is (calm-event sizes w counts counted before agenda s h plan comes)
 
-    by : (plan : Plan) → PlansFresh sizes w counts s plan → plan.event ≡ Drive change → ⊥
-    by _ (its_own now lines stop event comes calm) is = at_turn now event comes is
-    by _ (stop_first now lines stop event processor comes calm) is = absurd (cc)
+-- and no processor is loaded again
+pub no-reload : {S P : Type 0} (sizes : Sizes) (w : Sight S P) (counts : S → Counts) → CountsBuses w.buses counts
+    → (before : ℕ) (agenda : Agenda) (s : S) → RunsFresh sizes w counts agenda s → (plan : Plan)
+    → upcoming sizes before (counts s) agenda ≡ Some plan → (processor : ℕ) → plan.event ≡ Reload processor → ⊥
+no-reload sizes w counts counted before agenda s h plan comes processor is =
+    subst IsOfTurns is (calm-event sizes w counts counted before agenda s h plan comes)
 
 -- in a calm schedule a processor that ticks finds nobody silent that runs
 pub nobody-silent : {S P : Type 0} (sizes : Sizes) (w : Sight S P) (counts : S → Counts) → CountsBuses w.buses counts

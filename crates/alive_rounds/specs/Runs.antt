@@ -2,7 +2,8 @@
 use Rattle.std.specs.Prelude.{◌≡◌, ℕ, Bool, true, false, Option, Some, None}
 use Rattle.std.specs.List.{list_all}
 use Rattle.schedule.specs.declared.event.Event.{Event}
-use Rattle.schedule.specs.declared.event.Event.TheVariants.{Run, Enter, Deliver, Lose, Repeat, Tick, Fail, Drive}
+use Rattle.schedule.specs.declared.event.Event.TheVariants.{Run, Enter, Deliver, Lose, Repeat, Tick, Fail, Reload}
+use Rattle.schedule.specs.declared.event.Event.TheVariants.{Drive}
 use Rattle.schedule.specs.declared.event.Counts.{Counts}
 use Rattle.player.specs.declared.standing.Sizes.{Sizes}
 use Rattle.player.specs.declared.standing.Place.{Place}
@@ -18,7 +19,7 @@ use Rattle.round_laws.specs.Stretches.{is_drain}
 use Rattle.alive_rounds.specs.Watched.{Sight}
 use Rattle.alive_rounds.specs.Fresh.{IsFresh}
 
--- ticks, stops and what becomes of drives write nothing and answer nobody
+-- ticks, stops, reloads and what becomes of drives write nothing and answer nobody
 abbrev pub shows_nothing : Event → Bool
 shows_nothing (Run process) = false
 shows_nothing (Enter terminal) = false
@@ -27,6 +28,7 @@ shows_nothing (Lose bus k) = false
 shows_nothing (Repeat bus k) = false
 shows_nothing (Tick node) = true
 shows_nothing (Fail processor) = true
+shows_nothing (Reload processor) = true
 shows_nothing (Drive event) = true
 
 -- and so they leave what is counted of it

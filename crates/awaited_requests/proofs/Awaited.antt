@@ -6,7 +6,7 @@ use Rattle.plain_semantics.specs.declared.slot.Opener.{Opener}
 use Rattle.plain_semantics.specs.declared.slot.Slot.{Slot}
 use Rattle.plain_semantics.specs.Openers.{opener_of}
 use Rattle.world_semantics.specs.World.{Pair, World, copy_of}
-use Rattle.world_semantics.specs.declared.role.Role.TheVariants.{Gone}
+use Rattle.world_semantics.specs.declared.role.Role.TheVariants.{Gone, Blank}
 use Rattle.world_semantics.specs.declared.which.Which.{Which}
 use Rattle.takeover_laws.specs.plain_histories.specs.Slots.{IsSlot, is_empty, is_waiting, is_taken, is_answered}
 use Rattle.takeover_laws.specs.plain_histories.proofs.Openers.{opener-is}
@@ -35,14 +35,14 @@ pub awaited-stands : (site : Site) → IsFit site → (events : ℕ) (w : World)
     → (asker : ℕ) (one : Who) (n : ℕ) (opener : Opener)
     (pair : Pair) (k : Which) → opener_of site one ≡ Some opener → slice_get w.processes opener.server ≡ Some pair
     → IsAwaited site w asker one n
-    → (copy_of k pair).role ≢ Gone → StandsThere (copy_of k pair).core opener.place n
-awaited-stands site fit events w inv asker one n opener pair k opens there awaited not_gone =
+    → (copy_of k pair).role ≢ Gone → (copy_of k pair).role ≢ Blank → StandsThere (copy_of k pair).core opener.place n
+awaited-stands site fit events w inv asker one n opener pair k opens there awaited not_gone full =
     let near = awaited-near site fit events w inv asker one n opener opens awaited in
     let is = opener-is site one opener opens in
     let last = near.last is.spec is.placed in
     let counts = slot-counts ((booked-ran fit.regular inv.booked).agrees.slots one opener opens).2 in
     let server = inv.processes opener.server pair there in
-    let has = copy-takes pair k server.2.led not_gone in
+    let has = copy-takes pair k server.2.led not_gone full in
     let takes = has.takes opener.place in
     let answers = has.answers opener.place in
     near-stands has.done opener.place is.spec n is.placed near.some (omega (arith, near.asked, counts.0, takes))

@@ -6,8 +6,8 @@ use Rattle.tal_tree.specs.declared.act.Act.{Act}
 use Rattle.tal_tree.specs.declared.site.ProcessSpec.{ProcessSpec}
 use Rattle.tal_tree.specs.declared.site.Site.{Site}
 use Rattle.world_semantics.specs.Core.{Core, Deed, Went, Checkpointed, Took, Asked, Got, Answered, Acted}
-use Rattle.world_semantics.specs.World.{Copy, Pair, Down, copy_of}
-use Rattle.world_semantics.specs.declared.role.Role.TheVariants.{Acting, Gone}
+use Rattle.world_semantics.specs.World.{Copy, Pair, copy_of}
+use Rattle.world_semantics.specs.declared.role.Role.TheVariants.{Acting, Gone, Blank}
 use Rattle.world_semantics.specs.declared.which.Which.{Which}
 use Rattle.world_semantics.specs.declared.which.Which.TheVariants.{First, Second}
 use Rattle.takeover_laws.specs.process_histories.specs.Histories.{HasDone}
@@ -15,25 +15,23 @@ use Rattle.takeover_laws.specs.process_histories.specs.Words.{take_from, answer_
 use Rattle.takeover_laws.specs.plain_histories.specs.Booking.{AreHeld, none_held, take_held, step_held}
 use Rattle.takeover_laws.specs.plain_histories.specs.Ledgers.{Ledger}
 use Rattle.takeover_laws.specs.Invariant.{AreRepeatable, Stage, IsLead, is_level, is_applied, is_behind, Watches}
-use Rattle.takeover_laws.specs.Invariant.{IsOther, is_lost, is_due, is_even, has_applied, FirstLeads, with_other, alone}
-use Rattle.takeover_laws.specs.Invariant.{IsLed, by_first, by_second}
+use Rattle.takeover_laws.specs.Invariant.{IsOther, is_lost, is_due, is_even, has_applied, FirstLeads, with_other, IsLed}
+use Rattle.takeover_laws.specs.Invariant.{by_first, by_second, has_renewed, is_blank}
 use Rattle.takeover_laws.proofs.Checkpoints.{other-rests}
 use Rattle.takeover_laws.proofs.Repeating.{repeatable-join}
 
 -- Leads
 
-module _ {site : Site} {marks : List Down} {ledger : Ledger} {number : ℕ} {spec : ProcessSpec} {deeds : List Deed} where
-  first-lead : {pair : Pair} → FirstLeads site marks ledger number spec deeds pair
+module _ {site : Site} {ledger : Ledger} {number : ℕ} {spec : ProcessSpec} {deeds : List Deed} where
+  first-lead : {pair : Pair} → FirstLeads site ledger number spec deeds pair
       → (stage : Stage) × IsLead site ledger number spec deeds pair.first stage
-  first-lead (with_other {stage = stage} role lead behind other) = (stage, lead)
-  first-lead (alone {stage = stage} role lead applied unsent gone marked) = (stage, lead)
+  first-lead (with_other {stage = stage} role lead other dated) = (stage, lead)
 
-  second-rests : {pair : Pair} → FirstLeads site marks ledger number spec deeds pair → pair.second.role ≡ Acting → ⊥
-  second-rests (with_other role lead behind other) acting = other-rests other acting
-  second-rests (alone role lead applied unsent gone marked) acting = absurd (cc)
+  second-rests : {pair : Pair} → FirstLeads site ledger number spec deeds pair → pair.second.role ≡ Acting → ⊥
+  second-rests (with_other role lead other dated) acting = other-rests other acting
 
   -- a copy that acts leads
-  pub acting-leads : (pair : Pair) (k : Which) → IsLed site marks ledger number spec deeds pair
+  pub acting-leads : (pair : Pair) (k : Which) → IsLed site ledger number spec deeds pair
       → (copy_of k pair).role ≡ Acting
       → (stage : Stage) × IsLead site ledger number spec deeds (copy_of k pair) stage
   acting-leads pair First (by_first leads) acting = first-lead leads
@@ -96,7 +94,7 @@ module _ {site : Site} {number : ℕ} {spec : ProcessSpec} {deeds : List Deed} w
     takes = λ place. omega (arith, count-join (take_from place) more deeds);
     answers = λ place. omega (arith, count-join (answer_to place) more deeds, ap length (held-answers place held));
   }
-  lead-takes (is_applied before none split position done sent) = record {
+  lead-takes (is_applied before none split position done) = record {
     whole = before;
     done = done;
     takes = λ place. rw split (omega arith);
@@ -111,22 +109,23 @@ module _ {site : Site} {number : ℕ} {spec : ProcessSpec} {deeds : List Deed} w
   watching-takes watches = since-takes watches.since watches.before watches.split watches.repeatable watches.done
 
   other-takes : {pair : Pair} {stage : Stage} → IsOther site number spec deeds pair stage → pair.second.role ≢ Gone
-      → HasAllTakes site number spec deeds pair.second.core
-  other-takes (is_lost gone) there = absurd (there gone)
-  other-takes (is_due watches sent told next image) there = watching-takes watches
-  other-takes (is_even watches next unsent told) there = watching-takes watches
-  other-takes (has_applied watches next) there = watching-takes watches
+      → pair.second.role ≢ Blank → HasAllTakes site number spec deeds pair.second.core
+  other-takes (is_lost gone) there full = absurd (there gone)
+  other-takes (is_blank b) there full = absurd (full b.role)
+  other-takes (is_due watches sent told next at image) there full = watching-takes watches
+  other-takes (is_even stage watches next unsent told renewal) there full = watching-takes watches
+  other-takes (has_applied watches next sent told) there full = watching-takes watches
+  other-takes (has_renewed stage away watches next sent told) there full = watching-takes watches
 
-  module _ {marks : List Down} {ledger : Ledger} where
-    second-takes : {pair : Pair} → FirstLeads site marks ledger number spec deeds pair → pair.second.role ≢ Gone
-        → HasAllTakes site number spec deeds pair.second.core
-    second-takes (with_other role lead behind other) there = other-takes other there
-    second-takes (alone role lead applied unsent gone marked) there = absurd (there gone)
+  module _ {ledger : Ledger} where
+    second-takes : {pair : Pair} → FirstLeads site ledger number spec deeds pair → pair.second.role ≢ Gone
+        → pair.second.role ≢ Blank → HasAllTakes site number spec deeds pair.second.core
+    second-takes (with_other role lead other dated) there full = other-takes other there full
 
-    pub copy-takes : (pair : Pair) (k : Which) → IsLed site marks ledger number spec deeds pair
-        → (copy_of k pair).role ≢ Gone
+    pub copy-takes : (pair : Pair) (k : Which) → IsLed site ledger number spec deeds pair
+        → (copy_of k pair).role ≢ Gone → (copy_of k pair).role ≢ Blank
         → HasAllTakes site number spec deeds (copy_of k pair).core
-    copy-takes pair First (by_first leads) there = lead-takes (first-lead leads).1
-    copy-takes pair Second (by_first leads) there = second-takes leads there
-    copy-takes pair First (by_second leads) there = second-takes leads there
-    copy-takes pair Second (by_second leads) there = lead-takes (first-lead leads).1
+    copy-takes pair First (by_first leads) there full = lead-takes (first-lead leads).1
+    copy-takes pair Second (by_first leads) there full = second-takes leads there full
+    copy-takes pair First (by_second leads) there full = second-takes leads there full
+    copy-takes pair Second (by_second leads) there full = lead-takes (first-lead leads).1

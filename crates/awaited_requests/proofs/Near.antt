@@ -164,7 +164,7 @@ module _ (site : Site) (fit : IsFit site) where
       by (is_level is none_held position done sent) = near [] (ledger.deeds number) refl tt done
       by (is_level is (take_held waits) position done sent) = loud (take_held waits) (λ e. absurd (cc)) done
       by (is_level is (step_held held) position done sent) = loud (step_held held) (λ e. absurd (cc)) done
-      by (is_applied before none split position done sent) =
+      by (is_applied before none split position done) =
           let mark = stands-there (done-last done
           (subst (λ d. HasDone site number spec d stands.core) split stands.done)) in absurd (cc)
       by (is_behind since then before none split again all position done unsent) =

@@ -1,5 +1,5 @@
 -- Awaited requests are served: what is so of each of them until its reply is there.
-use Rattle.std.specs.Prelude.{◌≡◌, ◌≢◌, ◌⊎◌, ℕ, ℤ, false, List, slice_get, Some}
+use Rattle.std.specs.Prelude.{◌≡◌, ◌≢◌, ◌⊎◌, ℕ, ℤ, false, List, slice_get, Some, true}
 use Rattle.gd_words.specs.Members.{IsAmong}
 use Rattle.gd_words.specs.declared.message.Request.{Request}
 use Rattle.gd_words.specs.declared.message.Reply.{Reply}
@@ -9,10 +9,10 @@ use Rattle.plain_semantics.specs.declared.slot.Opener.{Opener}
 use Rattle.plain_semantics.specs.Openers.{opener_of}
 use Rattle.checkpoint_image.specs.declared.receive.RequestStanding.TheVariants.{Next, Kept}
 use Rattle.checkpoint_image.specs.Receive.{standing_at}
-use Rattle.world_semantics.specs.declared.role.Role.TheVariants.{Acting, Watching}
+use Rattle.world_semantics.specs.declared.role.Role.TheVariants.{Acting}
 use Rattle.world_semantics.specs.declared.which.Which.{Which}
 use Rattle.world_semantics.specs.Messages.{Asking, Replying}
-use Rattle.world_semantics.specs.World.{Copy, Pair, is_running, copy_of}
+use Rattle.world_semantics.specs.World.{Copy, Pair, is_running, copy_of, receives}
 use Rattle.letters.specs.Posts.{Post}
 use Rattle.letters.specs.Routes.{route_of, home_of}
 use Rattle.awaited_requests.specs.Awaited.{IsAwaited}
@@ -29,11 +29,11 @@ reply_of opener n words = record { process = opener.server; opener = opener.plac
 abbrev pub request_of : Opener → ℕ → List ℤ → Request
 request_of opener n words = record { process = opener.server; opener = opener.place; number = n; words = words }
 
--- a copy at a node has seen to a request that a node awaits: it waits there, where the copy watches or the request
--- stands next; and where the copy keeps the reply, that is owed to the asker, unless the node finds the opener
+-- a copy at a node has seen to a request that a node awaits: it waits there, where the copy watches or is blank or the
+-- request stands next; and where the copy keeps the reply, that is owed to the asker, unless the node finds the opener
 -- elsewhere
 pub record HasSeen (post : Post) (asker : ℕ) (one : Who) (copy : Copy) (opener : Opener) (n : ℕ) : Type 0 where
-  pub watching : copy.role ≡ Watching → WaitsFor copy.waiting opener n
+  pub watching : receives copy.role ≡ true → WaitsFor copy.waiting opener n
   pub next : copy.role ≡ Acting → standing_at copy.core.receive opener.place n ≡ Next → WaitsFor copy.waiting opener n
   pub kept : copy.role ≡ Acting → (words : List ℤ) → standing_at copy.core.receive opener.place n ≡ Kept words
       → IsAmong (record { sender = copy.processor; receiver = asker; message = Replying (reply_of opener n words) })

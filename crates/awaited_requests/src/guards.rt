@@ -6,6 +6,7 @@ ghost use Rattle.checkpoint_image.specs.Receive.{standing_at};
 ghost use Rattle.takeover_laws.specs.process_histories.specs.Served.{disc_site};
 ghost use Rattle.world_semantics.specs.Core.{Core};
 ghost use Rattle.world_semantics.specs.World.{terminal_node, boot};
+ghost use Rattle.world_semantics.specs.declared.which.Which.TheVariants.{Second};
 ghost use Rattle.letters.specs.Posts.{post_at_boot};
 ghost use Rattle.awaited_requests.specs.Awaited.{IsAwaited, StandsThere};
 ghost use Rattle.awaited_requests.specs.Examples.{both_answered, site_with, disc_pair, holding, entered, entered_with};
@@ -33,10 +34,11 @@ pub fn layouts_are_told_apart()
     ensures elsewhere { IsLaidOut (site_with 2 0 2) → ⊥ }
 {}
 
-/// A disc is seated at its beginning; it isn't where the copy that watches holds acts, where its node has marked the
-/// other copy's processor, or where a processor isn't there.
+/// A disc is seated at its beginning; it isn't where the copy that watches leads or holds acts, where its node has
+/// marked the other copy's processor, or where a processor isn't there.
 pub fn seats_are_told_apart()
     ensures beginning { IsSeated (false ∷ false ∷ []) [] disc_pair }
+    ensures leads { IsSeated (false ∷ false ∷ []) [] (record disc_pair { led = Second }) → ⊥ }
     ensures holds { IsSeated (false ∷ false ∷ []) [] holding → ⊥ }
     ensures told { IsSeated (false ∷ false ∷ []) (record { node = 1; down = 0 } ∷ []) disc_pair → ⊥ }
     ensures other_way { IsSeated (false ∷ false ∷ []) (record { node = 0; down = 1 } ∷ []) disc_pair }

@@ -7,25 +7,25 @@ ghost use Rattle.plain_semantics.specs.declared.slot.Opener.{Opener};
 ghost use Rattle.plain_semantics.specs.Openers.{opener_of};
 ghost use Rattle.world_semantics.specs.Follows.{IsRun};
 ghost use Rattle.world_semantics.specs.World.{Pair, World, copy_of};
-ghost use Rattle.world_semantics.specs.declared.role.Role.TheVariants.{Gone};
+ghost use Rattle.world_semantics.specs.declared.role.Role.TheVariants.{Blank, Gone};
 ghost use Rattle.world_semantics.specs.declared.which.Which.{Which};
 ghost use Rattle.takeover_laws.specs.Fit.{IsFit};
 ghost use Rattle.awaited_requests.specs.Awaited.{IsAwaited, StandsThere};
 ghost use Rattle.awaited_requests.specs.Seats.{IsLaidOut, AreSeated};
 
-/// A request whose reply is awaited stands next, in hand or kept at each copy of its server that isn't gone, whatever
-/// was taken over: the depth to which replies are kept is enough.
+/// A request whose reply is awaited stands next, in hand or kept at each copy of its server that isn't gone or blank,
+/// whatever was taken over: the depth to which replies are kept is enough.
 pub fn awaited_requests_stand_at_their_server()
     ensures { (site : Site) (events : List Event) (w : World) (asker : ℕ) (one : Who) (n : ℕ) (opener : Opener)
         (pair : Pair) (k : Which) → IsFit site
         → length events < 4294967296 → IsRun site events w → IsAwaited site w asker one n
         → opener_of site one ≡ Some opener
         → slice_get w.processes opener.server ≡ Some pair → (copy_of k pair).role ≢ Gone
-        → StandsThere (copy_of k pair).core opener.place n }
+        → (copy_of k pair).role ≢ Blank → StandsThere (copy_of k pair).core opener.place n }
 {}
 
-/// Copies stay where the site has laid them out, none acts or watches with acts that it shouldn't hold, and one that
-/// watches knows of no loss of the other.
+/// Copies stay where the site has laid them out. None acts, watches or is blank with acts that it shouldn't hold. One
+/// that watches or is blank doesn't lead, and knows of no loss of the other.
 pub fn copies_stay_seated()
     ensures { (site : Site) (events : List Event) (w : World) → IsLaidOut site → IsRun site events w
         → AreSeated site w }

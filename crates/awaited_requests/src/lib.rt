@@ -1,6 +1,6 @@
 //! Requests whose replies are awaited: that the depth to which a server keeps replies is enough, so that such a request
-//! stands next, in hand or kept at every copy of its server, whatever was taken over; where copies are seated; and what
-//! it means that every awaited request is served.
+//! stands next, in hand or kept at each copy of its server that isn't gone or blank, whatever was taken over and loaded
+//! again; where copies are seated; and what it means that every awaited request is served.
 //!
 //! Below stand `takeover_laws` with the invariant of runs and `letters` with what is owed. The crates above show that
 //! every awaited request is served in what machines play, and that nothing is left at an idle end. No code runs here.

@@ -1,7 +1,7 @@
 -- In a run of a calm schedule whose drain rounds are clear, no running processor is held, and no second stop is asked
 -- for.
 use Rattle.std.proofs.Common.{◌≡◌, ◌≤◌, ◌<◌, ◌⊎◌, inl, inr, ℕ, ◌&&◌, nat_lt, Bool, true, false}
-use Rattle.std.proofs.Common.{if◌then◌else◌, List, [], ◌∷◌, length, Option, Some, None, option_map, refl, ap}
+use Rattle.std.proofs.Common.{if◌then◌else◌, List, [], ◌∷◌, length, Option, Some, None, option_map, refl, ap, slice_get}
 use Rattle.std.proofs.Common.{subst, arith}
 use Rattle.std.specs.List.{list_all}
 use Rattle.std.specs.Option.{is_some}
@@ -9,7 +9,8 @@ use Rattle.std.proofs.lemmas.List.{length-append}
 use Rattle.tal_tree.specs.declared.site.Site.{Site}
 use Rattle.schedule.specs.declared.event.Counts.{Counts}
 use Rattle.schedule.specs.declared.event.Event.{Event}
-use Rattle.schedule.specs.declared.event.Event.TheVariants.{Run, Enter, Deliver, Lose, Repeat, Tick, Fail, Drive}
+use Rattle.schedule.specs.declared.event.Event.TheVariants.{Run, Enter, Deliver, Lose, Repeat, Tick, Fail, Reload}
+use Rattle.schedule.specs.declared.event.Event.TheVariants.{Drive}
 use Rattle.schedule.specs.declared.line.Line.{Line}
 use Rattle.schedule.specs.declared.line.Line.TheVariants.{One, Many, Drain, Mix, Mute, Until}
 use Rattle.player.specs.declared.standing.Sizes.{Sizes}
@@ -23,12 +24,11 @@ use Rattle.calm_schedules.specs.Calm.{IsCalm, is_calm_line, is_stop}
 use Rattle.world_semantics.specs.World.{is_running}
 use Rattle.world_semantics.specs.Running.{Done}
 use Rattle.computed_changes.specs.Stopped.{stop_done}
-use Rattle.machine_states.specs.States.{Makes, Would, SecondStop, Harm}
-use Rattle.message_wires.specs.Play.{has_stopped}
+use Rattle.machine_states.specs.States.{Harm}
 use Rattle.packet_words.specs.declared.bus_name.BusName.{BusName}
 use Rattle.packet_wires.specs.Wires.{on_bus, packets_over}
 use Rattle.packet_wires.specs.Play.{IsClear, Packeted, begun as event_begun, fail_acted, out_of, packeted_at_boot}
-use Rattle.packet_wires.specs.Play.{sent_by}
+use Rattle.packet_wires.specs.Play.{sent_by, stop_acted}
 use Rattle.round_laws.specs.Stretches.{is_drain}
 use Rattle.calm_runs.specs.packet_rounds.specs.Played.{IsClearPlay}
 use Rattle.calm_runs.proofs.Calm.{calm-asks, goes-on-running, never-harm}
@@ -156,16 +156,16 @@ module _ (sizes : Sizes) (sight : Sight) where
 -- A stop sends nothing
 
 fail-sends : (s : Packeted) (processor : ℕ) → sent_by s (Fail processor) ≡ []
-fail-sends s processor = by (stop_done processor s.world)
+fail-sends s processor = by (slice_get s.world.stopped processor)
   where
-    by : (done : Option Done) → out_of (fail_acted processor (event_begun s) done) ≡ []
+    stops : (done : Option Done) → out_of (stop_acted processor (event_begun s) done) ≡ []
+    stops None = refl
+    stops (Some done) = refl
+
+    by : (stopped : Option Bool) → out_of (fail_acted processor (event_begun s) stopped) ≡ []
     by None = refl
-    by (Some done) = of (has_stopped s.world.stopped)
-      where
-        of : (stopped : Bool) → out_of (if stopped then Would (SecondStop processor)
-            else Makes (record (event_begun s) { world = done.world })) ≡ []
-        of true = refl
-        of false = refl
+    by (Some true) = refl
+    by (Some false) = stops (stop_done processor s.world)
 
 stop-clear : (s : Packeted) (event : Event) → ((name : BusName) → length (on_bus name s.wires) ≤ 4096)
     → is_stop event ≡ true → IsClear s event
@@ -175,6 +175,7 @@ stop-clear s (Deliver y k) few stops name = absurd (cc)
 stop-clear s (Lose y k) few stops name = absurd (cc)
 stop-clear s (Repeat y k) few stops name = absurd (cc)
 stop-clear s (Tick node) few stops name = absurd (cc)
+stop-clear s (Reload processor) few stops name = absurd (cc)
 stop-clear s (Drive event) few stops name = absurd (cc)
 stop-clear s (Fail processor) few stops name =
     let none = ap (λ out. length (packets_over name out)) (fail-sends s processor) in

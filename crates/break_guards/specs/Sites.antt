@@ -2,7 +2,8 @@
 use Rattle.std.specs.Prelude.{ℕ, pos, false, [], ◌∷◌, None, replicate, codes}
 use Rattle.break_text.specs.unfailing_judge.specs.plain_semantics.specs.Machine.{Plain, PlainProcess}
 use Rattle.break_text.specs.unfailing_judge.specs.plain_semantics.specs.declared.slot.Slot.{Slot}
-use Rattle.break_text.specs.unfailing_judge.specs.plain_semantics.specs.declared.slot.Slot.TheVariants.{Answered, Waiting}
+use Rattle.break_text.specs.unfailing_judge.specs.plain_semantics.specs.declared.slot.Slot.TheVariants.{Answered}
+use Rattle.break_text.specs.unfailing_judge.specs.plain_semantics.specs.declared.slot.Slot.TheVariants.{Waiting}
 use Rattle.break_text.specs.unfailing_judge.specs.plain_semantics.specs.process_semantics.specs.Process.{start_of}
 use Rattle.break_text.specs.unfailing_judge.specs.plain_semantics.specs.process_semantics.specs.State.{zeros}
 use Rattle.tal_tree.specs.declared.act.Shown.{Shown}

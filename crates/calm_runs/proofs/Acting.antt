@@ -2,22 +2,22 @@
 use Rattle.std.proofs.Common.{◌≡◌, ℕ, Bool, true, false, if◌then◌else◌, slice_get, Option, Some}
 use Rattle.std.proofs.Common.{None, refl}
 use Rattle.schedule.specs.declared.event.Event.{Event}
-use Rattle.schedule.specs.declared.event.Event.TheVariants.{Run, Enter, Deliver, Lose, Repeat, Tick, Fail, Drive}
+use Rattle.schedule.specs.declared.event.Event.TheVariants.{Run, Enter, Deliver, Lose, Repeat, Tick, Fail, Reload}
+use Rattle.schedule.specs.declared.event.Event.TheVariants.{Drive}
 use Rattle.packet_words.specs.declared.packet.Packet.{Packet}
-use Rattle.world_semantics.specs.World.{is_running}
+use Rattle.world_semantics.specs.World.{is_whole}
 use Rattle.world_semantics.specs.Running.{Done, run_done}
 use Rattle.computed_changes.specs.Entered.{enter_done}
-use Rattle.computed_changes.specs.Stopped.{stop_where, stopped_world}
+use Rattle.computed_changes.specs.Stopped.{stop_if}
 use Rattle.single_stops.specs.message_wires_laws.proofs.Stopping.{StopsNone, run-none, enter-none}
-use Rattle.message_wires.specs.Play.{has_stopped}
-use Rattle.machine_states.specs.States.{Played, Makes, Skips, Would, SecondStop}
+use Rattle.machine_states.specs.States.{Played, Makes, Skips, Would}
 use Rattle.packet_wires.specs.Wires.{Midst, bus_named}
-use Rattle.packet_wires.specs.Play.{Packeted, Underway, acted, begun, deliver_acted, fail_acted, lose_acted, made_by}
-use Rattle.packet_wires.specs.Play.{packet_at, received, repeat_acted}
+use Rattle.packet_wires.specs.Play.{Packeted, Underway, acted, begun, comes_in, deliver_acted, fail_acted, lose_acted}
+use Rattle.packet_wires.specs.Play.{made_by, packet_at, received, repeat_acted, stop_acted}
 use Rattle.calm_runs.proofs.Sending.{over-still}
 use Rattle.calm_runs.proofs.Watching.{StateKeeps, state-none, any-keeps, received-keeps, still-keeps}
 
--- no tick, no stop and nothing of a drive
+-- no tick, no stop, no reload and nothing of a drive
 abbrev pub is_quiet : Event → Bool
 is_quiet (Run number) = true
 is_quiet (Enter terminal) = true
@@ -26,6 +26,7 @@ is_quiet (Lose y k) = true
 is_quiet (Repeat y k) = true
 is_quiet (Tick node) = false
 is_quiet (Fail processor) = false
+is_quiet (Reload processor) = false
 is_quiet (Drive event) = false
 
 abbrev pub KeepsIf : Packeted → Played Midst → Type 0
@@ -50,7 +51,7 @@ quiet-keeps s (Deliver y k) quiet = by (packet_at s (bus_named y) k)
 
     by : (packet : Option Packet) → KeepsIf s (deliver_acted (bus_named y) (begun s) packet)
     by None = tt
-    by (Some packet) = to packet (is_running s.world.stopped packet.receiver)
+    by (Some packet) = to packet (comes_in packet (begun s))
 quiet-keeps s (Lose y k) quiet = by (packet_at s (bus_named y) k)
   where
     by : (packet : Option Packet) → KeepsIf s (lose_acted (begun s) packet)
@@ -66,6 +67,7 @@ quiet-keeps s (Repeat y k) quiet = by (packet_at s (bus_named y) k)
     }
 quiet-keeps s (Tick node) quiet = absurd (cc)
 quiet-keeps s (Fail processor) quiet = absurd (cc)
+quiet-keeps s (Reload processor) quiet = absurd (cc)
 quiet-keeps s (Drive event) quiet = absurd (cc)
 
 -- a stop changes nothing but who runs
@@ -76,18 +78,17 @@ pub record StopsSo (s : Packeted) (after : Underway) : Type 0 where
 abbrev pub StopsIf : Packeted → Played Midst → Type 0
 StopsIf s (Makes after) = StopsSo s after
 StopsIf s Skips = Unit {0}
-StopsIf s (Would harm) = has_stopped s.world.stopped ≡ true
+StopsIf s (Would harm) = is_whole s.world ≡ false
 
 pub stop-leaves : (s : Packeted) (processor : ℕ) → StopsIf s (acted s (Fail processor))
-stop-leaves s processor = by (slice_get s.world.stopped processor)
+stop-leaves s processor = by (slice_get s.world.stopped processor) refl
   where
-    first : (any : Bool) → has_stopped s.world.stopped ≡ any → StopsIf s
-        (if any then Would (SecondStop processor)
-        else Makes (record (begun s) { world = stopped_world processor s.world }))
-    first true is = is
-    first false is = record { wires = refl; shown = refl }
+    first : (whole : Bool) → is_whole s.world ≡ whole
+        → StopsIf s (stop_acted processor (begun s) (stop_if processor s.world whole))
+    first true is = record { wires = refl; shown = refl }
+    first false is = is
 
-    by : (o : Option Bool) → StopsIf s (fail_acted processor (begun s) (stop_where processor s.world o))
-    by None = tt
-    by (Some true) = tt
-    by (Some false) = first (has_stopped s.world.stopped) refl
+    by : (o : Option Bool) → slice_get s.world.stopped processor ≡ o → StopsIf s (fail_acted processor (begun s) o)
+    by None at = tt
+    by (Some true) at = tt
+    by (Some false) at = rw at (first (is_whole s.world) refl)

@@ -1,6 +1,6 @@
 -- Why in a calm schedule nobody who runs is stopped but by its one stop.
-use Rattle.std.proofs.Common.{◌≡◌, ◌≤◌, ◌<◌, ◌⊎◌, inl, inr, ℕ, zero, suc, ◌+◌, ◌∙◌, Bool, true, false, List, [], ◌∷◌}
-use Rattle.std.proofs.Common.{length, replicate, slice_get, Option, Some, None, refl, ap, sym, subst, arith, cond}
+use Rattle.std.proofs.Common.{◌≡◌, ◌≤◌, ◌<◌, ◌⊎◌, inl, inr, ℕ, ◌+◌, ◌∙◌, nat_lt, Bool, true, false, List, [], ◌∷◌}
+use Rattle.std.proofs.Common.{length, slice_get, Option, Some, None, refl, ap, sym, subst, arith, cond}
 use Rattle.std.proofs.Common.{◌&&◌}
 use Rattle.std.specs.List.{count_by, list_all}
 use Rattle.std.specs.Option.{is_some}
@@ -9,29 +9,34 @@ use Rattle.std.proofs.lemmas.Option.{slice_get_within}
 use Rattle.tal_tree.specs.declared.site.Site.{Site}
 use Rattle.schedule.specs.declared.event.Counts.{Counts}
 use Rattle.schedule.specs.declared.event.Event.{Event}
-use Rattle.schedule.specs.declared.event.Event.TheVariants.{Run, Enter, Deliver, Lose, Repeat, Tick, Fail, Drive}
+use Rattle.schedule.specs.declared.event.Event.TheVariants.{Run, Enter, Deliver, Lose, Repeat, Tick, Fail, Reload}
+use Rattle.schedule.specs.declared.event.Event.TheVariants.{Drive}
 use Rattle.schedule.specs.declared.line.Line.{Line}
 use Rattle.schedule.specs.declared.line.Line.TheVariants.{One, Many, Drain, Mix, Mute, Until}
 use Rattle.player.specs.declared.stop.ProcessorStop.{ProcessorStop}
 use Rattle.agendas.specs.Agendas.{Agenda, Plan, PlaysOn, plays_none, plays_on, upcoming}
 use Rattle.calm_schedules.specs.Calm.{IsCalm, is_calm_line, is_stop, stops_one}
-use Rattle.world_semantics.specs.World.{is_running, runs_by}
-use Rattle.message_wires.specs.Play.{has_stopped}
+use Rattle.world_semantics.specs.Running.{Done}
+use Rattle.world_semantics.specs.Rules.{most_reloads}
+use Rattle.world_semantics.specs.World.{is_noted_by_all, is_running, is_whole, runs_by}
+use Rattle.computed_changes.specs.Stopped.{reload_counted, reload_done, reload_if, reload_where}
 use Rattle.machine_states.specs.States.{Played, Makes, Skips, Would, Harm, SecondStop, DiscLoss}
 use Rattle.packet_wires.specs.Wires.{Midst}
-use Rattle.packet_wires.specs.Play.{Packeted, acted, ended, packeted_at_boot, play, taken_off}
+use Rattle.packet_wires.specs.Play.{Packeted, acted, begun, ended, packeted_at_boot, play, reload_acted, taken_off}
 use Rattle.single_stops.specs.StopsAsked.{stops_asked, stops_in, stops_of, stops_of_lines}
 use Rattle.single_stops.proofs.Costs.{IsPaid, to_come, upcoming-paid}
+use Rattle.single_stops.specs.message_wires_laws.proofs.Whole.{begins-whole}
 use Rattle.round_laws.specs.Stretches.{CountsBuses}
 use Rattle.alive_rounds.specs.Runs.{CountsShown, RunsFresh, shows_nothing}
-use Rattle.alive_rounds.proofs.Running.{nobody-silent, no-drive, nobody-stopped, runs-fresh}
+use Rattle.alive_rounds.proofs.Running.{nobody-silent, no-drive, no-reload, nobody-stopped, runs-fresh}
 use Rattle.packet_rounds.specs.Played.{IsClearPlay, IsPlay, buses_of, sizes_of}
-use Rattle.packet_rounds.proofs.Nets.{remains}
+use Rattle.packet_rounds.specs.packets_laws.specs.Passing.{ReloadsNone}
 use Rattle.calm_runs.specs.Sights.{CountsOfShown, packets_seen}
 use Rattle.calm_runs.proofs.Acting.{KeepsIf, StopsIf, is_quiet, quiet-keeps, stop-leaves}
 use Rattle.calm_runs.proofs.Sound.{IsSound, SoundPlay, boot-fresh, boot-sound, line-pulled, sound-buses, sound-on}
 use Rattle.calm_runs.proofs.Sound.{tick-made, watched}
 use Rattle.calm_runs.proofs.Ticking.{TicksIf, ticks-so}
+use Rattle.calm_runs.proofs.Whole.{play-whole}
 use Rattle.schedule.specs.declared.event.DriveEvent.{DriveEvent}
 use Rattle.packet_rounds.specs.packets_laws.proofs.Pieces.{drive-keeps}
 use Rattle.world_semantics.specs.World.{World}
@@ -49,12 +54,41 @@ fail-shown s processor next made = by (acted s (Fail processor)) (stop-leaves s 
     by Skips so made = absurd (cc)
     by (Would harm) so made = absurd (cc)
 
+reload-shown : (s : Packeted) (processor : ℕ) (next : Packeted) → play s (Reload processor) ≡ Makes next
+    → next.world.shown ≡ s.world.shown
+reload-shown s processor next made =
+    by (reload_done s.site processor s.world) (where-shown (slice_get s.world.stopped processor)) made
+  where
+    Shows : Option Done → Type 0
+    Shows None = Unit {0}
+    Shows (Some done) = done.world.shown ≡ s.world.shown
+
+    may : (times : ℕ) (test : Bool) → Shows (reload_if s.site processor times s.world test)
+    may times true = refl
+    may times false = tt
+
+    counted : (times : Option ℕ) → Shows (reload_counted s.site processor s.world times)
+    counted None = tt
+    counted (Some times) = may times (is_noted_by_all s.world processor && nat_lt times most_reloads)
+
+    where-shown : (stopped : Option Bool) → Shows (reload_where s.site processor s.world stopped)
+    where-shown None = tt
+    where-shown (Some true) = counted (slice_get s.world.reloads processor)
+    where-shown (Some false) = tt
+
+    by : (done : Option Done) → Shows done → ended s.wires (reload_acted processor (begun s) done) ≡ Makes next
+        → next.world.shown ≡ s.world.shown
+    by None shows made = absurd (cc)
+    by (Some done) shows made =
+        let same : next.world.shown ≡ done.world.shown = cc in same ∙ shows
+
 play-shown : (s : Packeted) (event : Event) (next : Packeted) → shows_nothing event ≡ true → IsPlay s event next
     → next.world.shown ≡ s.world.shown
 play-shown s event next shows (inr skips) = ap (λ (u : Packeted). u.world.shown) skips.1
 play-shown s (Tick node) next shows (inl made) = let t = tick-made s node next made in
     ap (λ (u : Packeted). u.world.shown) t.next_is ∙ t.so.shown
 play-shown s (Fail processor) next shows (inl made) = fail-shown s processor next made
+play-shown s (Reload processor) next shows (inl made) = reload-shown s processor next made
 play-shown s (Drive event) next shows (inl made) = ap (λ (w : World). w.shown) (drive-keeps s next event made)
 play-shown s (Run number) next shows (inl made) = absurd (cc)
 play-shown s (Enter number) next shows (inl made) = absurd (cc)
@@ -70,6 +104,31 @@ counts-shown site counts shown s event next shows g = shown next s (play-shown s
 module _ (site : Site) (few : site.processors ≤ 16) (counts : Packeted → Counts) (counted : CountsBuses buses_of counts)
     (shown : CountsOfShown counts) (lines : List Line) (stop : Option ProcessorStop)
     (calm : list_all is_calm_line lines ≡ true) where
+  fresh-so : (events : List Event) (agenda : Agenda) (s : Packeted)
+      → PlaysOn (sizes_of site) counts (SoundPlay site) (packeted_at_boot site) lines stop events agenda s
+      → RunsFresh (sizes_of site) packets_seen counts agenda s
+  fresh-so events agenda s played =
+      runs-fresh (sizes_of site) packets_seen counts (SoundPlay site) (watched site few) few (sound-buses site) counted
+      (counts-shown site counts shown) (packeted_at_boot site) lines stop calm (boot-fresh site few) events agenda s
+      played
+
+  -- what comes next loads no processor again
+  loads-none : (before : ℕ) (agenda : Agenda) (s : Packeted) → RunsFresh (sizes_of site) packets_seen counts agenda s
+      → (plan : Plan) → upcoming (sizes_of site) before (counts s) agenda ≡ Some plan → ReloadsNone plan.event
+  loads-none before agenda s fresh plan comes = by plan.event refl
+    where
+      by : (event : Event) → plan.event ≡ event → ReloadsNone event
+      by (Run number) is = tt
+      by (Enter number) is = tt
+      by (Deliver y k) is = tt
+      by (Lose y k) is = tt
+      by (Repeat y k) is = tt
+      by (Tick node) is = tt
+      by (Fail processor) is = tt
+      by (Reload processor) is =
+          no-reload (sizes_of site) packets_seen counts counted before agenda s fresh plan comes processor is
+      by (Drive event) is = tt
+
   sounded : (events : List Event) (agenda : Agenda) (s : Packeted)
       → PlaysOn (sizes_of site) counts IsClearPlay (packeted_at_boot site) lines stop events agenda s
       → IsSound site s
@@ -77,15 +136,13 @@ module _ (site : Site) (few : site.processors ≤ 16) (counts : Packeted → Cou
   sounded _ _ _ plays_none = (boot-sound site few, plays_none)
   sounded _ _ _ (plays_on {events = events} {agenda = agenda} {s = s} {next = next} plan before comes g) =
       let b = sounded events agenda s before in
-      (sound-on site few s plan.event next g.1 b.0, plays_on plan b.1 comes (b.0, g))
+      let none = loads-none (length events) agenda s (fresh-so events agenda s b.1) plan comes in
+      (sound-on site few s plan.event next none g.1 b.0, plays_on plan b.1 comes (b.0, g, none))
 
   fresh : (events : List Event) (agenda : Agenda) (s : Packeted)
       → PlaysOn (sizes_of site) counts IsClearPlay (packeted_at_boot site) lines stop events agenda s
       → RunsFresh (sizes_of site) packets_seen counts agenda s
-  fresh events agenda s played =
-      runs-fresh (sizes_of site) packets_seen counts (SoundPlay site) (watched site few) few (sound-buses site) counted
-      (counts-shown site counts shown) (packeted_at_boot site) lines stop calm (boot-fresh site few) events agenda s
-      (sounded events agenda s played).1
+  fresh events agenda s played = fresh-so events agenda s (sounded events agenda s played).1
 
   quiet-stays : (s : Packeted) (event : Event) (next : Packeted) → is_quiet event ≡ true → IsPlay s event next
       → next.world.stopped ≡ s.world.stopped
@@ -123,6 +180,9 @@ module _ (site : Site) (few : site.processors ≤ 16) (counts : Packeted → Cou
       by (Lose y k) is = quiet (Lose y k) is refl
       by (Repeat y k) is = quiet (Repeat y k) is refl
       by (Fail processor) is = absurd (let bad : true ≡ false = ap is_stop (sym is) ∙ no_stop in cc)
+      by (Reload processor) is =
+          absurd (no-reload (sizes_of site) packets_seen counts counted (length events) agenda s
+          (fresh events agenda s played) plan comes processor is)
       by (Drive event) is = subst (λ l. is_running l p ≡ true)
           (sym (turn-stays s event next (subst (λ e. IsPlay s e next) is g.1))) here
       by (Tick node) is = nobody-stopped (sizes_of site) packets_seen counts (SoundPlay site) (watched site few) counted
@@ -130,52 +190,37 @@ module _ (site : Site) (few : site.processors ≤ 16) (counts : Packeted → Cou
           (length events) agenda s next (fresh events agenda s played) plan comes (
             (sounded events agenda s played).0,
             g,
+            loads-none (length events) agenda s (fresh events agenda s played) plan comes,
           )
           node p is low here
 
   -- Stops are paid
 
+  -- as long as the world is whole, and none after that
   record IsSingle (agenda : Agenda) (s : Packeted) : Type 0 where
     at_most : to_come agenda ≤ 1
-    none : has_stopped s.world.stopped ≡ true → to_come agenda ≡ 0
+    none : is_whole s.world ≡ false → to_come agenda ≡ 0
 
-  first-gone : (stopped : List Bool) → has_stopped stopped ≡ true → (p : ℕ) × (slice_get stopped p ≡ Some true)
-  first-gone [] gone = absurd (cc)
-  first-gone (true ∷ stopped) gone = (0, refl)
-  first-gone (false ∷ stopped) gone = let more = first-gone stopped gone in (suc more.0, more.1)
-
-  one-gone : (stopped : List Bool) (p : ℕ) → slice_get stopped p ≡ Some true → has_stopped stopped ≡ true
-  one-gone [] p there = absurd (cc)
-  one-gone (true ∷ stopped) p there = refl
-  one-gone (false ∷ stopped) zero there = absurd (cc)
-  one-gone (false ∷ stopped) (suc p) there = one-gone stopped p there
-
-  none-at-first : (n : ℕ) → has_stopped (replicate n false) ≡ false
-  none-at-first zero = refl
-  none-at-first (suc n) = none-at-first n
-
-  gone-before : (s next : Packeted) → length next.world.stopped ≡ length s.world.stopped
-      → ((p : ℕ) → p < length s.world.stopped → is_running s.world.stopped p ≡ true
-      → is_running next.world.stopped p ≡ true)
-      → has_stopped next.world.stopped ≡ true → has_stopped s.world.stopped ≡ true
-  gone-before s next size stays gone = by (slice_get s.world.stopped one.0) refl
+  -- whatever comes next but a stop leaves a whole world whole
+  stays-whole : (events : List Event) (agenda : Agenda) (s : Packeted)
+      → PlaysOn (sizes_of site) counts IsClearPlay (packeted_at_boot site) lines stop events agenda s → (plan : Plan)
+      → upcoming (sizes_of site) (length events) (counts s) agenda ≡ Some plan → (next : Packeted)
+      → IsClearPlay s plan.event next → is_stop plan.event ≡ false → is_whole s.world ≡ true
+      → is_whole next.world ≡ true
+  stays-whole events agenda s played plan comes next (clear, inr skips) no_stop whole =
+      ap (λ (u : Packeted). is_whole u.world) skips.1 ∙ whole
+  stays-whole events agenda s played plan comes next (clear, inl made) no_stop whole =
+      elim (play-whole s plan.event next not-stopping made whole) [
+        | inl still ↦ still
+        | inr gone ↦ (let low = slice_get_within s.world.stopped gone.0 false gone.1 in
+            let size = (sounded events agenda s played).0.size in
+            let runs = goes-on-running events agenda s played plan comes next (clear, inl made) no_stop gone.0
+            (omega (arith, low, size)) (ap (runs_by gone.0) gone.1) in
+            let bad : true ≡ false = sym runs ∙ gone.2 in absurd (cc))
+      ]
     where
-      one : (p : ℕ) × (slice_get next.world.stopped p ≡ Some true)
-      one = first-gone next.world.stopped gone
-
-      low : one.0 < length s.world.stopped
-      low = let within = slice_get_within next.world.stopped one.0 true one.1 in omega (arith, within, size)
-
-      by : (o : Option Bool) → slice_get s.world.stopped one.0 ≡ o → has_stopped s.world.stopped ≡ true
-      by (Some true) there = one-gone s.world.stopped one.0 there
-      by (Some false) there = absurd (let runs = stays one.0 low (ap (runs_by one.0) there) in
-          let bad : true ≡ false = sym runs ∙ ap (runs_by one.0) one.1 in cc)
-      by None there = absurd (beyond s.world.stopped one.0 there low)
-        where
-          beyond : (xs : List Bool) (k : ℕ) → slice_get xs k ≡ None → k < length xs → ⊥
-          beyond [] k none low = omega (arith, low)
-          beyond (x ∷ xs) zero none low = absurd (cc)
-          beyond (x ∷ xs) (suc k) none low = beyond xs k none (omega (arith, low))
+      not-stopping : (processor : ℕ) → plan.event ≡ Fail processor → ⊥
+      not-stopping processor is = let bad : true ≡ false = ap is_stop (sym is) ∙ no_stop in cc
 
   stop-or-not : (event : Event)
       → ((is_stop event ≡ true) × (stops_in event 1 ≡ 1)) ⊎ ((is_stop event ≡ false) × (stops_in event 1 ≡ 0))
@@ -186,12 +231,8 @@ module _ (site : Site) (few : site.processors ≤ 16) (counts : Packeted → Cou
   stop-or-not (Repeat y k) = inr (refl, refl)
   stop-or-not (Tick node) = inr (refl, refl)
   stop-or-not (Fail processor) = inl (refl, refl)
+  stop-or-not (Reload processor) = inr (refl, refl)
   stop-or-not (Drive event) = inr (refl, refl)
-
-  size-on : (s : Packeted) (event : Event) (next : Packeted) → IsPlay s event next
-      → length next.world.stopped ≡ length s.world.stopped
-  size-on s event next (inl made) = (remains s event next made).size
-  size-on s event next (inr skips) = ap (λ (u : Packeted). length u.world.stopped) skips.1
 
   paid-by : (agenda : Agenda) (s : Packeted) (before : ℕ) (plan : Plan)
       → upcoming (sizes_of site) before (counts s) agenda ≡ Some plan
@@ -204,7 +245,7 @@ module _ (site : Site) (few : site.processors ≤ 16) (counts : Packeted → Cou
       → IsSingle agenda s
   single asked _ _ _ plays_none = record {
     at_most = omega (arith, asked);
-    none = λ gone. absurd (let bad : false ≡ true = sym (none-at-first site.processors) ∙ gone in cc);
+    none = λ broken. absurd (let bad : true ≡ false = sym (begins-whole site) ∙ broken in cc);
   }
   single asked _ _ _ (plays_on {events = events} {agenda = agenda} {s = s} {next = next} plan before comes g) =
       by (single asked events agenda s before) (stop-or-not plan.event)
@@ -217,15 +258,18 @@ module _ (site : Site) (few : site.processors ≤ 16) (counts : Packeted → Cou
           ⊎ ((is_stop plan.event ≡ false) × (stops_in plan.event 1 ≡ 0)) → IsSingle plan.agenda next
       by one (inl stops) = let most = one.at_most in let cost = stops.1 in record {
         at_most = omega (arith, most, paid, cost);
-        none = λ gone. omega (arith, most, paid, cost);
+        none = λ broken. omega (arith, most, paid, cost);
       }
       by one (inr free) = let most = one.at_most in record {
         at_most = omega (arith, most, paid);
-        none = λ gone. let none = one.none (gone-before s next (size-on s plan.event next g.1)
-            (λ p low here. goes-on-running events agenda s before plan comes next g free.0 p
-            (let size = (sounded events agenda s before).0.size in omega (arith, low, size)) here) gone) in
-            omega (arith, none, paid);
+        none = λ broken. after (is_whole s.world) refl broken;
       }
+        where
+          after : (whole : Bool) → is_whole s.world ≡ whole → is_whole next.world ≡ false → to_come plan.agenda ≡ 0
+          after true whole broken =
+              absurd (let still = stays-whole events agenda s before plan comes next g free.0 whole in
+              let bad : true ≡ false = sym still ∙ broken in cc)
+          after false whole broken = let none = one.none whole in omega (arith, none, paid)
 
   -- nothing that comes next would do harm
   pub never-harm : stops_asked lines stop ≤ 1 → (events : List Event) (agenda : Agenda) (s : Packeted)
@@ -254,8 +298,8 @@ module _ (site : Site) (few : site.processors ≤ 16) (counts : Packeted → Cou
           of : (p : Played Midst) → StopsIf s p → ended s.wires p ≡ Would harm → ⊥
           of (Makes after) k bad = absurd (cc)
           of Skips k bad = absurd (cc)
-          of (Would other) gone bad =
-              let none = (single asked events agenda s played).none gone in
+          of (Would other) broken bad =
+              let none = (single asked events agenda s played).none broken in
               let paid = paid-by agenda s (length events) plan comes in
               let cost : stops_in plan.event 1 ≡ 1 = ap (λ e. stops_in e 1) is in omega (arith, none, paid, cost)
 
@@ -291,6 +335,9 @@ module _ (site : Site) (few : site.processors ≤ 16) (counts : Packeted → Cou
       by (Repeat y k) is = quiet (Repeat y k) is refl
       by (Tick node) is = ticking node is
       by (Fail processor) is = stopping processor is
+      by (Reload processor) is =
+          no-reload (sizes_of site) packets_seen counts counted (length events) agenda s
+          (fresh events agenda s played) plan comes processor is
       by (Drive event) is = turning event is
 
 -- A calm schedule asks for one stop at most
@@ -303,6 +350,7 @@ line-stops (One (Deliver y k)) calm = refl
 line-stops (One (Lose y k)) calm = refl
 line-stops (One (Repeat y k)) calm = refl
 line-stops (One (Tick node)) calm = refl
+line-stops (One (Reload processor)) calm = refl
 line-stops (One (Drive event)) calm = refl
 line-stops (Many event times) calm = absurd (cc)
 line-stops (Drain rounds) calm = refl

@@ -4,3 +4,4 @@ pub mod Sending
 pub mod Sound
 pub mod Ticking
 pub mod Watching
+pub mod Whole

@@ -5,13 +5,16 @@ use Rattle.std.proofs.Common.{Some, None, option_map, option_and_then, refl, ap,
 use Rattle.std.proofs.lemmas.Bool.{eqb-true, lt-ltb}
 use Rattle.std.proofs.lemmas.List.{length-replicate}
 use Rattle.std.proofs.lemmas.Option.{slice_get-map}
+use Rattle.std.specs.Cmp.Derive.{both_true}
 use Rattle.std.specs.List.{filter}
 use Rattle.gd_words.specs.Members.{IsAmong}
 use Rattle.gd_words.proofs.Among.{among-right}
 use Rattle.tal_tree.specs.declared.site.Site.{Site}
 use Rattle.schedule.specs.declared.event.Event.{Event}
-use Rattle.schedule.specs.declared.event.Event.TheVariants.{Run, Enter, Deliver, Lose, Repeat, Tick, Fail, Drive}
+use Rattle.schedule.specs.declared.event.Event.TheVariants.{Run, Enter, Deliver, Lose, Repeat, Tick, Fail, Reload}
+use Rattle.schedule.specs.declared.event.Event.TheVariants.{Drive}
 use Rattle.packet_words.specs.declared.bus_name.BusName.TheVariants as bus
+use Rattle.packet_words.specs.declared.packet.Incarnation.{Incarnation}
 use Rattle.packet_words.specs.declared.packet.Packet.{Packet}
 use Rattle.packet_words.specs.declared.packet.PacketKind.TheVariants as kind
 use Rattle.link_control.specs.Ends.{End, new_end, packet_of}
@@ -26,12 +29,12 @@ use Rattle.channel_laws.specs.Rounds.{by_mark}
 use Rattle.machine_states.specs.States.{Played, Makes, Skips, Would}
 use Rattle.packet_wires.specs.Nodes.{Node, all_nodes, end_at, never_reloaded, node_at_boot, nodes_at_boot, numbers}
 use Rattle.packet_wires.specs.Wires.{Wires, Midst, Outgoing, packets_over, is_bus}
-use Rattle.packet_wires.specs.Play.{Packeted, Underway, IsClear, acted, begun, deliver_acted, ended, line_of, out_of}
-use Rattle.packet_wires.specs.Play.{over}
-use Rattle.packet_wires.specs.Play.{packeted_at_boot, play, received, taken_off, tick_acted}
+use Rattle.packet_wires.specs.Play.{Packeted, Underway, IsClear, acted, begun, comes_in, deliver_acted, ended}
+use Rattle.packet_wires.specs.Play.{is_current_at, line_of, out_of, over, packeted_at_boot, play, received, taken_off}
+use Rattle.packet_wires.specs.Play.{tick_acted}
 use Rattle.packet_wires.proofs.Rooms.{all-there}
 use Rattle.packet_nets.proofs.Ticking.{begins-net}
-use Rattle.packet_rounds.specs.packets_laws.specs.Passing.{IsNetOf, as_on_buses}
+use Rattle.packet_rounds.specs.packets_laws.specs.Passing.{IsNetOf, ReloadsNone, as_on_buses}
 use Rattle.packet_rounds.specs.packets_laws.proofs.Passing.{event-passes}
 use Rattle.round_laws.specs.Buses.{HasBuses}
 use Rattle.player.specs.declared.standing.Place.TheVariants as place
@@ -48,22 +51,24 @@ use Rattle.calm_runs.proofs.Watching.{Keeps, alive-heard, keeps-same}
 use Rattle.machine_states.proofs.Turning.{drive-cases}
 use Rattle.schedule.specs.declared.event.DriveEvent.{DriveEvent}
 
--- States that are sound: the wires are those of a net, no processor was loaded anew, and each node's watch has its
--- number
+-- a node of a site: a processor, or that of the terminals
+abbrev pub IsNode : Site → ℕ → Type 0
+IsNode site a = (a < site.processors) ⊎ (a ≡ 16)
+
+-- States that are sound: the wires are those of a net, no node was loaded again, and each node's watch has its number
 pub record IsSound (site : Site) (s : Packeted) : Type 0 where
   pub net : Net
   pub is : IsNetOf s net
   pub size : length s.world.stopped ≡ site.processors
   pub site_is : s.site ≡ site
-  pub never : (a b : ℕ) → a < site.processors → b < site.processors
-      → incarnation_of net.reloads a b ≡ never_reloaded
+  pub never : (a b : ℕ) → IsNode site a → IsNode site b → incarnation_of net.reloads a b ≡ never_reloaded
   pub me : (q : ℕ) → q ≤ 16 → (w : Watching) × (watch_at s.wires.nodes q ≡ Some w) × (w.me ≡ q)
 
 passes-reloads : {a b : ℕ} {one other : Net} {came : List Packet} → Passes a b one came other
     → other.reloads ≡ one.reloads
 passes-reloads nothing = refl
 passes-reloads (by_push x y message some opened p) = passes-reloads p
-passes-reloads (by_packet packet among opened p) = passes-reloads p
+passes-reloads (by_packet packet among current opened p) = passes-reloads p
 passes-reloads (by_drop packet gone p) = passes-reloads p
 passes-reloads (by_tick x y opened p) = passes-reloads p
 passes-reloads (by_alive x y opened p) = passes-reloads p
@@ -146,35 +151,40 @@ module _ (s : Packeted) (q : ℕ) where
       (λ drives. keeps-same s.world.stopped (watch_at s.wires.nodes q) (watch_at s.wires.nodes q) refl) tt
       (λ process. tt)
 
-  pub event-keeps : (event : Event) (next : Packeted) → play s event ≡ Makes next → event ≢ Tick q
+  pub event-keeps : (event : Event) (next : Packeted) → ReloadsNone event → play s event ≡ Makes next
+      → event ≢ Tick q
       → Keeps next.world.stopped (watch_at s.wires.nodes q) (watch_at next.wires.nodes q)
-  event-keeps (Run number) next made apart = only-if _ (play s (Run number)) next (quiet-kept (Run number) refl) made
-  event-keeps (Enter number) next made apart =
+  event-keeps (Run number) next none made apart =
+      only-if _ (play s (Run number)) next (quiet-kept (Run number) refl) made
+  event-keeps (Enter number) next none made apart =
       only-if _ (play s (Enter number)) next (quiet-kept (Enter number) refl) made
-  event-keeps (Deliver y k) next made apart =
+  event-keeps (Deliver y k) next none made apart =
       only-if _ (play s (Deliver y k)) next (quiet-kept (Deliver y k) refl) made
-  event-keeps (Lose y k) next made apart = only-if _ (play s (Lose y k)) next (quiet-kept (Lose y k) refl) made
-  event-keeps (Repeat y k) next made apart = only-if _ (play s (Repeat y k)) next (quiet-kept (Repeat y k) refl) made
-  event-keeps (Fail processor) next made apart =
+  event-keeps (Lose y k) next none made apart = only-if _ (play s (Lose y k)) next (quiet-kept (Lose y k) refl) made
+  event-keeps (Repeat y k) next none made apart =
+      only-if _ (play s (Repeat y k)) next (quiet-kept (Repeat y k) refl) made
+  event-keeps (Fail processor) next none made apart =
       only-if _ (play s (Fail processor)) next (fail-kept processor) made
-  event-keeps (Drive event) next made apart = only-if _ (play s (Drive event)) next (drive-kept event) made
-  event-keeps (Tick node) next made apart = let t = tick-made s node next made in
+  event-keeps (Reload processor) next none made apart = absurd none
+  event-keeps (Drive event) next none made apart = only-if _ (play s (Drive event)) next (drive-kept event) made
+  event-keeps (Tick node) next none made apart = let t = tick-made s node next made in
       subst (λ (u : Packeted). Keeps u.world.stopped (watch_at s.wires.nodes q) (watch_at u.wires.nodes q))
       (sym t.next_is)
       (subst (λ o. Keeps t.after.world.stopped o (watch_at t.after.wires.nodes q))
       (ticked-other s.site.processors node (begun s).wires q (λ is. apart (ap Tick is))) (t.so.keep.keeps q))
 
-  pub event-me : (event : Event) (next : Packeted) → play s event ≡ Makes next
+  pub event-me : (event : Event) (next : Packeted) → ReloadsNone event → play s event ≡ Makes next
       → option_map (λ (w : Watching). w.me) (watch_at next.wires.nodes q)
       ≡ option_map (λ (w : Watching). w.me) (watch_at s.wires.nodes q)
-  event-me (Run number) next made = (event-keeps (Run number) next made (λ is. cc)).me
-  event-me (Enter number) next made = (event-keeps (Enter number) next made (λ is. cc)).me
-  event-me (Deliver y k) next made = (event-keeps (Deliver y k) next made (λ is. cc)).me
-  event-me (Lose y k) next made = (event-keeps (Lose y k) next made (λ is. cc)).me
-  event-me (Repeat y k) next made = (event-keeps (Repeat y k) next made (λ is. cc)).me
-  event-me (Fail processor) next made = (event-keeps (Fail processor) next made (λ is. cc)).me
-  event-me (Drive event) next made = (event-keeps (Drive event) next made (λ is. cc)).me
-  event-me (Tick node) next made = let t = tick-made s node next made in
+  event-me (Run number) next none made = (event-keeps (Run number) next tt made (λ is. cc)).me
+  event-me (Enter number) next none made = (event-keeps (Enter number) next tt made (λ is. cc)).me
+  event-me (Deliver y k) next none made = (event-keeps (Deliver y k) next tt made (λ is. cc)).me
+  event-me (Lose y k) next none made = (event-keeps (Lose y k) next tt made (λ is. cc)).me
+  event-me (Repeat y k) next none made = (event-keeps (Repeat y k) next tt made (λ is. cc)).me
+  event-me (Fail processor) next none made = (event-keeps (Fail processor) next tt made (λ is. cc)).me
+  event-me (Reload processor) next none made = absurd none
+  event-me (Drive event) next none made = (event-keeps (Drive event) next tt made (λ is. cc)).me
+  event-me (Tick node) next none made = let t = tick-made s node next made in
       ap (λ (u : Packeted). option_map (λ (w : Watching). w.me) (watch_at u.wires.nodes q)) t.next_is
       ∙ (t.so.keep.keeps q).me ∙ ticked-me s.site.processors node (begun s).wires q
 
@@ -184,12 +194,12 @@ watch-of q None is = absurd (cc)
 watch-of q (Some w) is = (w, refl, (let same : w.me ≡ q = cc in same))
 
 pub sound-on : (site : Site) → site.processors ≤ 16 → (s : Packeted) (event : Event) (next : Packeted)
-    → IsPlay s event next → IsSound site s → IsSound site next
-sound-on site few s event next (inr skips) w = subst (IsSound site) (sym skips.1) w
-sound-on site few s event next (inl made) w =
+    → ReloadsNone event → IsPlay s event next → IsSound site s → IsSound site next
+sound-on site few s event next none (inr skips) w = subst (IsSound site) (sym skips.1) w
+sound-on site few s event next none (inl made) w =
     let r = remains s event next made in let size = r.size ∙ w.size in let old = w.size in
     let runs = terminals-run next.world.stopped (omega (arith, few, size)) in
-    let q = event-passes s event next w.net 16 16 (omega (arith, few, old)) w.is made runs runs in record {
+    let q = event-passes s event next w.net 16 16 (omega (arith, few, old)) w.is none made runs runs in record {
       net = as_on_buses next q.middle;
       is = q.net;
       size = size;
@@ -197,7 +207,7 @@ sound-on site few s event next (inl made) w =
       never = λ a b one other.
           ap (λ reloads. incarnation_of reloads a b) (passes-reloads q.passes) ∙ w.never a b one other;
       me = λ k low. let m = w.me k low in watch-of k (watch_at next.wires.nodes k)
-          (event-me s k event next made ∙ ap (option_map (λ (w : Watching). w.me)) m.1 ∙ ap Some m.2);
+          (event-me s k event next none made ∙ ap (option_map (λ (w : Watching). w.me)) m.1 ∙ ap Some m.2);
     }
 
 -- The beginning
@@ -236,6 +246,18 @@ boot-runs n a low = ap (runs_by a) (there n a low)
     there (suc n) zero low = refl
     there (suc n) (suc a) low = there n a (omega (arith, low))
 
+node-low : (site : Site) (a : ℕ) → site.processors ≤ 16 → IsNode site a → a ≤ 16
+node-low site a few (inl low) = omega (arith, low, few)
+node-low site a few (inr is) = omega (arith, is)
+
+node-runs : (site : Site) (a : ℕ) → site.processors ≤ 16 → IsNode site a
+    → is_running (replicate site.processors false) a ≡ true
+node-runs site a few (inl low) = boot-runs site.processors a low
+node-runs site a few (inr is) =
+    let size = length-replicate site.processors false in
+    subst (λ q. is_running (replicate site.processors false) q ≡ true) (sym is)
+    (terminals-run (replicate site.processors false) (omega (arith, size, few)))
+
 pub boot-sound : (site : Site) → site.processors ≤ 16 → IsSound site (packeted_at_boot site)
 boot-sound site few = record {
   net = (begins-net site).0;
@@ -245,9 +267,9 @@ boot-sound site few = record {
   never = λ a b one other.
       let net : Net = (begins-net site).0 in
       let tied = (begins-net site).1.tied in
-      let e = tied.shape a b (omega (arith, one, few)) (omega (arith, other, few)) in
+      let e = tied.shape a b (node-low site a few one) (node-low site b few other) in
       sym (tied.whole.named a b).incarnation
-      ∙ ap (λ (d : End). d.incarnation) (tied.ends a b e.0 (boot-runs site.processors a one) e.1)
+      ∙ ap (λ (d : End). d.incarnation) (tied.ends a b e.0 (node-runs site a few one) e.1)
       ∙ boot-end site.processors a b e.0 e.1;
   me = λ q low. (first_watch q site.processors, boot-watch site.processors q low, refl);
 }
@@ -284,23 +306,23 @@ boot-fresh site few = record {
 -- Nodes watch each other
 
 abbrev pub SoundPlay : Site → Packeted → Event → Packeted → Type 0
-SoundPlay site s event next = IsSound site s × IsClearPlay s event next
+SoundPlay site s event next = IsSound site s × IsClearPlay s event next × ReloadsNone event
 
 not-both : {A : Type 0} (b : Bool) → b ≡ true → b ≡ false → A
 not-both b is isnt = absurd (cc)
 
-keeps-watch : (s : Packeted) (event : Event) (next : Packeted) (q : ℕ) → IsPlay s event next → event ≢ Tick q
-    → is_running next.world.stopped q ≡ true → KeepsWatch packets_seen s next q
-keeps-watch s event next q (inl made) apart here = let k = event-keeps s q event next made apart in record {
-  ran = ran-before s event next (inl made) q here;
+keeps-watch : (s : Packeted) (event : Event) (next : Packeted) (q : ℕ) → ReloadsNone event → IsPlay s event next
+    → event ≢ Tick q → is_running next.world.stopped q ≡ true → KeepsWatch packets_seen s next q
+keeps-watch s event next q none (inl made) apart here = let k = event-keeps s q event next none made apart in record {
+  ran = ran-before s event next none (inl made) q here;
   checks = k.checks;
   there = λ p runs. (k.kept p runs).0;
   heard = λ p runs. (k.kept p runs).1;
 }
-keeps-watch s event next q (inr skips) apart here = subst (λ (u : Packeted). KeepsWatch packets_seen s u q) (sym
+keeps-watch s event next q none (inr skips) apart here = subst (λ (u : Packeted). KeepsWatch packets_seen s u q) (sym
     skips.1)
     (record {
-      ran = ran-before s event next (inr skips) q here;
+      ran = ran-before s event next none (inr skips) q here;
       checks = refl;
       there = λ p runs there. there;
       heard = λ p runs heard. heard;
@@ -311,19 +333,45 @@ HeardIf p q (Makes next) = WasHeard (known_of (watch_at next.wires.nodes q) p)
 HeardIf p q Skips = ⊥
 HeardIf p q (Would harm) = Unit {0}
 
-hears-alive : (s next : Packeted) (p q : ℕ) (rest : List Packet) → IsPlay s (Deliver false 0) next
+-- an I'm-alive packet of a node that was never loaded again is a present one
+alive-current : (site : Site) → site.processors ≤ 16 → (s : Packeted) (p q : ℕ) → IsSound site s → IsNode site p
+    → IsNode site q → is_running s.world.stopped q ≡ true
+    → is_current_at (alive_packet p q) (end_at s.wires.nodes q p) ≡ true
+alive-current site few s p q sound on_p on_q runs =
+    subst (λ o. is_current_at (alive_packet p q) o ≡ true) (sym e.1)
+    (subst (λ (i : Incarnation). ((0 == i.receiver) && (0 == i.sender)) ≡ true) (sym incarnation) refl)
+  where
+    e : (e : End) × (end_at s.wires.nodes q p ≡ Some e)
+    e = sound.is.tied.shape q p (node-low site q few on_q) (node-low site p few on_p)
+
+    incarnation : e.0.incarnation ≡ never_reloaded
+    incarnation = ap (λ (d : End). d.incarnation) (sym (sound.is.tied.ends q p e.0 runs e.1))
+        ∙ (sound.is.tied.whole.named q p).incarnation ∙ sound.never q p on_q on_p
+
+hears-alive : (site : Site) → site.processors ≤ 16 → (s next : Packeted) (p q : ℕ) (rest : List Packet)
+    → IsSound site s → IsPlay s (Deliver false 0) next
     → s.wires.x ≡ alive_packet p q ∷ rest → is_running next.world.stopped p ≡ true
     → is_running next.world.stopped q ≡ true → IsThere (known_of (watch_at s.wires.nodes q) p)
     → WasHeard (known_of (watch_at next.wires.nodes q) p)
-hears-alive s next p q rest g front on_p on_q there = of g
+hears-alive site few s next p q rest sound g front on_p on_q there = of g
   where
+    ran_p : is_running s.world.stopped p ≡ true
+    ran_p = ran-before s (Deliver false 0) next tt g p on_p
+
+    ran_q : is_running s.world.stopped q ≡ true
+    ran_q = ran-before s (Deliver false 0) next tt g q on_q
+
+    comes : comes_in (alive_packet p q) (begun s) ≡ true
+    comes = both_true ran_q
+        (alive-current site few s p q sound (in-site s.world.stopped site.processors p sound.size ran_p)
+        (in-site s.world.stopped site.processors q sound.size ran_q) ran_q)
+
     heard : HeardIf p q (play s (Deliver false 0))
     heard = subst (λ o. HeardIf p q (ended (taken_off (Deliver false 0) s.wires) (deliver_acted bus.X (begun s) o)))
         (sym (ap (λ l. slice_get l 0) front))
         (subst (λ b. HeardIf p q (ended (taken_off (Deliver false 0) s.wires)
         (Makes (if b then received bus.X (alive_packet p q) (begun s) else begun s))))
-        (sym (ran-before s (Deliver false 0) next g q on_q))
-        (alive-heard bus.X p q (begun s) (ran-before s (Deliver false 0) next g p on_p) there))
+        (sym comes) (alive-heard bus.X p q (begun s) ran_p there))
 
     of : IsPlay s (Deliver false 0) next → WasHeard (known_of (watch_at next.wires.nodes q) p)
     of (inl made) = subst (HeardIf p q) made heard
@@ -383,7 +431,8 @@ alive-there site few s node q after sound clear acts so low low_q apart on_q =
 
     named : packet_of e.0 kind.Alive ≡ alive_packet node q
     named = ap (λ (d : End). packet_of d kind.Alive) (sym end_is)
-        ∙ (let n = sound.is.tied.whole.named node q in let incarnation = n.incarnation ∙ sound.never node q low low_q in
+        ∙ (let n = sound.is.tied.whole.named node q in
+        let incarnation = n.incarnation ∙ sound.never node q (inl low) (inl low_q) in
         λ i. record { sender = n.here i; receiver = n.there i; incarnation = incarnation i; kind = kind.Alive })
 
     room : length s.wires.x + length (packets_over bus.X after.wires.out) ≤ 4096
@@ -401,7 +450,7 @@ ticks-watch site few s next node sound (clear, inl made) low here =
       there = λ p runs there. (k.kept p runs).0
           (subst IsThere (sym (ticked-knows s.site.processors node (begun s).wires m.0 m.1 low16 p)) there);
       sends = λ q low_q apart on_q there. alive-there site few s node q t.after sound clear t.acts t.so low low_q apart
-          (ran-before s (Tick node) next (inl made) q
+          (ran-before s (Tick node) next tt (inl made) q
           (subst (λ (u : Packeted). is_running u.world.stopped q ≡ true) (sym t.next_is) on_q));
     })
   where
@@ -464,8 +513,9 @@ stops-at-tick site few s next node p sound (inl made) here gone = let t = tick-m
 
 pub watched : (site : Site) → site.processors ≤ 16 → IsWatched site.processors packets_seen (SoundPlay site)
 watched site few = record {
-  keeps = λ s event next q g low apart here. keeps-watch s event next q g.1.1 apart here;
-  hears = λ s next p q rest g low front on_p on_q there. hears-alive s next p q rest g.1.1 front on_p on_q there;
+  keeps = λ s event next q g low apart here. keeps-watch s event next q g.2 g.1.1 apart here;
+  hears = λ s next p q rest g low front on_p on_q there.
+      hears-alive site few s next p q rest g.0 g.1.1 front on_p on_q there;
   ticks = λ s next node g low here. ticks-watch site few s next node g.0 g.1 low here;
   stops = λ s next node p g here gone. stops-at-tick site few s next node p g.0 g.1.1 here gone;
 }

@@ -14,18 +14,16 @@ use Rattle.link_control.specs.Ends.{End, packet_of}
 use Rattle.alive_regroup.specs.declared.neighbour.Neighbour.{Neighbour}
 use Rattle.alive_regroup.specs.Watching.{Watching, after_check, after_tick, agrees, all_but, is_coordinator, is_held}
 use Rattle.alive_regroup.specs.Watching.{is_silent, is_silent_at, neighbour_after_check, told_by_tick}
-use Rattle.world_semantics.specs.World.{is_running, runs_by, terminal_node}
+use Rattle.world_semantics.specs.World.{is_running, is_whole, runs_by, terminal_node}
 use Rattle.world_semantics.proofs.Lists.{set-other}
-use Rattle.computed_changes.specs.Stopped.{may_note, marked_where, mark_where, stopped_world}
-use Rattle.message_wires.specs.Play.{has_stopped}
+use Rattle.computed_changes.specs.Stopped.{may_note, marked_where, mark_where, stop_if, stopped_world}
 use Rattle.machine_states.specs.States.{Played, Makes, Skips, Would, SecondStop, DiscLoss}
 use Rattle.packet_wires.specs.Nodes.{Node, numbers, others}
 use Rattle.packet_wires.specs.Lines.{first_held, line_pulled}
 use Rattle.packet_wires.specs.Wires.{Midst, Outgoing, alive_at, at_end, at_end_of, at_node, check_at, checks, for_each}
 use Rattle.packet_wires.specs.Wires.{goes_over, learns, tells_alive, ticked, watch_changed}
 use Rattle.packet_wires.specs.Play.{Packeted, Underway, begun, line_of, marked_by, marks, marks_and_declares, pulled}
-use Rattle.packet_wires.specs.Play.{pulls}
-use Rattle.packet_wires.specs.Play.{pulls_its, tick_acted}
+use Rattle.packet_wires.specs.Play.{pulled_first, pulls, pulls_its, tick_acted}
 use Rattle.packet_nets.proofs.Nodes.{Same, are, differ, same}
 use Rattle.alive_rounds.specs.Watched.{after_tick_of}
 use Rattle.calm_runs.specs.Sights.{watch_at, known_of, checks_of}
@@ -335,18 +333,17 @@ ticks-so s node = by (is_running s.world.stopped node) refl
             (sym (ap (runs_by p) (set-other s.world.stopped k p true apart)) ∙ gone)
 
     first : is_running s.world.stopped node ≡ true → (k : ℕ) → line_of node (sent_before node s) ≡ Some k
-        → slice_get s.world.stopped k ≡ Some false → (any : Bool)
-        → TicksIf node s (if any then Would (SecondStop k) else Makes
-        (marks_and_declares node k (record (sent_before node s) { world = stopped_world k s.world })))
-    first runs k is there true = (runs, is, there)
-    first runs k is there false = stops runs k is
+        → slice_get s.world.stopped k ≡ Some false → (whole : Bool)
+        → TicksIf node s (pulled_first node k (sent_before node s) (stop_if k s.world whole))
+    first runs k is there true = stops runs k is
+    first runs k is there false = (runs, is, there)
 
     at : is_running s.world.stopped node ≡ true → (k : ℕ) → line_of node (sent_before node s) ≡ Some k
         → (one : Option Bool) → slice_get s.world.stopped k ≡ one
         → TicksIf node s (pulled node k (sent_before node s) one)
     at runs k is None there = none runs
     at runs k is (Some true) there = marked runs k
-    at runs k is (Some false) there = first runs k is there (has_stopped s.world.stopped)
+    at runs k is (Some false) there = rw there (first runs k is there (is_whole s.world))
 
     line : is_running s.world.stopped node ≡ true → (o : Option ℕ) → line_of node (sent_before node s) ≡ o
         → TicksIf node s (pulls node (sent_before node s) o)

@@ -1,6 +1,7 @@
 ghost use Rattle.std.specs.Prelude.{true, false, [], ◌∷◌, ◌++◌};
 ghost use Rattle.schedule.specs.declared.event.DriveChange.TheVariants.{Break};
-ghost use Rattle.schedule.specs.declared.event.Event.TheVariants.{Deliver, Drive, Enter, Fail, Lose, Repeat, Run, Tick};
+ghost use Rattle.schedule.specs.declared.event.Event.TheVariants.{Deliver, Drive, Enter, Fail, Lose, Reload, Repeat};
+ghost use Rattle.schedule.specs.declared.event.Event.TheVariants.{Run, Tick};
 ghost use Rattle.schedule.specs.declared.line.Line.TheVariants.{Drain, Many, Mix, Mute, One, Until};
 ghost use Rattle.calm_schedules.specs.Calm.{IsCalm};
 ghost use Rattle.calm_schedules.specs.Examples.{before_rounds, with_a_stop, without_a_stop};
@@ -40,5 +41,6 @@ pub fn other_lines_are_not_calm()
     ensures many { IsCalm (before_rounds (Many (Run 0) 3)) false → ⊥ }
     ensures no_event { IsCalm (before_rounds (Many (Tick 0) 0)) false → ⊥ }
     ensures many_stops { IsCalm (before_rounds (Many (Fail 0) 1)) false → ⊥ }
+    ensures loaded { IsCalm (before_rounds (One (Reload 0))) false → ⊥ }
     ensures drive { IsCalm (before_rounds (One (Drive (record { process = 0; drive = 0; change = Break })))) false → ⊥ }
 {}

@@ -1,30 +1,33 @@
 -- Whatever happens in a net, it stays whole.
-use Rattle.std.proofs.Common.{◌≡◌, ◌⊎◌, inl, inr, ◌<◌, ℕ, ℤ, Bool, true, false, List, [], ◌∷◌, ◌++◌, length, refl, sym}
+use Rattle.std.proofs.Common.{◌≡◌, ◌⊎◌, inl, inr, ◌<◌, ◌≤◌, ◌+◌, ℕ, ℤ, Bool, true, false, List, [], ◌∷◌, ◌++◌, length}
+use Rattle.std.proofs.Common.{refl, sym}
 use Rattle.std.proofs.Common.{subst, ap, ◌∙◌, arith}
 use Rattle.std.proofs.lemmas.List.{append-nil}
 use Rattle.std.proofs.lemmas.Bool.{eqb-true, eq-eqb, leb-true}
-use Rattle.std.specs.Prelude.{Option, Some, None, ◌==◌, ◌&&◌, if◌then◌else◌}
+use Rattle.std.specs.Prelude.{Option, Some, None, ◌==◌, ◌&&◌, ◌||◌, if◌then◌else◌}
 use Rattle.std.specs.Option.{option_to_list, option_map}
 use Rattle.packet_words.specs.declared.piece.Piece.{Piece}
 use Rattle.packet_words.specs.declared.packet.Packet.{Packet}
 use Rattle.packet_words.specs.declared.packet.PacketKind.{PacketKind}
 use Rattle.packet_words.specs.declared.packet.PacketKind.TheVariants as kind
+use Rattle.packet_words.specs.declared.packet.Incarnation.{Incarnation}
 use Rattle.packet_words.specs.Pieces.{piece_at}
 use Rattle.link_control.specs.declared.channel.Resent.{Resent}
 use Rattle.link_control.specs.Ends.{End, Sending, packet_of, packet_outstanding, after_push, sent_by_push, after_packet}
 use Rattle.link_control.specs.Ends.{after_kind, sent_by_packet, sent_by_kind, after_tick, sent_by_tick, after_down}
 use Rattle.link_control.specs.Ends.{piece_of, after_push_of, after_acknowledgement, after_tick_of, kept, is_kept}
-use Rattle.link_control.specs.Ends.{is_idle, is_ended_by, is_sent_again}
-use Rattle.channel_laws.specs.Way.{Way, IsJoint, IsPieceOf, IsReceiptOf, pushing, coming, telling, ticking}
+use Rattle.link_control.specs.Ends.{is_idle, is_ended_by, is_sent_again, new_end}
+use Rattle.channel_laws.specs.Way.{Way, IsJoint, IsPieceOf, IsReceiptOf, quiet_way, pushing, coming, telling, ticking}
 use Rattle.gd_words.specs.Members.{IsAmong}
 use Rattle.channel_laws.specs.Net.{Net, put, Runs, at_end, pushed_net, arrived_net, ticked_net, packet_in, ways_by}
 use Rattle.channel_laws.specs.Net.{incarnation_of, quiet_net, Goes, pushes, arrives, ticks, lives, bus_changes, stops}
-use Rattle.channel_laws.specs.Net.{marks, Leads, at_once, later, IsTold, IsRight, IsNamed, IsTied, IsWhole}
+use Rattle.channel_laws.specs.Net.{marks, loads, Leads, at_once, later, IsTold, IsRight, IsNamed, IsTied, IsWhole}
+use Rattle.channel_laws.specs.Net.{IsCurrent, more_reloads, reloaded_net}
 use Rattle.gd_words.proofs.Among.{among-either}
 use Rattle.channel_laws.proofs.Joints.{joint-quiet, joint-pushing, joint-telling, joint-ticking, joint-coming}
 use Rattle.channel_laws.proofs.Joints.{same-piece}
 use Rattle.channel_laws.proofs.Packets.{IsLater, later-same, later-pushing, later-coming, later-telling, later-ticking}
-use Rattle.channel_laws.proofs.Packets.{piece-outstanding}
+use Rattle.channel_laws.proofs.Packets.{piece-outstanding, kind-fits}
 
 -- Tables with one place changed
 
@@ -51,7 +54,8 @@ later-put x y v f h a b = put-all (λ a b w. IsLater (f a b) w) x y v f h (λ a 
 
 right-later : (reloads : ℕ → ℕ) (f g : ℕ → ℕ → Way) → ((a b : ℕ) → IsLater (f a b) (g a b)) → (p : Packet)
     → IsRight reloads f p → IsRight reloads g p
-right-later reloads f g h p o = record { incarnation = o.incarnation; told = go p.kind o.told }
+right-later reloads f g h p o =
+    record { fits = o.fits; sender = o.sender; receiver = o.receiver; told = λ now. go p.kind (o.told now) }
   where
     go : (k : PacketKind) → IsTold (f p.sender p.receiver) (f p.receiver p.sender) k
         → IsTold (g p.sender p.receiver) (g p.receiver p.sender) k
@@ -76,10 +80,15 @@ pub packet-right : (reloads : ℕ → ℕ) (g : ℕ → ℕ → Way) (x y : ℕ)
     → IsTold (g x y) (g y x) k
     → IsRight reloads g (packet_of e k)
 packet-right reloads g x y e k names told = record {
-  incarnation = names.incarnation ∙ (λ i. incarnation_of reloads (sym names.here i) (sym names.there i));
-  told = subst (λ a. IsTold (g a e.there) (g e.there a) k) (sym names.here)
+  fits = kind-fits (g x y) (g y x) k told;
+  sender = omega (arith, ap (λ (i : Incarnation). i.sender) current);
+  receiver = omega (arith, ap (λ (i : Incarnation). i.receiver) current);
+  told = λ now. subst (λ a. IsTold (g a e.there) (g e.there a) k) (sym names.here)
       (subst (λ b. IsTold (g x b) (g b x) k) (sym names.there) told);
 }
+  where
+    current : e.incarnation ≡ incarnation_of reloads e.here e.there
+    current = names.incarnation ∙ (λ i. incarnation_of reloads (sym names.here i) (sym names.there i))
 
 -- and so the packet of an outstanding piece
 pub right-outstanding : (reloads : ℕ → ℕ) (g : ℕ → ℕ → Way) (x y : ℕ) (e : End) → IsNamed reloads x y e
@@ -344,9 +353,9 @@ whole-alive n x y p k h w = subst IsWhole (sym (same ∙ same_tables)) w
     same_tables : at_end x y e None n.ways n ≡ n
     same_tables = λ i. record n { ends = put-own x y n.ends i; flight = append-nil n.flight i }
 
-whole-arrived : (n : Net) (p : Packet) → IsAmong p n.flight → Runs n p.receiver p.sender → IsWhole n
-    → IsWhole (arrived_net p.receiver p.sender p n)
-whole-arrived n p i h w = go p.kind refl (w.flight p i).told
+whole-arrived : (n : Net) (p : Packet) → IsAmong p n.flight → IsCurrent n.reloads p → Runs n p.receiver p.sender
+    → IsWhole n → IsWhole (arrived_net p.receiver p.sender p n)
+whole-arrived n p i now h w = go p.kind refl ((w.flight p i).told now)
   where
     go : (k : PacketKind) → p.kind ≡ k → IsTold (n.ways p.sender p.receiver) (n.ways p.receiver p.sender) k
         → IsWhole (at_end p.receiver p.sender (after_packet p (n.ends p.receiver p.sender))
@@ -355,9 +364,100 @@ whole-arrived n p i h w = go p.kind refl (w.flight p i).told
     go (kind.Piece number piece) k o = whole-come n p.receiver p.sender p number piece k o h w
     go (kind.Acknowledgement number) k o = whole-told n p.receiver p.sender p number k o h w
 
+-- A node is loaded again
+
+-- of its ends and ways, or of another one
+by-of : {A : Type 0} (P : A → Type 0) (test : Bool) (new old : A) → P new → P old → P (if test then new else old)
+by-of P true new old here there = here
+by-of P false new old here there = there
+
+named-loaded : (n : Net) (x a b : ℕ) → IsWhole n → IsNamed (more_reloads x n.reloads) a b ((reloaded_net x n).ends a b)
+named-loaded n x a b w = by (a == x) (b == x) refl refl
+  where
+    Now : ℕ → ℕ
+    Now = more_reloads x n.reloads
+
+    same : (c : ℕ) → (c == x) ≡ false → Now c ≡ n.reloads c
+    same c e = ap (λ t. if t then n.reloads x + 1 else n.reloads c) e
+
+    new : IsNamed Now a b (new_end a b (incarnation_of Now a b))
+    new = record { here = refl; there = refl; incarnation = refl }
+
+    by : (c d : Bool) → (a == x) ≡ c → (b == x) ≡ d
+        → IsNamed Now a b (if c || d then new_end a b (incarnation_of Now a b) else n.ends a b)
+    by true d e h = new
+    by false true e h = new
+    by false false e h = let o = w.named a b in record {
+      here = o.here;
+      there = o.there;
+      incarnation = o.incarnation ∙ (λ i. record { sender = sym (same a e) i; receiver = sym (same b h) i });
+    }
+
+tied-loaded : (n : Net) (x a b : ℕ) → IsWhole n → Runs (reloaded_net x n) a b
+    → IsTied (reloaded_net x n).ways a b ((reloaded_net x n).ends a b)
+tied-loaded n x a b w live = by (a == x) (b == x) refl refl live.0 live.1
+  where
+    new : End
+    new = new_end a b (incarnation_of (more_reloads x n.reloads) a b)
+
+    by : (c d : Bool) → (a == x) ≡ c → (b == x) ≡ d → (if c then false else n.stopped a) ≡ false
+        → (if c || d then new else n.ends a b).down ≡ false
+        → IsTied (reloaded_net x n).ways a b (if c || d then new else n.ends a b)
+    by true d e h runs up = record {
+      sending = ap (λ t. (if t || (b == x) then quiet_way else n.ways a b).sender) (sym e);
+      receiving = by_there (b == x) ∙ ap (λ t. (if (b == x) || t then quiet_way else n.ways b a).receiver) (sym e);
+    }
+      where
+        by_there : (t : Bool) → new.receiving ≡ (if t || true then quiet_way else n.ways b a).receiver
+        by_there true = refl
+        by_there false = refl
+    by false true e h runs up = record {
+      sending = by_there (a == x) ∙ ap (λ t. (if (a == x) || t then quiet_way else n.ways a b).sender) (sym h);
+      receiving = ap (λ t. (if t || (a == x) then quiet_way else n.ways b a).receiver) (sym h);
+    }
+      where
+        by_there : (t : Bool) → new.sending ≡ (if t || true then quiet_way else n.ways a b).sender
+        by_there true = refl
+        by_there false = refl
+    by false false e h runs up = let o = w.tied a b (runs, up) in record {
+      sending = o.sending
+          ∙ sym (ap (λ t. (if t || (b == x) then quiet_way else n.ways a b).sender) e
+          ∙ ap (λ t. (if t then quiet_way else n.ways a b).sender) h);
+      receiving = o.receiving
+          ∙ sym (ap (λ t. (if t || (a == x) then quiet_way else n.ways b a).receiver) h
+          ∙ ap (λ t. (if t then quiet_way else n.ways b a).receiver) e);
+    }
+
+right-loaded : (n : Net) (x : ℕ) (p : Packet) → IsRight n.reloads n.ways p
+    → IsRight (more_reloads x n.reloads) (reloaded_net x n).ways p
+right-loaded n x p o = record {
+  fits = o.fits;
+  sender = more p.sender p.incarnation.sender o.sender;
+  receiver = more p.receiver p.incarnation.receiver o.receiver;
+  told = λ now. by (p.sender == x) (p.receiver == x) refl refl
+      (ap (λ (i : Incarnation). i.sender) now) (ap (λ (i : Incarnation). i.receiver) now);
+}
+  where
+    more : (c incarnation : ℕ) → incarnation ≤ n.reloads c → incarnation ≤ more_reloads x n.reloads c
+    more c incarnation low = go (c == x) refl
+      where
+        go : (t : Bool) → (c == x) ≡ t → incarnation ≤ (if t then n.reloads x + 1 else n.reloads c)
+        go true e = omega (arith, low, ap n.reloads (eqb-true c x e))
+        go false e = low
+
+    -- what bears the present incarnations now isn't of x, and bore them before
+    by : (c d : Bool) → (p.sender == x) ≡ c → (p.receiver == x) ≡ d
+        → p.incarnation.sender ≡ (if c then n.reloads x + 1 else n.reloads p.sender)
+        → p.incarnation.receiver ≡ (if d then n.reloads x + 1 else n.reloads p.receiver)
+        → IsTold (if c || d then quiet_way else n.ways p.sender p.receiver)
+        (if d || c then quiet_way else n.ways p.receiver p.sender) p.kind
+    by true d e h one other = absurd (omega (arith, one, o.sender, ap n.reloads (eqb-true p.sender x e)))
+    by false true e h one other = absurd (omega (arith, other, o.receiver, ap n.reloads (eqb-true p.receiver x h)))
+    by false false e h one other = o.told (λ i. record { sender = one i; receiver = other i })
+
 pub whole-goes : {n next : Net} → Goes n next → IsWhole n → IsWhole next
 whole-goes {n = n} (pushes x y m some h) w = whole-pushed n x y m some h w
-whole-goes {n = n} (arrives p i h) w = whole-arrived n p i h w
+whole-goes {n = n} (arrives p i now h) w = whole-arrived n p i now h w
 whole-goes {n = n} (ticks x y h) w = whole-ticked n x y h w
 whole-goes {n = n} (lives x y h) w = record {
   joint = w.joint;
@@ -393,6 +493,12 @@ whole-goes {n = n} (marks x y gone) w = record {
         → IsTied n.ways a b (if t then after_down (n.ends x y) else n.ends a b)
     go a b live true up = absurd cc
     go a b live false up = w.tied a b (live, up)
+whole-goes {n = n} (loads x gone) w = record {
+  joint = λ a b. by-of IsJoint ((a == x) || (b == x)) quiet_way (n.ways a b) joint-quiet (w.joint a b);
+  named = λ a b. named-loaded n x a b w;
+  tied = λ a b live. tied-loaded n x a b w live;
+  flight = λ p i. right-loaded n x p (w.flight p i);
+}
 
 pub whole-quiet : (reloads : ℕ → ℕ) → IsWhole (quiet_net reloads)
 whole-quiet reloads = record {

@@ -7,11 +7,14 @@ use Rattle.std.specs.Prelude.{◌==◌, ◌||◌, nat_lt, nat_le, Some, if◌the
 use Rattle.packet_words.specs.declared.bus_name.BusName.{BusName}
 use Rattle.packet_words.specs.declared.piece.Piece.{Piece}
 use Rattle.packet_words.specs.Pieces.{joined, piece_at}
-use Rattle.packet_words.specs.Layout.{is_piece}
+use Rattle.packet_words.specs.declared.packet.PacketKind.{PacketKind}
+use Rattle.packet_words.specs.declared.packet.PacketKind.TheVariants as kind
+use Rattle.packet_words.specs.Layout.{is_kind, is_piece}
 use Rattle.link_control.specs.Ends.{Sending, Receiving, numbered_at, begun, after_tick_of, after_acknowledgement}
 use Rattle.link_control.specs.Ends.{moved_on, is_next, kept}
 use Rattle.channel_laws.specs.Way.{Way, IsJoint, IsCut, IsPieceOf, IsReceiptOf, pushing, coming, telling, ticking}
 use Rattle.channel_laws.specs.Way.{opened}
+use Rattle.channel_laws.specs.Net.{IsTold}
 use Rattle.channel_laws.proofs.Places.{cut-is}
 use Rattle.channel_laws.proofs.Joints.{numbered-pushed, same-piece}
 
@@ -147,3 +150,10 @@ piece-fits piece k m cut = subst (λ p. is_piece p ≡ true) (sym (cut-is k m pi
     full : (b : Bool) → nat_le (length left) 10 ≡ b → (nat_le (length left) 10 || (length (take 10 left) == 10)) ≡ true
     full true is = rw is refl
     full false is = rw is (eq-eqb (length (take 10 left)) 10 (length-take-le 10 left (omega (arith, leb-false _ _ is))))
+
+-- what is told by a packet of a way keeps to the layout
+pub kind-fits : (there back : Way) (k : PacketKind) → IsTold there back k → is_kind k ≡ true
+kind-fits there back kind.Alive o = refl
+kind-fits there back (kind.Piece number piece) o =
+    rw (lt-ltb 0 number (omega (arith, o.0.count)), piece-fits piece o.0.k o.0.message o.0.cut) refl
+kind-fits there back (kind.Acknowledgement number) o = lt-ltb 0 number o.0

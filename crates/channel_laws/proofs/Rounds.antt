@@ -16,6 +16,7 @@ use Rattle.link_control.specs.Ends.{after_tick, after_push_of, after_down, sent_
 use Rattle.link_control.specs.Ends.{sent_by_tick, after_tick_of, kept, is_kept, is_next, is_sent_again}
 use Rattle.channel_laws.specs.Way.{Way, IsJoint, IsEnded, IsWithin, pushing, coming, telling, ticking}
 use Rattle.gd_words.specs.Members.{IsAmong}
+use Rattle.channel_laws.specs.Net.{incarnation_of, IsCurrent}
 use Rattle.channel_laws.specs.Net.{Net, Goes, put, put_one, Runs, packet_in, ways_by, arrived_net, ticked_net, pushes}
 use Rattle.channel_laws.specs.Net.{arrives, ticks, lives, bus_changes, stops, marks, IsWhole}
 use Rattle.channel_laws.specs.Rounds.{Passes, nothing, by_push, by_packet, by_drop, by_tick, by_alive, by_bus, by_stop}
@@ -35,13 +36,14 @@ abbrev pub WaitedIn : ℕ → ℕ → ℕ → Net → Type 0
 WaitedIn n a b m = HasWaited n (m.ways a b).sender
 
 abbrev pub AnsweredIn : ℕ → ℕ → ℕ → Net → Type 0
-AnsweredIn n a b m = IsAnswered n a b (m.ways a b).sender m.flight
+AnsweredIn n a b m = IsAnswered m.reloads n a b (m.ways a b).sender m.flight
 
 abbrev pub SentIn : ℕ → ℕ → ℕ → Net → Type 0
-SentIn n a b m = IsSent n a b (m.ways a b).sender m.flight
+SentIn n a b m = IsSent m.reloads n a b (m.ways a b).sender m.flight
 
-flying-on : (from to : ℕ) (k : PacketKind) (xs ys : List Packet) → IsFlying from to k xs → IsFlying from to k (xs ++ ys)
-flying-on from to k xs ys h = (h.0, among-left _ xs ys h.1, h.2, h.3, h.4)
+flying-on : (reloads : ℕ → ℕ) (from to : ℕ) (k : PacketKind) (xs ys : List Packet) → IsFlying reloads from to k xs
+    → IsFlying reloads from to k (xs ++ ys)
+flying-on reloads from to k xs ys h = (h.0, among-left _ xs ys h.1, h.2, h.3, h.4, h.5)
 
 -- how a way goes on, for the piece n
 abbrev pub WayOn : ℕ → Way → Way → Type 0
@@ -79,22 +81,23 @@ pub record IsMid (n a b : ℕ) (l : Net) (came : List Packet) (m : Net) : Type 0
   pub low : n ≤ (m.ways a b).sender.numbered
   pub here : Runs m a b
   pub there : Runs m b a
-  pub acknowledgements : IsFlying b a (kind.Acknowledgement n) came → EndedIn n a b m
-  pub pieces : (piece : Piece) → IsFlying a b (kind.Piece n piece) came → AnsweredIn n a b m
+  pub reloads : m.reloads ≡ l.reloads
+  pub acknowledgements : IsFlying m.reloads b a (kind.Acknowledgement n) came → EndedIn n a b m
+  pub pieces : (piece : Piece) → IsFlying m.reloads a b (kind.Piece n piece) came → AnsweredIn n a b m
   pub ended : EndedIn n a b l → EndedIn n a b m
   pub waited : WaitedIn n a b l → WaitedIn n a b m
   pub answered : AnsweredIn n a b l → AnsweredIn n a b m
   pub sent : SentIn n a b l → SentIn n a b m
 
-answered-on : (n a b : ℕ) (s t : Sending) (xs ys : List Packet) → (IsEnded n s → IsEnded n t) → IsAnswered n a b s xs
-    → IsAnswered n a b t (xs ++ ys)
-answered-on n a b s t xs ys f (inl h) = inl (f h)
-answered-on n a b s t xs ys f (inr h) = inr (flying-on b a (kind.Acknowledgement n) xs ys h)
+answered-on : (reloads : ℕ → ℕ) (n a b : ℕ) (s t : Sending) (xs ys : List Packet) → (IsEnded n s → IsEnded n t)
+    → IsAnswered reloads n a b s xs → IsAnswered reloads n a b t (xs ++ ys)
+answered-on reloads n a b s t xs ys f (inl h) = inl (f h)
+answered-on reloads n a b s t xs ys f (inr h) = inr (flying-on reloads b a (kind.Acknowledgement n) xs ys h)
 
-sent-on : (n a b : ℕ) (s t : Sending) (xs ys : List Packet) → (IsEnded n s → IsEnded n t) → IsSent n a b s xs
-    → IsSent n a b t (xs ++ ys)
-sent-on n a b s t xs ys f (inl h) = inl (answered-on n a b s t xs ys f h)
-sent-on n a b s t xs ys f (inr h) = inr (h.0, flying-on a b (kind.Piece n h.0) xs ys h.1)
+sent-on : (reloads : ℕ → ℕ) (n a b : ℕ) (s t : Sending) (xs ys : List Packet) → (IsEnded n s → IsEnded n t)
+    → IsSent reloads n a b s xs → IsSent reloads n a b t (xs ++ ys)
+sent-on reloads n a b s t xs ys f (inl h) = inl (answered-on reloads n a b s t xs ys f h)
+sent-on reloads n a b s t xs ys f (inr h) = inr (h.0, flying-on reloads a b (kind.Piece n h.0) xs ys h.1)
 
 -- more packets are sent, and ways go on
 mid-on : (n a b : ℕ) (l : Net) (came : List Packet) (m : Net) (e : ℕ → ℕ → End) (more : List Packet) (g : ℕ → ℕ → Way)
@@ -110,30 +113,37 @@ mid-on n a b l came m e more g goes downs on h =
       low = o.0;
       here = (h.here.0, downs a b ∙ h.here.1);
       there = (h.there.0, downs b a ∙ h.there.1);
+      reloads = h.reloads;
       acknowledgements = λ q. o.1 (h.acknowledgements q);
-      pieces = λ piece q. answered-on n a b s t m.flight more o.1 (h.pieces piece q);
+      pieces = λ piece q. answered-on m.reloads n a b s t m.flight more o.1 (h.pieces piece q);
       ended = λ q. o.1 (h.ended q);
       waited = λ q. o.2 (h.waited q);
-      answered = λ q. answered-on n a b s t m.flight more o.1 (h.answered q);
-      sent = λ q. sent-on n a b s t m.flight more o.1 (h.sent q);
+      answered = λ q. answered-on m.reloads n a b s t m.flight more o.1 (h.answered q);
+      sent = λ q. sent-on m.reloads n a b s t m.flight more o.1 (h.sent q);
     }
 
 downs-put : (m : Net) (x y : ℕ) (e : End) → e.down ≡ (m.ends x y).down → (c d : ℕ)
     → (put x y e m.ends c d).down ≡ (m.ends c d).down
 downs-put m x y e h c d = put-all (λ c d u. u.down ≡ (m.ends c d).down) x y e m.ends h (λ c d. refl) c d
 
+-- a packet bears the present incarnations of two nodes
+abbrev IsCurrentOf : Net → ℕ → ℕ → Packet → Type 0
+IsCurrentOf m from to p = p.incarnation ≡ incarnation_of m.reloads from to
+
 -- one more packet came
 mid-came : (n a b : ℕ) (l : Net) (came : List Packet) (p : Packet) (m : Net)
-    → (p.kind ≡ kind.Acknowledgement n → p.sender ≡ b → p.receiver ≡ a → EndedIn n a b m)
-    → ((piece : Piece) → p.kind ≡ kind.Piece n piece → p.sender ≡ a → p.receiver ≡ b → AnsweredIn n a b m)
+    → (p.kind ≡ kind.Acknowledgement n → p.sender ≡ b → p.receiver ≡ a → IsCurrentOf m b a p → EndedIn n a b m)
+    → ((piece : Piece) → p.kind ≡ kind.Piece n piece → p.sender ≡ a → p.receiver ≡ b → IsCurrentOf m a b p
+    → AnsweredIn n a b m)
     → IsMid n a b l came m → IsMid n a b l (p ∷ came) m
 mid-came n a b l came p m r o h = record {
   whole = h.whole;
   low = h.low;
   here = h.here;
   there = h.there;
-  acknowledgements = λ q. by_acknowledgement q.0 q.1 q.2 q.3 q.4;
-  pieces = λ piece q. by_piece piece q.0 q.1 q.2 q.3 q.4;
+  reloads = h.reloads;
+  acknowledgements = λ q. by_acknowledgement q.0 q.1 q.2 q.3 q.4 q.5;
+  pieces = λ piece q. by_piece piece q.0 q.1 q.2 q.3 q.4 q.5;
   ended = h.ended;
   waited = h.waited;
   answered = h.answered;
@@ -141,18 +151,18 @@ mid-came n a b l came p m r o h = record {
 }
   where
     by_acknowledgement : (q : Packet) → (q ≡ p) ⊎ IsAmong q came → q.kind ≡ kind.Acknowledgement n → q.sender ≡ b
-        → q.receiver ≡ a → EndedIn n a b m
-    by_acknowledgement q (inl same) k s t =
-        subst (λ (p : Packet). (p.kind ≡ kind.Acknowledgement n → p.sender ≡ b → p.receiver ≡ a → EndedIn n a b m))
-        (sym same) r k s t
-    by_acknowledgement q (inr i) k s t = h.acknowledgements (q, i, k, s, t)
+        → q.receiver ≡ a → IsCurrentOf m b a q → EndedIn n a b m
+    by_acknowledgement q (inl same) k s t now =
+        subst (λ (p : Packet). (p.kind ≡ kind.Acknowledgement n → p.sender ≡ b → p.receiver ≡ a → IsCurrentOf m b a p
+        → EndedIn n a b m)) (sym same) r k s t now
+    by_acknowledgement q (inr i) k s t now = h.acknowledgements (q, i, k, s, t, now)
 
     by_piece : (piece : Piece) (q : Packet) → (q ≡ p) ⊎ IsAmong q came → q.kind ≡ kind.Piece n piece → q.sender ≡ a
-        → q.receiver ≡ b → AnsweredIn n a b m
-    by_piece piece q (inl same) k s t = subst
-        (λ (p : Packet). (p.kind ≡ kind.Piece n piece → p.sender ≡ a → p.receiver ≡ b → AnsweredIn n a b m)) (sym same)
-        (o piece) k s t
-    by_piece piece q (inr i) k s t = h.pieces piece (q, i, k, s, t)
+        → q.receiver ≡ b → IsCurrentOf m a b q → AnsweredIn n a b m
+    by_piece piece q (inl same) k s t now = subst
+        (λ (p : Packet). (p.kind ≡ kind.Piece n piece → p.sender ≡ a → p.receiver ≡ b → IsCurrentOf m a b p
+        → AnsweredIn n a b m)) (sym same) (o piece) k s t now
+    by_piece piece q (inr i) k s t now = h.pieces piece (q, i, k, s, t, now)
 
 -- packets that came leave
 mid-bus : (n a b : ℕ) (l : Net) (came : List Packet) (m : Net) (flight : List Packet)
@@ -164,6 +174,7 @@ mid-bus n a b l came m flight fewer stays h = record {
   low = h.low;
   here = h.here;
   there = h.there;
+  reloads = h.reloads;
   acknowledgements = h.acknowledgements;
   pieces = λ piece q. answered (h.pieces piece q);
   ended = h.ended;
@@ -173,22 +184,22 @@ mid-bus n a b l came m flight fewer stays h = record {
 }
   where
     by_acknowledgement : (q : Packet) → q.kind ≡ kind.Acknowledgement n → q.sender ≡ b → q.receiver ≡ a
-        → IsAmong q flight ⊎ IsAmong q came → AnsweredIn n a b (record m { flight = flight })
-    by_acknowledgement q k s t (inl x) = inr (q, x, k, s, t)
-    by_acknowledgement q k s t (inr x) = inl (h.acknowledgements (q, x, k, s, t))
+        → IsCurrentOf m b a q → IsAmong q flight ⊎ IsAmong q came → AnsweredIn n a b (record m { flight = flight })
+    by_acknowledgement q k s t now (inl x) = inr (q, x, k, s, t, now)
+    by_acknowledgement q k s t now (inr x) = inl (h.acknowledgements (q, x, k, s, t, now))
 
     answered : AnsweredIn n a b m → AnsweredIn n a b (record m { flight = flight })
     answered (inl x) = inl x
-    answered (inr x) = by_acknowledgement x.0 x.2 x.3 x.4 (stays x.0 x.1)
+    answered (inr x) = by_acknowledgement x.0 x.2 x.3 x.4 x.5 (stays x.0 x.1)
 
     by_piece : (piece : Piece) (q : Packet) → q.kind ≡ kind.Piece n piece → q.sender ≡ a → q.receiver ≡ b
-        → IsAmong q flight ⊎ IsAmong q came → SentIn n a b (record m { flight = flight })
-    by_piece piece q k s t (inl x) = inr (piece, (q, x, k, s, t))
-    by_piece piece q k s t (inr x) = inl (answered (h.pieces piece (q, x, k, s, t)))
+        → IsCurrentOf m a b q → IsAmong q flight ⊎ IsAmong q came → SentIn n a b (record m { flight = flight })
+    by_piece piece q k s t now (inl x) = inr (piece, (q, x, k, s, t, now))
+    by_piece piece q k s t now (inr x) = inl (answered (h.pieces piece (q, x, k, s, t, now)))
 
     sent : SentIn n a b m → SentIn n a b (record m { flight = flight })
     sent (inl x) = inl (answered x)
-    sent (inr x) = by_piece x.0 x.1.0 x.1.2 x.1.3 x.1.4 (stays x.1.0 x.1.1)
+    sent (inr x) = by_piece x.0 x.1.0 x.1.2 x.1.3 x.1.4 x.1.5 (stays x.1.0 x.1.1)
 
 -- A packet comes
 
@@ -215,20 +226,20 @@ kept-at n piece w j low = go (is_next n w.receiver) refl
     go false is = le-leb n w.receiver.kept (grind (arith, top, eqb-false n (w.receiver.kept + 1) is))
 
 mid-packet : (n a b : ℕ) (l : Net) (came : List Packet) (m : Net) (p : Packet) → IsAmong p m.flight
-    → Runs m p.receiver p.sender → IsMid n a b l came m
+    → IsCurrent m.reloads p → Runs m p.receiver p.sender → IsMid n a b l came m
     → IsMid n a b l (p ∷ came) (arrived_net p.receiver p.sender p m)
-mid-packet n a b l came m p i r h = mid-came n a b l came p (arrived_net p.receiver p.sender p m) ended answered
+mid-packet n a b l came m p i current r h = mid-came n a b l came p (arrived_net p.receiver p.sender p m) ended answered
     (mid-on n a b l came m (put p.receiver p.sender (after_packet p e) m.ends) (option_to_list (sent_by_packet p e))
     (ways_by p.receiver p.sender p.kind m.ways)
-    (arrives p i r) (downs-put m p.receiver p.sender (after_packet p e) (down-packet p e r.1))
+    (arrives p i current r) (downs-put m p.receiver p.sender (after_packet p e) (down-packet p e r.1))
     (way-by n p.receiver p.sender p.kind m.ways a b) h)
   where
     e : End
     e = m.ends p.receiver p.sender
 
-    ended : p.kind ≡ kind.Acknowledgement n → p.sender ≡ b → p.receiver ≡ a
+    ended : p.kind ≡ kind.Acknowledgement n → p.sender ≡ b → p.receiver ≡ a → IsCurrentOf m b a p
         → EndedIn n a b (arrived_net p.receiver p.sender p m)
-    ended k s t =
+    ended k s t now =
         let own : IsEnded n (put a b (telling n (m.ways a b)) m.ways a b).sender =
         subst (λ (u : Way). IsEnded n u.sender) (sym (put-same a b (telling n (m.ways a b)) m.ways))
         (hit n (m.ways a b).sender h.low) in
@@ -236,9 +247,9 @@ mid-packet n a b l came m p i r h = mid-came n a b l came p (arrived_net p.recei
         (subst (λ c. IsEnded n (ways_by c p.sender (kind.Acknowledgement n) m.ways a b).sender) (sym t)
         (subst (λ d. IsEnded n (ways_by a d (kind.Acknowledgement n) m.ways a b).sender) (sym s) own))
 
-    answered : (piece : Piece) → p.kind ≡ kind.Piece n piece → p.sender ≡ a → p.receiver ≡ b
+    answered : (piece : Piece) → p.kind ≡ kind.Piece n piece → p.sender ≡ a → p.receiver ≡ b → IsCurrentOf m a b p
         → AnsweredIn n a b (arrived_net p.receiver p.sender p m)
-    answered piece k s t =
+    answered piece k s t now =
         let own : Packet = packet_of e (kind.Acknowledgement n) in
         let names = h.whole.named p.receiver p.sender in
         let tie : e.receiving ≡ (m.ways a b).receiver =
@@ -247,8 +258,14 @@ mid-packet n a b l came m p i r h = mid-came n a b l came p (arrived_net p.recei
         ap (λ r. is_kept n (kept n piece r)) tie ∙ kept-at n piece (m.ways a b) (h.whole.joint a b) h.low in
         let sent_is : sent_by_packet p e ≡ Some own = when-up None (sent_by_kind p.kind e) r.1
         ∙ ap (λ k. sent_by_kind k e) k ∙ ap (λ b. if b then Some own else None) is in
-        inr (subst (λ s. IsFlying b a (kind.Acknowledgement n) (m.flight ++ option_to_list s)) (sym sent_is)
-        (own, among-right _ m.flight (own ∷ []) (inl refl), refl, names.here ∙ t, names.there ∙ s))
+        inr (subst (λ s. IsFlying m.reloads b a (kind.Acknowledgement n) (m.flight ++ option_to_list s)) (sym sent_is) (
+          own,
+          among-right _ m.flight (own ∷ []) (inl refl),
+          refl,
+          names.here ∙ t,
+          names.there ∙ s,
+          names.incarnation ∙ (λ i. incarnation_of m.reloads (t i) (s i)),
+        ))
 
 mid-tick : (n a b : ℕ) (l : Net) (came : List Packet) (m : Net) (x y : ℕ) → Runs m x y → IsMid n a b l came m
     → IsMid n a b l came (ticked_net x y m)
@@ -274,6 +291,7 @@ mid-passes n a b w low here there nothing = record {
   low = low;
   here = here;
   there = there;
+  reloads = refl;
   acknowledgements = λ q. absurd q.1;
   pieces = λ piece q. absurd q.1;
   ended = λ x. x;
@@ -289,13 +307,15 @@ mid-passes n a b {l = l} w low here there (by_push {came = came} {m = m} x y mes
     (record (m.ends x y) { sending = after_push_of message (m.ends x y).sending }) r.1)))
     (way-put n x y (pushing message (m.ways x y)) m.ways (way-pushing n message (m.ways x y)) a b)
     (mid-passes n a b w low here there q)
-mid-passes n a b {l = l} w low here there (by_packet {came = came} {m = m} p i r q) =
-    mid-packet n a b l came m p i r (mid-passes n a b w low here there q)
+mid-passes n a b {l = l} w low here there (by_packet {came = came} {m = m} p i current r q) =
+    mid-packet n a b l came m p i current r (mid-passes n a b w low here there q)
 mid-passes n a b {l = l} w low here there (by_drop {came = came} {m = m} p gone q) =
     let h = mid-passes n a b w low here there q in
-    mid-came n a b l came p m (λ k s t. absurd
-    (gone (subst (λ c. Runs m c p.sender) (sym t) (subst (λ d. Runs m a d) (sym s) h.here))))
-    (λ piece k s t. absurd (gone (subst (λ c. Runs m c p.sender) (sym t) (subst (λ d. Runs m b d) (sym s) h.there)))) h
+    mid-came n a b l came p m (λ k s t now. absurd
+    (gone (now ∙ (λ i. incarnation_of m.reloads (sym s i) (sym t i)))
+    (subst (λ c. Runs m c p.sender) (sym t) (subst (λ d. Runs m a d) (sym s) h.here))))
+    (λ piece k s t now. absurd (gone (now ∙ (λ i. incarnation_of m.reloads (sym s i) (sym t i)))
+    (subst (λ c. Runs m c p.sender) (sym t) (subst (λ d. Runs m b d) (sym s) h.there)))) h
 mid-passes n a b {l = l} w low here there (by_tick {came = came} {m = m} x y r q) =
     mid-tick n a b l came m x y r (mid-passes n a b w low here there q)
 mid-passes n a b {l = l} w low here there (by_alive {came = came} {m = m} x y r q) =
@@ -310,6 +330,7 @@ mid-passes n a b {l = l} w low here there (by_stop {came = came} {m = m} x na nb
       low = h.low;
       here = (put-one-other x a m.stopped na h.here.0, h.here.1);
       there = (put-one-other x b m.stopped nb h.there.0, h.there.1);
+      reloads = h.reloads;
       acknowledgements = h.acknowledgements;
       pieces = h.pieces;
       ended = h.ended;
@@ -328,6 +349,7 @@ mid-passes n a b {l = l} w low here there (by_mark {came = came} {m = m} x y gon
       low = h.low;
       here = (h.here.0, downs a b h.there.0 ∙ h.here.1);
       there = (h.there.0, downs b a h.here.0 ∙ h.there.1);
+      reloads = h.reloads;
       acknowledgements = h.acknowledgements;
       pieces = h.pieces;
       ended = h.ended;
@@ -418,12 +440,13 @@ net-sends n a b m w low r k = go (tick-sends n (m.ends a b) (m.ways a b) r.1 (w.
         inl (inl (subst (λ (u : Way). IsEnded n u.sender) (sym (put-same a b (ticking (m.ways a b)) m.ways)) x))
     go (inr x) = inr (
       x.0,
-      subst (λ s. IsFlying a b (kind.Piece n x.0) (m.flight ++ option_to_list s)) (sym x.1) (
+      subst (λ s. IsFlying m.reloads a b (kind.Piece n x.0) (m.flight ++ option_to_list s)) (sym x.1) (
         packet_of e (kind.Piece n x.0),
         among-right _ m.flight (packet_of e (kind.Piece n x.0) ∷ []) (inl refl),
         refl,
         (w.named a b).here,
         (w.named a b).there,
+        (w.named a b).incarnation,
       ),
     )
 
@@ -435,11 +458,11 @@ brought-on n a b {l = l} {next = next} r w here there numbered = record {
   there = two.there;
   numbered = subst (λ (s : Sending). n ≤ s.numbered) (sym after) two.low;
   waited = subst (HasWaited n) (sym after) (two.waited ticked_once);
-  sent = λ k. subst (λ s. IsSent n a b s next.flight) (sym after)
+  sent = λ k. subst (λ s. IsSent next.reloads n a b s next.flight) (sym after)
       (two.sent (net-sends n a b r.middle one.whole one.low one.here (one.waited (subst (HasWaited n) before k))));
-  answered = λ k. subst (λ s. IsAnswered n a b s next.flight) (sym after)
-      (answered (subst (λ s. IsSent n a b s l.flight) before k));
-  ended = λ k. subst (IsEnded n) (sym after) (ended (subst (λ s. IsAnswered n a b s l.flight) before k));
+  answered = λ k. subst (λ s. IsAnswered next.reloads n a b s next.flight) (sym after)
+      (answered (subst (λ s. IsSent l.reloads n a b s l.flight) before k));
+  ended = λ k. subst (IsEnded n) (sym after) (ended (subst (λ s. IsAnswered l.reloads n a b s l.flight) before k));
 }
   where
     before : (l.ends a b).sending ≡ (l.ways a b).sender
@@ -454,6 +477,10 @@ brought-on n a b {l = l} {next = next} r w here there numbered = record {
     two : IsMid n a b (ticked_net a b r.middle) r.later next
     two = mid-passes n a b middle.whole middle.low middle.here middle.there r.rest
 
+    -- no node is loaded again in a round
+    still : (c d : ℕ) → incarnation_of l.reloads c d ≡ incarnation_of r.middle.reloads c d
+    still c d = λ i. incarnation_of (sym one.reloads i) c d
+
     after : (next.ends a b).sending ≡ (next.ways a b).sender
     after = (two.whole.tied a b two.here).sending
 
@@ -464,8 +491,9 @@ brought-on n a b {l = l} {next = next} r w here there numbered = record {
 
     answered : SentIn n a b l → AnsweredIn n a b next
     answered (inl x) = two.answered (middle.answered x)
-    answered (inr x) = two.answered (middle.pieces x.0 (x.1.0, r.all x.1.0 x.1.1, x.1.2, x.1.3, x.1.4))
+    answered (inr x) = two.answered (middle.pieces x.0
+        (x.1.0, r.all x.1.0 x.1.1, x.1.2, x.1.3, x.1.4, x.1.5 ∙ still a b))
 
     ended : AnsweredIn n a b l → EndedIn n a b next
     ended (inl x) = two.ended (middle.ended x)
-    ended (inr x) = two.ended (middle.acknowledgements (x.0, r.all x.0 x.1, x.2, x.3, x.4))
+    ended (inr x) = two.ended (middle.acknowledgements (x.0, r.all x.0 x.1, x.2, x.3, x.4, x.5 ∙ still b a))

@@ -1,12 +1,14 @@
 -- Channels between any number of nodes.
-use Rattle.std.specs.Prelude.{◌≡◌, ◌<◌, ℕ, ◌==◌, ◌&&◌, ℤ, Bool, true, false, List, [], ◌∷◌, ◌++◌, length, Option}
-use Rattle.std.specs.Prelude.{if◌then◌else◌}
+use Rattle.std.specs.Prelude.{◌≡◌, ◌<◌, ◌≤◌, ℕ, ◌+◌, ◌==◌, ◌&&◌, ◌||◌, ℤ, Bool, true, false, List, [], ◌∷◌, ◌++◌}
+use Rattle.std.specs.Prelude.{length}
+use Rattle.std.specs.Prelude.{if◌then◌else◌, Option}
 use Rattle.std.specs.Option.{option_map, option_to_list}
 use Rattle.gd_words.specs.Members.{IsAmong}
 use Rattle.packet_words.specs.declared.packet.Packet.{Packet}
 use Rattle.packet_words.specs.declared.packet.Incarnation.{Incarnation}
 use Rattle.packet_words.specs.declared.packet.PacketKind.{PacketKind}
 use Rattle.packet_words.specs.declared.packet.PacketKind.TheVariants as kind
+use Rattle.packet_words.specs.Layout.{is_kind}
 use Rattle.link_control.specs.declared.channel.Resent.{Resent}
 use Rattle.link_control.specs.Ends.{End, new_end, packet_of, after_push, sent_by_push, after_packet, sent_by_packet}
 use Rattle.link_control.specs.Ends.{after_tick, sent_by_tick, after_down}
@@ -45,6 +47,10 @@ quiet_net reloads = record {
 -- the node x runs and hasn't marked y down
 abbrev pub Runs : Net → ℕ → ℕ → Type 0
 Runs n x y = (n.stopped x ≡ false) × ((n.ends x y).down ≡ false)
+
+-- a packet bears the present incarnations of its sender and of its receiver
+abbrev pub IsCurrent : (ℕ → ℕ) → Packet → Type 0
+IsCurrent reloads p = p.incarnation ≡ incarnation_of reloads p.sender p.receiver
 
 -- What happens in a net
 
@@ -90,12 +96,32 @@ stopped_net x n = record n { stopped = put_one x true n.stopped }
 abbrev pub marked_net : ℕ → ℕ → Net → Net
 marked_net x y n = record n { ends = put x y (after_down (n.ends x y)) n.ends }
 
--- what may happen next: at a node that runs and hasn't marked the other one down a message is pushed, a packet comes,
--- or a tick or a sign of life goes out; packets are lost, repeated or come to stand in another order, so that none is
--- there that wasn't; a node stops; a node marks down one that has stopped
+-- whether one of two nodes is the node x
+abbrev pub is_of : ℕ → ℕ → ℕ → Bool
+is_of x a b = (a == x) || (b == x)
+
+-- how often each node was reloaded, after x was loaded again
+abbrev pub more_reloads : ℕ → (ℕ → ℕ) → ℕ → ℕ
+more_reloads x reloads = put_one x (reloads x + 1) reloads
+
+-- x is loaded again: it runs, all ends of it and with it are new, and nothing has gone on their ways. What is in flight
+-- stays there
+abbrev pub reloaded_net : ℕ → Net → Net
+reloaded_net x n = record {
+  reloads = more_reloads x n.reloads;
+  ends = λ a b. if is_of x a b then new_end a b (incarnation_of (more_reloads x n.reloads) a b) else n.ends a b;
+  flight = n.flight;
+  stopped = put_one x false n.stopped;
+  ways = λ a b. if is_of x a b then quiet_way else n.ways a b;
+}
+
+-- what may happen next: at a node that runs and hasn't marked the other one down a message is pushed, a packet comes
+-- that bears the present incarnations, or a tick or a sign of life goes out; packets are lost, repeated or come to
+-- stand in another order, so that none is there that wasn't; a node stops; a node marks down one that has stopped; a
+-- node is loaded again that has stopped
 pub data Goes (n : Net) : Net → Type 0 where
   pushes : (x y : ℕ) (message : List ℤ) → 0 < length message → Runs n x y → Goes n (pushed_net x y message n)
-  arrives : (p : Packet) → IsAmong p n.flight → Runs n p.receiver p.sender
+  arrives : (p : Packet) → IsAmong p n.flight → IsCurrent n.reloads p → Runs n p.receiver p.sender
       → Goes n (arrived_net p.receiver p.sender p n)
   ticks : (x y : ℕ) → Runs n x y → Goes n (ticked_net x y n)
   lives : (x y : ℕ) → Runs n x y → Goes n (alive_net x y n)
@@ -103,6 +129,7 @@ pub data Goes (n : Net) : Net → Type 0 where
       → Goes n (record n { flight = flight })
   stops : (x : ℕ) → Goes n (stopped_net x n)
   marks : (x y : ℕ) → n.stopped y ≡ true → Goes n (marked_net x y n)
+  loads : (x : ℕ) → n.stopped x ≡ true → Goes n (reloaded_net x n)
 
 -- what may come of a net
 pub data Leads (start : Net) : Net → Type 0 where
@@ -117,9 +144,13 @@ IsTold there back kind.Alive = Unit {0}
 IsTold there back (kind.Piece number piece) = IsPieceOf there number piece
 IsTold there back (kind.Acknowledgement number) = IsReceiptOf back number
 
+-- a packet in flight keeps to the layout, bears no incarnation that isn't reached yet, and, if it bears the present
+-- ones, tells what is so
 pub record IsRight (reloads : ℕ → ℕ) (ways : ℕ → ℕ → Way) (p : Packet) : Type 0 where
-  pub incarnation : p.incarnation ≡ incarnation_of reloads p.sender p.receiver
-  pub told : IsTold (ways p.sender p.receiver) (ways p.receiver p.sender) p.kind
+  pub fits : is_kind p.kind ≡ true
+  pub sender : p.incarnation.sender ≤ reloads p.sender
+  pub receiver : p.incarnation.receiver ≤ reloads p.receiver
+  pub told : IsCurrent reloads p → IsTold (ways p.sender p.receiver) (ways p.receiver p.sender) p.kind
 
 -- the end of a with b bears its names
 pub record IsNamed (reloads : ℕ → ℕ) (a b : ℕ) (e : End) : Type 0 where
@@ -133,7 +164,7 @@ pub record IsTied (ways : ℕ → ℕ → Way) (a b : ℕ) (e : End) : Type 0 wh
   pub receiving : e.receiving ≡ (ways b a).receiver
 
 -- a net is whole: both ends of each way are joint, each end bears its names and, where its node runs and hasn't thrown
--- it away, is that of its ways, and each packet in flight is one of its way
+-- it away, is that of its ways, and each packet in flight is right
 pub record IsWhole (n : Net) : Type 0 where
   pub joint : (a b : ℕ) → IsJoint (n.ways a b)
   pub named : (a b : ℕ) → IsNamed n.reloads a b (n.ends a b)

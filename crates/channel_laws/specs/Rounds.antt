@@ -7,21 +7,23 @@ use Rattle.packet_words.specs.declared.packet.PacketKind.TheVariants as kind
 use Rattle.link_control.specs.Ends.{Sending}
 use Rattle.channel_laws.specs.Way.{IsEnded}
 use Rattle.gd_words.specs.Members.{IsAmong}
-use Rattle.channel_laws.specs.Net.{Net, IsWhole, Runs, pushed_net, arrived_net, ticked_net, alive_net, stopped_net}
-use Rattle.channel_laws.specs.Net.{marked_net}
+use Rattle.channel_laws.specs.Net.{Net, IsCurrent, IsWhole, Runs, pushed_net, arrived_net, ticked_net, alive_net}
+use Rattle.channel_laws.specs.Net.{incarnation_of, stopped_net, marked_net}
 
--- what goes on in a net while the nodes a and b don't stop and no packet is lost that didn't come. The packets that
--- came are listed, the newest first; those that came may leave the buses, be repeated and stand in another order
+-- what goes on in a net while the nodes a and b don't stop, no node is loaded again, and no packet is lost that didn't
+-- come. The packets that came are listed, the newest first; those that came may leave the buses, be repeated and stand
+-- in another order
 pub data Passes (a b : ℕ) (n : Net) : List Packet → Net → Type 0 where
   nothing : Passes a b n [] n
   by_push : {came : List Packet} {m : Net} (x y : ℕ) (message : List ℤ) → 0 < length message → Runs m x y
       → Passes a b n came m → Passes a b n came (pushed_net x y message m)
-  by_packet : {came : List Packet} {m : Net} (p : Packet) → IsAmong p m.flight → Runs m p.receiver p.sender
-      → Passes a b n came m
+  by_packet : {came : List Packet} {m : Net} (p : Packet) → IsAmong p m.flight → IsCurrent m.reloads p
+      → Runs m p.receiver p.sender → Passes a b n came m
       → Passes a b n (p ∷ came) (arrived_net p.receiver p.sender p m)
-  -- a packet comes to a node that has stopped or has marked its sender down
-  by_drop : {came : List Packet} {m : Net} (p : Packet) → (Runs m p.receiver p.sender → ⊥) → Passes a b n came m
-      → Passes a b n (p ∷ came) m
+  -- a packet comes that bears other incarnations than the present ones, or to a node that has stopped or has marked its
+  -- sender down
+  by_drop : {came : List Packet} {m : Net} (p : Packet) → (IsCurrent m.reloads p → Runs m p.receiver p.sender → ⊥)
+      → Passes a b n came m → Passes a b n (p ∷ came) m
   by_tick : {came : List Packet} {m : Net} (x y : ℕ) → Runs m x y → Passes a b n came m
       → Passes a b n came (ticked_net x y m)
   by_alive : {came : List Packet} {m : Net} (x y : ℕ) → Runs m x y → Passes a b n came m
@@ -47,21 +49,23 @@ pub record IsRound (a b : ℕ) (n next : Net) : Type 0 where
 
 -- How far the piece n has come on its way from a to b
 
--- a packet from one node to another tells this
-abbrev pub IsFlying : ℕ → ℕ → PacketKind → List Packet → Type 0
-IsFlying from to told flight = (p : Packet) × IsAmong p flight × (p.kind ≡ told) × (p.sender ≡ from) × (p.receiver ≡ to)
+-- a packet from one node to another that bears the present incarnations tells this
+abbrev pub IsFlying : (ℕ → ℕ) → ℕ → ℕ → PacketKind → List Packet → Type 0
+IsFlying reloads from to told flight = (p : Packet) × IsAmong p flight × (p.kind ≡ told) × (p.sender ≡ from)
+    × (p.receiver ≡ to) × (p.incarnation ≡ incarnation_of reloads from to)
 
 -- it has ended, or was outstanding at a tick
 abbrev pub HasWaited : ℕ → Sending → Type 0
 HasWaited n s = IsEnded n s ⊎ (s.waited ≡ true)
 
 -- it has ended, or its acknowledgement is in flight
-abbrev pub IsAnswered : ℕ → ℕ → ℕ → Sending → List Packet → Type 0
-IsAnswered n a b s flight = IsEnded n s ⊎ IsFlying b a (kind.Acknowledgement n) flight
+abbrev pub IsAnswered : (ℕ → ℕ) → ℕ → ℕ → ℕ → Sending → List Packet → Type 0
+IsAnswered reloads n a b s flight = IsEnded n s ⊎ IsFlying reloads b a (kind.Acknowledgement n) flight
 
 -- that, or it is in flight itself
-abbrev pub IsSent : ℕ → ℕ → ℕ → Sending → List Packet → Type 0
-IsSent n a b s flight = IsAnswered n a b s flight ⊎ ((piece : Piece) × IsFlying a b (kind.Piece n piece) flight)
+abbrev pub IsSent : (ℕ → ℕ) → ℕ → ℕ → ℕ → Sending → List Packet → Type 0
+IsSent reloads n a b s flight =
+    IsAnswered reloads n a b s flight ⊎ ((piece : Piece) × IsFlying reloads a b (kind.Piece n piece) flight)
 
 -- a round brings it on: what was numbered has waited, what has waited is sent, what was sent is answered, and what was
 -- answered has ended
@@ -71,6 +75,7 @@ pub record IsBroughtOn (n a b : ℕ) (l next : Net) : Type 0 where
   pub there : Runs next b a
   pub numbered : n ≤ (next.ends a b).sending.numbered
   pub waited : HasWaited n (next.ends a b).sending
-  pub sent : HasWaited n (l.ends a b).sending → IsSent n a b (next.ends a b).sending next.flight
-  pub answered : IsSent n a b (l.ends a b).sending l.flight → IsAnswered n a b (next.ends a b).sending next.flight
-  pub ended : IsAnswered n a b (l.ends a b).sending l.flight → IsEnded n (next.ends a b).sending
+  pub sent : HasWaited n (l.ends a b).sending → IsSent next.reloads n a b (next.ends a b).sending next.flight
+  pub answered : IsSent l.reloads n a b (l.ends a b).sending l.flight
+      → IsAnswered next.reloads n a b (next.ends a b).sending next.flight
+  pub ended : IsAnswered l.reloads n a b (l.ends a b).sending l.flight → IsEnded n (next.ends a b).sending

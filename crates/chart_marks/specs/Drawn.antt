@@ -31,6 +31,7 @@ own_drawn (event.Lose y k) sign = drawn.Nothing
 own_drawn (event.Repeat y k) sign = drawn.Nothing
 own_drawn (event.Tick node) sign = drawn.Nothing
 own_drawn (event.Fail processor) sign = drawn.Nothing
+own_drawn (event.Reload processor) sign = drawn.Nothing
 
 -- of one thing that an event did. The letters are C for a checkpoint that is sent, P for one that is put in, T for a
 -- takeover, M for a mark, E for a request that is entered, and D for a change of a drive
@@ -46,10 +47,13 @@ drawn_by event (finding.Sets process item place value) = drawn.Nothing
 drawn_by event (finding.DiscGoesOn point) = own_drawn event Dot
 drawn_by event (finding.SendsCheckpoint number) = own_drawn event (Letter 67)
 drawn_by event finding.PassesCheckpoint = own_drawn event Dot
+drawn_by event (finding.SendsEverything number) = own_drawn event (Letter 67)
+drawn_by event finding.EndsSending = own_drawn event Dot
 drawn_by event (finding.AppliesCheckpoint process processor number) = at_copy (Letter 80) process processor
 drawn_by event (finding.Waits process processor number) = drawn.Nothing
 drawn_by event (finding.TakesOver process processor era statement) = at_copy (Letter 84) process processor
 drawn_by event (finding.Stops processor) = at_node Cross processor
+drawn_by event (finding.Reloads processor) = at_node Dot processor
 drawn_by event (finding.Marks node processor) = at_node (Letter 77) node
 drawn_by event (finding.Misses node processor) = at_node Dot node
 drawn_by event (finding.FindsSilent node processor) = at_node Dot node

@@ -47,6 +47,7 @@ fate_marks layout kind from to fate.Came = arrow kind from to ∷ []
 fate_marks layout kind from to fate.CameAgain = arrow look.Thin from to ∷ []
 fate_marks layout kind from to fate.Dropped = lost_marks from to
 fate_marks layout kind from to fate.Refused = lost_marks from to
+fate_marks layout kind from to fate.Old = lost_marks from to
 fate_marks layout kind from to fate.Lost = lost_marks from (short_of layout from to)
 fate_marks layout kind from to fate.Repeated = dot (record { x = from.x; y = to.y }) ∷ []
 

@@ -1,5 +1,5 @@
 -- The copies of a site's processes as they stand: one acts and the other watches; the other acts from a takeover on;
--- and a copy is gone once its processor has stopped.
+-- a copy is gone once its processor has stopped, and watches or is blank once that is loaded again.
 use Rattle.std.specs.List.{range_with_len}
 use Rattle.std.specs.Prelude.{ℕ, ◌-◌, ◌/◌, ◌==◌, ◌&&◌, ◌||◌, not, Bool, true, false, if◌then◌else◌, List, [], ◌∷◌}
 use Rattle.std.specs.Prelude.{flat_map, slice_get, Option, Some, None}
@@ -44,9 +44,14 @@ taken_over process processor standing = record standing { acts = standing.acts |
 abbrev pub stopped : ℕ → Standing → Standing
 stopped processor standing = record standing { gone = standing.gone || (standing.processor == processor) }
 
+abbrev pub loaded : ℕ → Standing → Standing
+loaded processor standing =
+    if standing.processor == processor then record standing { acts = false; gone = false } else standing
+
 abbrev pub after_one : Finding → Standing → Standing
 after_one (finding.TakesOver process processor era statement) standing = taken_over process processor standing
 after_one (finding.Stops processor) standing = stopped processor standing
+after_one (finding.Reloads processor) standing = loaded processor standing
 after_one finding.Skipped standing = standing
 after_one (finding.StandsStill point) standing = standing
 after_one (finding.WouldStopSecond processor) standing = standing
@@ -58,6 +63,8 @@ after_one (finding.Sets process item place value) standing = standing
 after_one (finding.DiscGoesOn point) standing = standing
 after_one (finding.SendsCheckpoint number) standing = standing
 after_one finding.PassesCheckpoint standing = standing
+after_one (finding.SendsEverything number) standing = standing
+after_one finding.EndsSending standing = standing
 after_one (finding.AppliesCheckpoint process processor number) standing = standing
 after_one (finding.Waits process processor number) standing = standing
 after_one (finding.Marks node processor) standing = standing
@@ -95,7 +102,7 @@ abbrev pub bar_round : Look → Spot → ℕ → ℕ → Mark
 bar_round look at width height =
     Bar look (record { x = at.x - width / 2; y = at.y - height / 2 }) width height
 
--- a copy beside an event: a wide bar if it acts, a thin one if it watches, and a point if it is gone
+-- a copy beside an event: a wide bar if it acts, a thin one if it watches or is blank, and a point if it is gone
 abbrev pub copy_bar : Layout → ℕ → Standing → Mark
 copy_bar layout number standing =
     let at = copy_spot layout standing.process standing.processor number in

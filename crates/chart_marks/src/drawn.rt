@@ -71,6 +71,8 @@ pub(crate) fn drawn_by(event: Event, finding: Finding) -> Drawn
         Finding::DiscGoesOn(_) => own_drawn(event, Sign::Dot),
         Finding::SendsCheckpoint(_) => own_drawn(event, Sign::Letter(b'C')),
         Finding::PassesCheckpoint => own_drawn(event, Sign::Dot),
+        Finding::SendsEverything(_) => own_drawn(event, Sign::Letter(b'C')),
+        Finding::EndsSending => own_drawn(event, Sign::Dot),
         Finding::AppliesCheckpoint {
             process,
             processor,
@@ -88,6 +90,7 @@ pub(crate) fn drawn_by(event: Event, finding: Finding) -> Drawn
             statement: _,
         } => at_copy(Sign::Letter(b'T'), process, processor),
         Finding::Stops(processor) => at_node(Sign::Cross, processor),
+        Finding::Reloads(processor) => at_node(Sign::Dot, processor),
         Finding::Marks { node, processor: _ } => at_node(Sign::Letter(b'M'), node),
         Finding::Misses { node, processor: _ } => at_node(Sign::Dot, node),
         Finding::FindsSilent { node, processor: _ } => at_node(Sign::Dot, node),
@@ -151,6 +154,7 @@ fn own_drawn(event: Event, sign: Sign) -> Drawn
         Event::Repeat { y: _, k: _ } => Drawn::Nothing,
         Event::Tick(_) => Drawn::Nothing,
         Event::Fail(_) => Drawn::Nothing,
+        Event::Reload(_) => Drawn::Nothing,
     }
 }
 

@@ -81,6 +81,7 @@ fn put_fate(
         Fate::CameAgain => marks.push(arrow(Look::Thin, from, to)),
         Fate::Dropped => put_lost(marks, from, to),
         Fate::Refused => put_lost(marks, from, to),
+        Fate::Old => put_lost(marks, from, to),
         Fate::Lost => put_lost(marks, from, short_of(layout, from, to)),
         Fate::Repeated => marks.push(dot(Spot { x: from.x, y: to.y })),
     }

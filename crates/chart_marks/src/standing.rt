@@ -105,6 +105,7 @@ fn after_one(finding: Finding, standing: Standing) -> Standing
             statement: _,
         } => taken_over(process, processor, standing),
         Finding::Stops(processor) => stopped(processor, standing),
+        Finding::Reloads(processor) => loaded(processor, standing),
         Finding::Skipped => standing,
         Finding::StandsStill(_) => standing,
         Finding::WouldStopSecond(_) => standing,
@@ -134,6 +135,8 @@ fn after_one(finding: Finding, standing: Standing) -> Standing
         Finding::DiscGoesOn(_) => standing,
         Finding::SendsCheckpoint(_) => standing,
         Finding::PassesCheckpoint => standing,
+        Finding::SendsEverything(_) => standing,
+        Finding::EndsSending => standing,
         Finding::AppliesCheckpoint {
             process: _,
             processor: _,
@@ -201,6 +204,20 @@ fn stopped(processor: u8, standing: Standing) -> Standing
     Standing {
         gone: standing.gone || standing.processor == processor,
         ..standing
+    }
+}
+
+fn loaded(processor: u8, standing: Standing) -> Standing
+    ensures { result ≡ spec.loaded processor standing }
+{
+    if standing.processor == processor {
+        Standing {
+            acts: false,
+            gone: false,
+            ..standing
+        }
+    } else {
+        standing
     }
 }
 

@@ -80,6 +80,8 @@ fn way_by(event: u64, finding: Finding) -> Option<Way>
         Finding::DiscGoesOn(_) => None,
         Finding::SendsCheckpoint(_) => None,
         Finding::PassesCheckpoint => None,
+        Finding::SendsEverything(_) => None,
+        Finding::EndsSending => None,
         Finding::AppliesCheckpoint {
             process: _,
             processor: _,
@@ -97,6 +99,7 @@ fn way_by(event: u64, finding: Finding) -> Option<Way>
             statement: _,
         } => None,
         Finding::Stops(_) => None,
+        Finding::Reloads(_) => None,
         Finding::Marks {
             node: _,
             processor: _,
@@ -141,6 +144,7 @@ fn answer_by(event: u64, packet: PacketSight, fate: Fate) -> Option<Way>
         Fate::CameAgain => acknowledgement_of(event, packet),
         Fate::Dropped => None,
         Fate::Refused => None,
+        Fate::Old => None,
         Fate::Lost => None,
         Fate::Repeated => None,
     }

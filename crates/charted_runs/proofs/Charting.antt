@@ -1,5 +1,5 @@
 -- A run that is being drawn.
-use Rattle.std.proofs.Common.{◌≡◌, ◌<◌, ◌∙◌, ℕ, ◌+◌, false, List, [], ◌∷◌, ◌++◌, length, Option}
+use Rattle.std.proofs.Common.{◌≡◌, ◌≤◌, ◌<◌, ◌∙◌, ℕ, ◌+◌, false, List, [], ◌∷◌, ◌++◌, arith, length, Option}
 use Rattle.std.proofs.Common.{Some, None, Ok, Err, refl, ap, ap₂, sym, subst, append-nil}
 use Rattle.std.specs.Option.{IfSome}
 use Rattle.std.specs.Prelude.{IfErr, IfOk, Result}
@@ -56,14 +56,36 @@ pub record Drawing : Type 0 where
 abbrev pub chart_by : Drawing → List Event → Chart
 chart_by t events = chart_of t.site t.places t.layout t.to events
 
+-- there is room for so many events
+abbrev pub HasRoom : Layout → ℕ → ℕ → Type 0
+HasRoom layout to n = layout.from + 400 ≤ to → n < layout.from + 400
+
 -- so many events of a schedule were played, and led to this state and to where the schedule stands; and this is their
--- chart
+-- chart, which has room for them
 pub record IsCharting (t : Drawing) (schedule : Scheduled) (s : Packeted) (played : ℕ) (chart : Chart) : Type 0 where
   pub events : List Event
   pub counted : length events ≡ played
   pub plays : Plays packet_rules (course_on t.site t.lines t.stop) events schedule.agenda s
   pub sizes : schedule.sizes ≡ sizes_of t.site
   pub is : chart ≡ chart_by t events
+  pub room : HasRoom t.layout t.to played
+
+-- the next event has room, if what was played had, and if it has where it is drawn
+pub next_room : (layout : Layout) (to n : ℕ) → HasRoom layout to n → (n + 1 ≤ to → n + 1 < layout.from + 400)
+    → HasRoom layout to (n + 1)
+next_room layout to n room drawn far = drawn (not_behind layout.from (room far) far)
+  where
+    not_behind : (from : ℕ) → n < from + 400 → from + 400 ≤ to → n + 1 ≤ to
+    not_behind from less far = omega (arith, less, far)
+
+not_long : (layout : Layout) (to n : ℕ) → HasRoom layout to n → IsTooLong layout to n → ⊥
+not_long layout to n room (many, far) = beyond layout.from (room far) many
+  where
+    beyond : (from : ℕ) → n < from + 400 → from + 400 ≤ n → ⊥
+    beyond from less many = omega (arith, less, many)
+
+first_room : (layout : Layout) (to : ℕ) → HasRoom layout to 0
+first_room layout to far = omega arith
 
 -- at the beginning nothing was played
 pub begins : (t : Drawing) (schedule : Scheduled) (s : Packeted) (sizes : Sizes) (chart : Chart)
@@ -81,6 +103,7 @@ begins t schedule s sizes chart booted counted is begun = record {
       (sym (ap (λ (all : Scheduled). all.agenda) is)) seen_none);
   sizes = ap (λ (all : Scheduled). all.sizes) is ∙ counted;
   is = begun;
+  room = first_room t.layout t.to;
 }
 
 pub playing_of : (t : Drawing) (schedule : Scheduled) (s : Packeted) (n : ℕ) (chart : Chart)
@@ -130,8 +153,9 @@ pub goes_on : (t : Drawing) (before after : Scheduled) (s next : Packeted) (n : 
     (event : Event) → IsCharting t before s n chart → event_in (Coming packet_rules before s n) ≡ Some event
     → IfSome (Coming packet_rules before s n) (λ plan. after ≡ record before { agenda = plan.agenda })
     → IsTriedBy packet_rules s event next None
-    → drawn ≡ charted_by t.site t.places t.to (n + 1) s event chart → IsCharting t after next (n + 1) drawn
-goes_on t before after s next n chart drawn event charting e stands tried is =
+    → drawn ≡ charted_by t.site t.places t.to (n + 1) s event chart
+    → (n + 1 ≤ t.to → n + 1 < t.layout.from + 400) → IsCharting t after next (n + 1) drawn
+goes_on t before after s next n chart drawn event charting e stands tried is room =
     let found : Found (Coming packet_rules before s n) event before after =
     planned (Coming packet_rules before s n) event before after e stands in
     let plays : Plays packet_rules (course_on t.site t.lines t.stop) (charting.events ++ found.0.event ∷ [])
@@ -146,6 +170,7 @@ goes_on t before after s next n chart drawn event charting e stands tried is =
           (sym (ap (λ (all : Scheduled). all.agenda) found.3)) plays;
       sizes = ap (λ (all : Scheduled). all.sizes) found.3 ∙ charting.sizes;
       is = is ∙ sym (chart_next t before s n chart charting found.0.event event found.2);
+      room = next_room t.layout t.to n charting.room room;
     }
 
 -- Ends
@@ -208,6 +233,7 @@ ends_over t schedule s n chart charted charting e few whole end same = (
         ∙ sym (counted_at_end s charted.ran.machine.state n charted.ran.asked (is_idle s) charted.ran.ending end),
   ),
   same ∙ charting.is,
+  λ long. not_long t.layout t.to n charting.room (subst (λ m. IsTooLong t.layout t.to m) charting.counted long),
 )
 
 -- and memory for closing it may run out
@@ -230,8 +256,9 @@ pub ends_at_harm : (t : Drawing) (before after : Scheduled) (s : Packeted) (n : 
     → IfSome (Coming packet_rules before s n) (λ plan. after ≡ record before { agenda = plan.agenda })
     → IsTriedBy packet_rules s event charted.ran.machine.state (Some charted.ran.ending)
     → charted.ran.machine.is_broken ≡ false → n < 4294967295 → charted.ran.asked ≡ n + 1
-    → charted.chart ≡ charted_by t.site t.places t.to (n + 1) s event chart → ChartsBy t (Ok charted)
-ends_at_harm t before after s n chart event charted charting e stands tried whole few asked is =
+    → charted.chart ≡ charted_by t.site t.places t.to (n + 1) s event chart
+    → (n + 1 ≤ t.to → n + 1 < t.layout.from + 400) → ChartsBy t (Ok charted)
+ends_at_harm t before after s n chart event charted charting e stands tried whole few asked is room =
     let found : Found (Coming packet_rules before s n) event before after =
     planned (Coming packet_rules before s n) event before after e stands in (
       charting.events ++ found.0.event ∷ [],
@@ -243,4 +270,7 @@ ends_at_harm t before after s n chart event charted charting e stands tried whol
         longer charting.events found.0.event ∙ ap (λ m. m + 1) charting.counted ∙ sym asked,
       ),
       is ∙ sym (chart_next t before s n chart charting found.0.event event found.2),
+      λ long. not_long t.layout t.to (n + 1) (next_room t.layout t.to n charting.room room)
+          (subst (λ m. IsTooLong t.layout t.to m)
+          (longer charting.events found.0.event ∙ ap (λ m. m + 1) charting.counted) long),
     )

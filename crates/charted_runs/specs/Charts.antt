@@ -47,12 +47,13 @@ abbrev pub IsWantOfMemory : ChartFault → Type 0
 IsWantOfMemory (fault.NoMemory memory) = Unit {0}
 IsWantOfMemory fault.TooLong = ⊥
 
--- the chart is that of all events that the schedule asks for, and the run is one of `packet_runs`; or the schedule asks
--- for more events than a chart has room for; or memory ran out
+-- the chart is that of all events that the schedule asks for, for which it has room, and the run is one of
+-- `packet_runs`; or the schedule asks for more events than a chart has room for; or memory ran out
 abbrev pub Charts : Site → Places → List Line → Option ProcessorStop → Layout → ℕ → Result Charted ChartFault → Type 0
 Charts site places lines stop layout to (Ok charted) =
     (asked : List Event) × AreAskedFor (course_on site lines stop) asked
     × IsTold site lines stop asked charted.ran × (charted.chart ≡ chart_of site places layout to asked)
+    × (IsTooLong layout to (length asked) → ⊥)
 Charts site places lines stop layout to (Err fault.TooLong) =
     (asked : List Event) × AreAskedFor (course_on site lines stop) asked × IsTooLong layout to (length asked)
 Charts site places lines stop layout to (Err (fault.NoMemory memory)) = Unit {0}

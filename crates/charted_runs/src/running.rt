@@ -1,4 +1,4 @@
-ghost use Rattle.std.specs.Prelude.{◌≡◌, false, IfErr, IfOk, IsTrue};
+ghost use Rattle.std.specs.Prelude.{◌≡◌, ◌≤◌, ◌<◌, ◌+◌, false, IfErr, IfOk, IsTrue};
 ghost use Rattle.chart_marks.specs.Chart.{chart_at_boot};
 ghost use Rattle.charted_runs.specs.Charts.{Charts, IsTooLong, IsWantOfMemory};
 ghost use Rattle.traced_runs.specs.packet_runs.specs.Runs.{course_on, packet_rules};
@@ -18,9 +18,7 @@ use schedule_loop::{Ending, Schedule, ScheduleMachine};
 use std::alloc::Global;
 use tal_tree::Site;
 use trace_lines::Places;
-use traced_runs::Ran;
-use traced_runs::packets::ToldPackets;
-use traced_runs::running::sizes_of;
+use traced_runs::{PlayedPackets, Ran, sizes_of};
 
 /// Plays a schedule on a site, with a stop of a processor where one is given, and makes the chart of its events from
 /// the first one that the layout names to one of a number.
@@ -37,7 +35,7 @@ pub fn chart_run(
     requires can { CanBePlayed packet_rules IsReady (course_on site.now lines.now stop) }
     ensures { Charts site.now places.now lines.now stop layout to result }
 {
-    match ToldPackets::boot(alloc, site) {
+    match PlayedPackets::boot(alloc, site) {
         Ok(packets) => played(alloc, site.get(), places, lines, stop, layout, to, packets),
         Err(memory) => Err(ChartFault::NoMemory(memory)),
     }
@@ -52,7 +50,7 @@ fn played(
     stop: Option<ProcessorStop>,
     layout: Layout,
     to: u32,
-    packets: ToldPackets,
+    packets: PlayedPackets,
 ) -> Result<Charted, ChartFault>
     requires startable { IsStartable site.now }
     requires can { CanBePlayed packet_rules IsReady (course_on site.now lines.now stop) }
@@ -74,7 +72,7 @@ fn drawn(
     stop: Option<ProcessorStop>,
     layout: Layout,
     to: u32,
-    packets: ToldPackets,
+    packets: PlayedPackets,
     chart: Chart,
 ) -> Result<Charted, ChartFault>
     requires startable { IsStartable site.now }
@@ -109,15 +107,16 @@ fn drawn(
     ended(packets, played, chart)
 }
 
-/// Whether the chart has no room for the event of a number, which is drawn.
+/// Whether the event of a number is drawn and the chart has no room for it.
 fn is_too_long(layout: Layout, to: u32, number: u32) -> bool
-    ensures { IsTrue result → IsTooLong layout to number }
+    ensures long { IsTrue result → IsTooLong layout to number }
+    ensures room { result ≡ false → number ≤ to → number < layout.from + 400 }
 {
     number <= to && layout.from <= u64::from(number) && u64::from(number) - layout.from >= 400
 }
 
 /// The end of a run that is over, with its chart.
-fn ended(packets: ToldPackets, played: u32, chart: Chart) -> Result<Charted, ChartFault>
+fn ended(packets: PlayedPackets, played: u32, chart: Chart) -> Result<Charted, ChartFault>
     requires { packets.machine.is_broken ≡ false }
     ensures end { IfOk result (λ charted. IsEndBy packet_rules packets.machine.state played
         (is_idle packets.machine.state) charted.ran.machine.state charted.ran.asked charted.ran.ending) }

@@ -1,5 +1,5 @@
 -- A copy that acts goes on from the newest checkpoint, deed by deed.
-use Rattle.std.proofs.Common.{◌≡◌, ℕ, false, List, [], ◌∷◌, map, is_some, Option, Some, None, refl, sym, ap}
+use Rattle.std.proofs.Common.{◌≡◌, inl, inr, ℕ, false, List, [], ◌∷◌, map, is_some, Option, Some, None, refl, sym, ap}
 use Rattle.std.proofs.Common.{◌∙◌, option_map}
 use Rattle.std.proofs.lemmas.Option.{slice_get-map}
 use Rattle.tal_tree.specs.declared.site.OpenerSpec.{OpenerSpec}
@@ -33,8 +33,10 @@ deed-comes openers core next deed (answers {place = place} {words = words} opene
     ∙ ap (option_map (λ (one : OpenerSpec). one.depth)) of)
 deed-comes openers core next deed (acts at call) stands base came = came
 
-pub goes-on : (depths : List ℕ) (sent : List ImageMessage) (number : ℕ) (table next : ReceiveBlock)
+pub goes-on : (depths : List ℕ) (sent : List ImageMessage) (era number : ℕ) (table next : ReceiveBlock)
     → ((base : ReceiveBlock) → ComesTo depths base table → ComesTo depths base next)
-    → GoesOnFrom depths sent number table → GoesOnFrom depths sent number next
-goes-on depths [] number table next more is = is
-goes-on depths (message ∷ older) number table next more (same, came) = (same, more message.image.receive came)
+    → GoesOnFrom depths sent era number table → GoesOnFrom depths sent era number next
+goes-on depths [] era number table next more is = is
+goes-on depths (message ∷ older) era number table next more (inl on) =
+    inl (on.0, on.1, more message.image.receive on.2)
+goes-on depths (message ∷ older) era number table next more (inr on) = inr on

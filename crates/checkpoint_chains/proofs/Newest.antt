@@ -13,10 +13,12 @@ use Rattle.world_semantics.specs.Core.{Core, Deed}
 use Rattle.world_semantics.specs.Messages.{Asking, Cause, Checkpointing, Message, Replying, Sending, Taking, sent_at}
 use Rattle.world_semantics.specs.Own.{Around, Causes, asked_on, by_answer, by_ask, by_device, by_inner, by_reply}
 use Rattle.world_semantics.specs.Own.{by_take, by_write}
-use Rattle.world_semantics.specs.Passes.{Passes, by_acknowledge, by_apply, by_pass, by_pass_again, by_send}
+use Rattle.world_semantics.specs.Passes.{Passes, by_acknowledge, by_apply, by_apply_behind, by_end, by_pass}
+use Rattle.world_semantics.specs.Passes.{by_pass_again, by_send}
 use Rattle.world_semantics.specs.Passes.{checkpoint_of, taken_of}
 use Rattle.world_semantics.specs.Rules.{Change, by_checkpoint, by_early_request, by_enter, by_mark, by_own, by_print}
-use Rattle.world_semantics.specs.Rules.{by_request, by_stop, entered_request, takeover_sendings, taker, told_at_down}
+use Rattle.world_semantics.specs.Rules.{by_reload, by_request, by_stop, entered_request, takeover_sendings, taker}
+use Rattle.world_semantics.specs.Rules.{told_at_down}
 use Rattle.world_semantics.specs.World.{Down, Pair, World, copy_of, terminal_node}
 use Rattle.world_semantics.proofs.Lists.{set-there}
 use Rattle.world_semantics.proofs.Members.{among-flat_map, among-map}
@@ -85,9 +87,16 @@ passes-new {number = number} {pair = pair} w there (by_send Second acting at uns
     (record { pair = _; older = pair.checkpoints; there = there; first = refl }) sending among
 passes-new w there (by_pass_again k acting at may less) sending among = absurd among
 passes-new w there (by_pass k acting at may most) sending among = absurd among
-passes-new {pair = pair} w there (by_apply First message applied watching known era next put) sending among =
+passes-new w there (by_end k acting sent at may) sending among = absurd among
+passes-new {pair = pair} w there (by_apply_behind First message applied watching known era next put less) sending
+    among =
     taken-new w pair.first.processor message sending among
-passes-new {pair = pair} w there (by_apply Second message applied watching known era next put) sending among =
+passes-new {pair = pair} w there (by_apply_behind Second message applied watching known era next put less) sending
+    among =
+    taken-new w pair.second.processor message sending among
+passes-new {pair = pair} w there (by_apply First message applied watching known era next put most) sending among =
+    taken-new w pair.first.processor message sending among
+passes-new {pair = pair} w there (by_apply Second message applied watching known era next put most) sending among =
     taken-new w pair.second.processor message sending among
 passes-new w there (by_acknowledge k taken acting sent known era same) sending among = absurd among
 
@@ -107,8 +116,8 @@ entered-new w request sending (inr among) = absurd among
 pub change-new : {site : Site} (w next : World) (cause : Cause) (sendings : List Sending)
     → Change site w cause sendings next → (sending : Sending) → IsAmong sending sendings
     → IsNewestIfOne next sending.message
-change-new w next cause sendings (by_own {messages = messages} number k pair there acting causes advances enters)
-    sending among =
+change-new w next cause sendings (by_own {messages = messages} number k pair there acting causes advances enters
+    fr) sending among =
     from-node next (copy_of k pair).processor messages (own-new next causes) sending among
 change-new w next cause sendings (by_checkpoint number pair there passes) sending among =
     passes-new next (set-there w.processes number pair _ there) passes sending among
@@ -119,7 +128,8 @@ change-new w next cause sendings (by_early_request request k pair sent there wat
 change-new w next cause sendings (by_enter {words = words} number terminal opener there even is opens) sending among =
     entered-new next (entered_request opener terminal words) sending among
 change-new w next cause sendings (by_print number terminal reply there odd sent opens is) sending among = absurd among
-change-new w next cause sendings (by_stop processor alive) sending among = absurd among
+change-new w next cause sendings (by_stop processor alive whole) sending among = absurd among
 change-new w next cause sendings (by_mark node processor down alive unmarked) sending among =
     let of = among-flat_map (told_at_down node processor) w.processes sending among in
     told-new next of.item (taker node processor of.item) sending of.within
+change-new w next cause sendings (by_reload processor down all times few) sending among = absurd among

@@ -15,13 +15,13 @@ use Rattle.sync_ids.specs.Changes.{fits_change}
 use Rattle.sync_ids.specs.Tables as tables
 use Rattle.sync_ids.proofs.Tables.{and-right}
 use Rattle.world_semantics.specs.declared.role.Role.{Role}
-use Rattle.world_semantics.specs.declared.role.Role.TheVariants.{Acting, Gone, Watching}
+use Rattle.world_semantics.specs.declared.role.Role.TheVariants.{Acting, Blank, Gone, Watching}
 use Rattle.world_semantics.specs.declared.which.Which.{Which}
 use Rattle.world_semantics.specs.declared.which.Which.TheVariants.{First, Second}
 use Rattle.world_semantics.specs.Messages.{Checkpointing}
 use Rattle.world_semantics.specs.Records.{Records, records_of}
 use Rattle.world_semantics.specs.Running.{Stepped, in_world}
-use Rattle.world_semantics.specs.World.{Copy, Down, Pair, copy_of}
+use Rattle.world_semantics.specs.World.{Copy, Down, Pair, copy_of, receives}
 use Rattle.world_semantics.proofs.Lists.{some-same}
 use Rattle.world_semantics.proofs.Roles.{both-true}
 use Rattle.computed_changes.specs.Changed.{change_brought_to, change_done, change_step}
@@ -48,10 +48,11 @@ Fits depths table = tables.fits (record { table = table; depths = depths }) tabl
 module _ (site : Site) (number : ℕ) (pair : Pair) (records : Records) (before message : ImageMessage)
     (chain : IsChain (depths_of site number) pair.checkpoints)
     (was : IsAmong before pair.checkpoints) (is : IsAmong message pair.checkpoints)
-    (next : message.number ≡ before.number + 1) (fit : Fits (depths_of site number) before.image.receive)
+    (of : message.era ≡ before.era) (next : message.number ≡ before.number + 1)
+    (fit : Fits (depths_of site number) before.image.receive)
     (fits_too : Fits (depths_of site number) message.image.receive) (k : Which)
     (stands : (noted : Bool) × StandsTo (depths_of site number) pair.checkpoints noted (copy_of k pair).role
-    (copy_of k pair).number (copy_of k pair).core.receive) where
+    (copy_of k pair).era (copy_of k pair).number (copy_of k pair).core.receive) where
   abbrev copy : Copy
   copy = copy_of k pair
 
@@ -61,28 +62,30 @@ module _ (site : Site) (number : ℕ) (pair : Pair) (records : Records) (before 
   abbrev step : ImageMessage → Role → Option Stepped
   step one role = checkpoint_step site number k pair records one role
 
-  -- a copy that watches for it has the table of the one before
-  table-is : copy.role ≡ Watching → message.number ≡ copy.number + 1 → copy.core.receive ≡ before.image.receive
-  table-is watching count = by (stands.1.watches watching)
+  -- a copy that gets it next has the table of the one before
+  table-is : receives copy.role ≡ true → message.era ≡ copy.era → message.number ≡ copy.number + 1
+      → copy.core.receive ≡ before.image.receive
+  table-is gets era count = by (stands.1.watches gets)
     where
       low : before.number ≡ copy.number
       low = omega (arith, next, count)
 
-      by : (copy.number ≡ 0) ⊎ IsOfOne pair.checkpoints copy.number copy.core.receive
+      by : (copy.number ≡ 0) ⊎ IsOfOne pair.checkpoints copy.era copy.number copy.core.receive
           → copy.core.receive ≡ before.image.receive
       by (inl none) =
           let some = some-number depths pair.checkpoints chain before was in absurd (omega (arith, some, none, low))
       by (inr one) =
-          let same = one-of-number depths pair.checkpoints chain one.0 before one.1 was (one.2 ∙ sym low) in
-          sym one.3 ∙ ap (λ (m : ImageMessage). m.image.receive) same
+          let same = one-of-number depths pair.checkpoints chain one.0 before one.1 was (one.2 ∙ sym era ∙ of)
+          (one.3 ∙ sym low) in
+          sym one.4 ∙ ap (λ (m : ImageMessage). m.image.receive) same
 
   -- there it is made whole
-  made : copy.role ≡ Watching → message.number ≡ copy.number + 1
+  made : receives copy.role ≡ true → message.era ≡ copy.era → message.number ≡ copy.number + 1
       → made_whole depths copy.core.receive (change_of before message) ≡ Some message
-  made watching count =
-      ap (λ (table : ReceiveBlock). made_whole depths table (change_of before message)) (table-is watching count)
+  made gets era count =
+      ap (λ (table : ReceiveBlock). made_whole depths table (change_of before message)) (table-is gets era count)
       ∙ makes-whole depths before message fit
-      (next-comes depths pair.checkpoints chain before message was is next) fits_too
+      (next-comes depths pair.checkpoints chain before message was is of next) fits_too
 
   -- where nothing comes of any checkpoint of its era and number, nothing comes of it in either form
   none-either : ((one : ImageMessage) → one.era ≡ message.era → one.number ≡ message.number
@@ -101,14 +104,23 @@ module _ (site : Site) (number : ℕ) (pair : Pair) (records : Records) (before 
       → change_step site number pair records (change_of before message) k ≡ step message copy.role
   unlike role same none = none-either (λ one era count. ap (step one) same ∙ none one)
 
-  watched : copy.role ≡ Watching → (b : Bool) → is_next_for copy.era copy.number message ≡ b
+  -- a copy that watches or is blank does the same with one
+  gets-step : (role : Role) → receives role ≡ true → (one : ImageMessage)
+      → step one role ≡ option_map (applied_step number k pair records one)
+      (core_where depths copy.core one (is_next_for copy.era copy.number one))
+  gets-step Watching gets one = refl
+  gets-step Blank gets one = refl
+  gets-step Acting gets one = absurd (cc)
+  gets-step Gone gets one = absurd (cc)
+
+  got : receives copy.role ≡ true → (b : Bool) → is_next_for copy.era copy.number message ≡ b
       → change_step site number pair records (change_of before message) k ≡ step message copy.role
-  watched watching true is_next =
+  got gets true is_next =
       let both = both-true (message.era == copy.era) (message.number == copy.number + 1) is_next in
       ap (option_and_then (λ one. step one copy.role))
-      (made watching (eqb-true message.number (copy.number + 1) both.1))
-  watched watching false not_next = none-either (λ one era count.
-      ap (step one) watching
+      (made gets (eqb-true message.era copy.era both.0) (eqb-true message.number (copy.number + 1) both.1))
+  got gets false not_next = none-either (λ one era count.
+      gets-step copy.role gets one
       ∙ ap (λ (b : Bool). option_map (applied_step number k pair records one) (core_where depths copy.core one b))
       (ap₂ (λ (e n : ℕ). e == copy.era && n == copy.number + 1) era count ∙ not_next))
 
@@ -119,13 +131,14 @@ module _ (site : Site) (number : ℕ) (pair : Pair) (records : Records) (before 
           → change_step site number pair records (change_of before message) k ≡ step message copy.role
       by Acting same = unlike Acting same (λ one. refl)
       by Gone same = unlike Gone same (λ one. refl)
-      by Watching same = watched same (is_next_for copy.era copy.number message) refl
+      by Watching same = got (ap receives same) (is_next_for copy.era copy.number message) refl
+      by Blank same = got (ap receives same) (is_next_for copy.era copy.number message) refl
 
 -- At a node
 
 copies-stand : (each : List ℕ) (marks : List Down) (pair : Pair) → IsChained each marks pair → (k : Which)
-    → (noted : Bool) × StandsTo each pair.checkpoints noted (copy_of k pair).role (copy_of k pair).number
-    (copy_of k pair).core.receive
+    → (noted : Bool) × StandsTo each pair.checkpoints noted (copy_of k pair).role (copy_of k pair).era
+    (copy_of k pair).number (copy_of k pair).core.receive
 copies-stand each marks pair chained First = (_, chained.1.0)
 copies-stand each marks pair chained Second = (_, chained.1.1)
 
@@ -161,7 +174,7 @@ comes-whole site fit events post few played before message node (old, at_old, ol
     was = subst (λ (p : Pair). IsAmong before p.checkpoints) (some-same (sym at_old ∙ here)) old_among
 
     chained : IsChained (depths_of site message.process) post.world.marks pair
-    chained = run-chained site events post.world (played-run played) message.process pair there
+    chained = run-chained site fit.seats events post.world (played-run played) message.process pair there
 
     fits_before : Fits (depths_of site message.process) before.image.receive
     fits_before =
@@ -173,6 +186,7 @@ comes-whole site fit events post few played before message node (old, at_old, ol
         ≡ option_and_then (step_by site message.process pair (records_of post.world) (Checkpointing message)) k
     by_copy None = refl
     by_copy (Some k) =
-        step-same site message.process pair (records_of post.world) before message chained.0 was among next.number
+        step-same site message.process pair (records_of post.world) before message chained.0 was among next.era
+        next.number
         fits_before (sent-table site fit events post few played message pair there among) k
         (copies-stand (depths_of site message.process) post.world.marks pair chained k)

@@ -12,16 +12,19 @@ ghost use Rattle.computed_changes.specs.Laws.{IsSent};
 ghost use Rattle.letter_laws.specs.takeover_laws.specs.Fit.{IsFit};
 ghost use Rattle.letters.specs.Posts.{HasPlayed, Post};
 ghost use Rattle.world_semantics.specs.Follows.{IsRun};
+ghost use Rattle.world_semantics.specs.Laws.{IsPlaced};
 ghost use Rattle.world_semantics.specs.Messages.{Cause, Checkpointing, Sending};
 ghost use Rattle.world_semantics.specs.Rules.{Change};
 ghost use Rattle.world_semantics.specs.World.{Pair, World};
 ghost use Rattle.checkpoint_chains.specs.Chains.{IsChain, IsNewest, IsNextTo};
 
-/// In a run the checkpoints that the copies of a process ever sent are numbered one by one, from 1, and each comes of
-/// the one before it by taking and answering.
+/// In a run of a site whose processes are each in two of its processors, the checkpoints that the copies of a process
+/// ever sent are numbered one by one in each era, from 1, and each comes of the one before it in its era by taking and
+/// answering. No era comes after a later one.
 pub fn checkpoints_are_a_chain()
-    ensures { (site : Site) (events : List Event) (w : World) (number : ℕ) (pair : Pair) → IsRun site events w
-        → slice_get w.processes number ≡ Some pair → IsChain (depths_of site number) pair.checkpoints }
+    ensures { (site : Site) (events : List Event) (w : World) (number : ℕ) (pair : Pair) → IsPlaced site
+        → IsRun site events w → slice_get w.processes number ≡ Some pair
+        → IsChain (depths_of site number) pair.checkpoints }
 {}
 
 /// A checkpoint that a change sends is the last one that its process has sent then.
@@ -31,9 +34,9 @@ pub fn a_checkpoint_is_sent_as_the_newest()
         → sending.message ≡ Checkpointing message → IsNewest next message }
 {}
 
-/// A checkpoint that comes as what changed since the one of the number before it does what it does when it comes whole,
-/// wherever and however often it comes: at a copy that watches for it, that has the table of the one before, it is made
-/// whole; anywhere else both change nothing.
+/// A checkpoint that comes as what changed since the one of the number before it in its era does what it does when it
+/// comes whole, wherever and however often it comes: at a copy that watches for it, that has the table of the one
+/// before, it is made whole; anywhere else both change nothing.
 pub fn a_change_does_what_its_checkpoint_does()
     ensures { (site : Site) (events : List Event) (post : Post) (before message : ImageMessage) (node : ℕ) → IsFit site
         → length events < 4294967296 → HasPlayed site events post → IsSent post.world (Checkpointing before)

@@ -11,6 +11,7 @@ ghost use Rattle.whole_states.specs.process_semantics.specs.Process.{asked_words
 ghost use Rattle.whole_states.specs.process_semantics.specs.Process.{after_answered};
 ghost use Rattle.whole_states.specs.process_semantics.specs.Process.{after_checkpoint, call_of, after_device};
 ghost use Rattle.whole_states.specs.Listing.{MayList};
+ghost use Rattle.process_images.specs.Images.{all_files_of, everything_of};
 ghost use Rattle.checkpoint_image.specs.Behaving.{last_write_of};
 
 use std::alloc::Global;
@@ -82,6 +83,11 @@ pub trait Behaviour: Drop {
         requires { point (state self.now) ≡ AtCheckpoint }
         ensures items { result.now.items ≡ listed_items (state self.now) }
         ensures files { result.now.files ≡ listed_files (state self.now) };
+
+    /// All that it may name: each item that has words, and each file that is opened to a process.
+    fn everything(&self) -> &Listed
+        ensures items { result.now.items ≡ everything_of (state self.now) }
+        ensures files { result.now.files ≡ all_files_of (state self.now) };
 
     /// Goes on after a checkpoint.
     fn marked(&mut self)

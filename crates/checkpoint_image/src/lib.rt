@@ -3,10 +3,11 @@
 //! the words in which it goes.
 //!
 //! Below stand `gd_words` with requests and replies, `process_semantics` with the states of processes, their steps and
-//! images, and `whole_states`, which says what may be listed. The layers above use the types; of `Behaviour`, that each
-//! call is the step of its definition; of `specs/Receive.antt` how a request that comes stands to a receive table, what
-//! taking and answering change in one, and which requests wait; and that a checkpoint has its words and words at most
-//! one checkpoint (`to_words`, `from_words`). A layout with the same parts puts and reads these by `putting` and `reading`.
+//! images, `whole_states`, which says what may be listed, and `process_images` with all that may. The layers above use
+//! the types; of `Behaviour`, that each call is the step of its definition; of `specs/Receive.antt` how a request that
+//! comes stands to a receive table, what taking and answering change in one, and which requests wait; and that a
+//! checkpoint has its words and words at most one checkpoint (`to_words`, `from_words`). A layout with the same parts
+//! puts and reads these by `putting` and `reading`.
 #![tactic(auto)]
 
 pub mod behaviour;

@@ -37,3 +37,11 @@ fn words_that_are_no_image_change_nothing(rt: HostRuntime) -> Result<(), Fail> {
     assert!(rt; !other.in_hand());
     Ok(())
 }
+
+#[test]
+fn a_disc_names_nothing(rt: HostRuntime) -> Result<(), Fail> {
+    let disc = DiscProcess::new(rt.alloc(), 2);
+    assert!(rt; disc.everything().items.is_empty());
+    assert!(rt; disc.everything().files.is_empty());
+    Ok(())
+}

@@ -87,7 +87,8 @@ advised None false None = tt
 by_mode : (runs checks loads sweeps verifies advises : Bool) (number : Option Text) (acts : Bool) (fail : Option Text)
     → IfSome (if runs then run_as number acts fail else if checks then check_as number acts fail
     else if loads then load_as number acts fail else if sweeps then sweep_as number acts fail
-    else if verifies then verify_as number acts fail else if advises then advise_as number acts fail else None) IsInRange
+    else if verifies then verify_as number acts fail
+    else if advises then advise_as number acts fail else None) IsInRange
 by_mode true checks loads sweeps verifies advises number acts fail = run number acts fail
 by_mode false true loads sweeps verifies advises number acts fail = check number acts fail
 by_mode false false true sweeps verifies advises number acts fail = loaded number acts fail

@@ -5,9 +5,11 @@ use Rattle.tal_tree.specs.declared.site.Site.{Site}
 use Rattle.world_semantics.specs.Core.{Core, Deed}
 use Rattle.world_semantics.specs.World.{Pair, Down}
 use Rattle.world_semantics.specs.Messages.{Message, Sending, Cause, Running, Entering, Handing, Stopping, NotingDown}
+use Rattle.world_semantics.specs.Messages.{Reloading}
 use Rattle.world_semantics.specs.Own.{Around, Causes, by_inner, by_take, by_ask, by_answer, by_device, by_write}
 use Rattle.world_semantics.specs.Own.{by_reply}
-use Rattle.world_semantics.specs.Passes.{Passes, by_send, by_pass_again, by_pass, by_apply, by_acknowledge}
+use Rattle.world_semantics.specs.Passes.{Passes, by_send, by_pass_again, by_pass, by_end, by_apply_behind}
+use Rattle.world_semantics.specs.Passes.{by_apply, by_acknowledge}
 
 abbrev pub IsOfCopies : Cause → Type 0
 IsOfCopies (Running number) = Unit {0}
@@ -15,6 +17,7 @@ IsOfCopies (Handing node message) = Unit {0}
 IsOfCopies (Entering terminal) = ⊥
 IsOfCopies (Stopping processor) = ⊥
 IsOfCopies (NotingDown node processor) = ⊥
+IsOfCopies (Reloading processor) = ⊥
 
 pub own-causes : {site : Site} {number node : ℕ} {core : Core} {before after : Around} {cause : Cause} {deed : Deed}
     {done : Act} {messages : List Message}
@@ -33,5 +36,7 @@ pub passes-causes : {number : ℕ} {marks : List Down} {kept after : List Act} {
 passes-causes (by_send k r p s m) = tt
 passes-causes (by_pass_again k r p m l) = tt
 passes-causes (by_pass k r p m l) = tt
-passes-causes (by_apply k message applied r i e n a) = tt
+passes-causes (by_end k r s p m) = tt
+passes-causes (by_apply_behind k message applied r i e n a l) = tt
+passes-causes (by_apply k message applied r i e n a l) = tt
 passes-causes (by_acknowledge k taken r s i e n) = tt

@@ -9,7 +9,7 @@ use Rattle.world_semantics.specs.plain_semantics.specs.Machine.{next_request}
 use Rattle.world_semantics.specs.World.{Terminal, World}
 use Rattle.world_semantics.specs.Messages.{Sending, Cause, Entering}
 use Rattle.world_semantics.specs.Rules.{Change, by_own, by_checkpoint, by_request, by_early_request, by_enter, by_print}
-use Rattle.world_semantics.specs.Rules.{by_stop, by_mark}
+use Rattle.world_semantics.specs.Rules.{by_stop, by_mark, by_reload}
 use Rattle.world_semantics.specs.Running.{Done}
 use Rattle.world_semantics.proofs.Lists.{some-same}
 use Rattle.computed_changes.specs.Entered.{enter_to, enter_where, enter_at, enter_done}
@@ -52,7 +52,7 @@ same-terminal e = cc
 change-only : {site : Site} (number : ℕ) (w next : World) (cause : Cause) (sendings : List Sending)
     → cause ≡ Entering number → Change site w cause sendings next
     → enter_done site number w ≡ Some (record { world = next; sendings = sendings })
-change-only number w next cause sendings r (by_own one k pair there role c a e) =
+change-only number w next cause sendings r (by_own one k pair there role c a e fr) =
     absurd (subst IsOfCopies r (own-causes c))
 change-only number w next cause sendings r (by_checkpoint one pair there p) =
     absurd (subst IsOfCopies r (passes-causes p))
@@ -62,8 +62,9 @@ change-only {site = site} number w next cause sendings r (by_enter one terminal 
     subst (λ m. enter_done site m w ≡ Some (record { world = next; sendings = sendings })) (same-terminal r)
     (rw (there, eq-eqb _ _ free, n, o) refl)
 change-only number w next cause sendings r (by_print one terminal reply t e i o n) = absurd (cc)
-change-only number w next cause sendings r (by_stop x s) = absurd (cc)
+change-only number w next cause sendings r (by_stop x s h) = absurd (cc)
 change-only number w next cause sendings r (by_mark node x s run n) = absurd (cc)
+change-only number w next cause sendings r (by_reload x s m t l) = absurd (cc)
 
 pub enter-only : {site : Site} (number : ℕ) (w next : World) (sendings : List Sending)
     → Change site w (Entering number) sendings next

@@ -21,7 +21,7 @@ use Rattle.world_semantics.specs.declared.which.Which.{Which}
 use Rattle.world_semantics.specs.declared.which.Which.TheVariants.{First, Second}
 use Rattle.world_semantics.specs.World.{Copy, Pair, World, copy_of, pair_at_boot, pairs_at_boot}
 use Rattle.world_semantics.specs.Messages.{Sending, Cause}
-use Rattle.world_semantics.specs.Rules.{Change}
+use Rattle.world_semantics.specs.Rules.{Change, begun}
 use Rattle.world_semantics.specs.Follows.{IsRun}
 use Rattle.world_semantics.proofs.Hands.{map-some}
 use Rattle.world_semantics.proofs.Lists.{some-same}
@@ -52,21 +52,34 @@ put-length core applied image e =
     (restored core.state (is_some image.receive.in_hand) image.body) applied
     (λ s r. with-length image.files core.next) e
 
+begun-length : (site : Site) (number : ℕ) (spec : ProcessSpec) (core : Core)
+    → slice_get site.processes number ≡ Some spec
+    → length (begun site number (slice_get site.processes number) core).next ≡ length (files_of spec.what)
+begun-length site number spec core named = rw named (length-map (files_of spec.what) (λ (file : FileUse). 1))
+
 becomes-length : {site : Site} {w : World} {number : ℕ} {pair : Pair} {sent : List ImageMessage} {k : Which}
     {cause : Cause} {after : Copy}
-    → Becomes site w number pair sent k cause after → length after.core.next ≡ length (copy_of k pair).core.next
-becomes-length becoming.stays = refl
-becomes-length (becoming.acts r c a e) = advances-length a
-becomes-length (becoming.sends r p i) = refl
-becomes-length (becoming.passes r) = refl
-becomes-length {pair = pair} {k = k} (becoming.applies {applied = applied} message r i e n a) =
-    put-length (copy_of k pair).core applied message.image a
-becomes-length (becoming.is_told taken r s i e n) = refl
-becomes-length becoming.is_freed = refl
-becomes-length (becoming.hears request r) = refl
-becomes-length (becoming.hears_early request r) = refl
-becomes-length (becoming.stops processor) = refl
-becomes-length (becoming.takes_over node processor t) = refl
+    → Becomes site w number pair sent k cause after → (spec : ProcessSpec)
+    → slice_get site.processes number ≡ Some spec
+    → length (copy_of k pair).core.next ≡ length (files_of spec.what)
+    → length after.core.next ≡ length (files_of spec.what)
+becomes-length becoming.stays spec named ok = ok
+becomes-length (becoming.acts r c a e fr) spec named ok = advances-length a ∙ ok
+becomes-length (becoming.sends r p i) spec named ok = ok
+becomes-length (becoming.passes r) spec named ok = ok
+becomes-length (becoming.ends r) spec named ok = ok
+becomes-length {pair = pair} {k = k} (becoming.applies {applied = applied} message r i e n a) spec named ok =
+    put-length (copy_of k pair).core applied message.image a ∙ ok
+becomes-length (becoming.is_told taken r s i e n) spec named ok = ok
+becomes-length becoming.is_freed spec named ok = ok
+becomes-length becoming.needs_less spec named ok = ok
+becomes-length (becoming.hears request r) spec named ok = ok
+becomes-length (becoming.hears_early request r) spec named ok = ok
+becomes-length (becoming.stops processor) spec named ok = ok
+becomes-length (becoming.takes_over node processor t) spec named ok = ok
+becomes-length {site = site} {number = number} {pair = pair} (becoming.is_blank processor here was) spec named ok =
+    begun-length site number spec pair.first.core named
+becomes-length (becoming.renews processor there) spec named ok = ok
 
 abbrev AllNumbered : Site → World → Type 0
 AllNumbered site w =
@@ -79,7 +92,7 @@ change-numbered : {site : Site} (w next : World) (cause : Cause) (sendings : Lis
     → AllNumbered site next
 change-numbered w next cause sendings c ok number after spec k now named =
     let was = change-was w next cause sendings c number after now in
-    becomes-length (was.copies k) ∙ ok number was.before spec k was.there named
+    becomes-length (was.copies k) spec named (ok number was.before spec k was.there named)
 
 begin-numbered : (site : Site) (from : ℕ) (specs : List ProcessSpec) (number : ℕ) (pair : Pair) (spec : ProcessSpec)
     (k : Which)

@@ -1,5 +1,6 @@
 -- The receive tables of all copies in a run, and those that sent checkpoints carry, fit their process.
 use Rattle.std.proofs.Common.{◌≡◌, inl, inr, ℕ, zero, suc, ◌+◌, ◌<◌, ◌&&◌, ℤ, true, List, [], ◌∷◌, ◌++◌, map, length}
+use Rattle.std.proofs.Common.{Option, None}
 use Rattle.std.proofs.Common.{Some, is_some, option_map, slice_get, refl, sym, ap, subst, ◌∙◌, arith}
 use Rattle.std.specs.Prelude.{nat_le}
 use Rattle.std.specs.Cmp.Derive.{both_true}
@@ -27,7 +28,7 @@ use Rattle.world_semantics.specs.declared.which.Which.TheVariants.{First, Second
 use Rattle.world_semantics.specs.World.{Copy, Pair, World, copy_of, pair_at_boot, pairs_at_boot}
 use Rattle.world_semantics.specs.Messages.{Sending, Cause}
 use Rattle.world_semantics.specs.Passes.{checkpoint_of}
-use Rattle.world_semantics.specs.Rules.{Change}
+use Rattle.world_semantics.specs.Rules.{Change, begun}
 use Rattle.world_semantics.specs.Follows.{IsRun}
 use Rattle.world_semantics.proofs.Hands.{map-some}
 use Rattle.world_semantics.proofs.Lists.{some-same, set-there}
@@ -122,24 +123,35 @@ record AreFitting (depths : List ℕ) (pair : Pair) : Type 0 where
   pub copies : (k : Which) → Fits depths (copy_of k pair).core.receive
   pub sent : (message : ImageMessage) → IsAmong message pair.checkpoints → Fits depths message.image.receive
 
+-- the table of a process at its beginning
+begun-fits : (site : Site) (number : ℕ) (spec : Option ProcessSpec) (core : Core)
+    → Fits (depths_of site number) core.receive → Fits (depths_of site number) (begun site number spec core).receive
+begun-fits site number None core ok = ok
+begun-fits site number (Some spec) core ok = both_true (begin-of (openers_of site number)) refl
+
 becomes-fits : {site : Site} {w : World} {number : ℕ} {pair : Pair} {sent : List ImageMessage} {k : Which}
     {cause : Cause} {after : Copy}
     → Becomes site w number pair sent k cause after → AreFitting (depths_of site number) pair
     → Fits (depths_of site number) after.core.receive
 becomes-fits {k = k} becoming.stays ok = ok.copies k
-becomes-fits {k = k} (becoming.acts r c a e) ok = advances-fits a (ok.copies k)
+becomes-fits {k = k} (becoming.acts r c a e fr) ok = advances-fits a (ok.copies k)
 becomes-fits {k = k} (becoming.sends r p i) ok = ok.copies k
 becomes-fits {k = k} (becoming.passes r) ok = ok.copies k
+becomes-fits {k = k} (becoming.ends r) ok = ok.copies k
 becomes-fits {site = site} {number = number} {pair = pair} {k = k}
     (becoming.applies {applied = applied} message r i e n a) ok =
     subst (Fits (depths_of site number)) (sym (put-receive (copy_of k pair).core applied message.image a))
     (ok.sent message i)
 becomes-fits {k = k} (becoming.is_told taken r s i e n) ok = ok.copies k
 becomes-fits {k = k} becoming.is_freed ok = ok.copies k
+becomes-fits {k = k} becoming.needs_less ok = ok.copies k
 becomes-fits {k = k} (becoming.hears request r) ok = ok.copies k
 becomes-fits {k = k} (becoming.hears_early request r) ok = ok.copies k
 becomes-fits {k = k} (becoming.stops processor) ok = ok.copies k
 becomes-fits {k = k} (becoming.takes_over node processor t) ok = ok.copies k
+becomes-fits {site = site} {number = number} {pair = pair} (becoming.is_blank processor here was) ok =
+    begun-fits site number (slice_get site.processes number) pair.first.core (ok.copies First)
+becomes-fits {k = k} (becoming.renews processor there) ok = ok.copies k
 
 says-fits : {number : ℕ} (depths : List ℕ) (before after : Pair) → Says number before after → AreFitting depths before
     → (message : ImageMessage)

@@ -1,28 +1,28 @@
 -- A checkpoint that comes as what changed does nothing at a copy that doesn't wait for it, or whose table it doesn't
 -- fit; so it does nothing if it comes twice.
 use Rattle.std.proofs.Common.{◌≡◌, ℕ, ◌+◌, ◌==◌, ◌&&◌, Bool, true, false, Option, Some, None, slice_get, refl, sym, ap}
-use Rattle.std.proofs.Common.{◌∙◌, List, arith}
+use Rattle.std.proofs.Common.{◌∙◌, List, arith, nat_lt}
 use Rattle.std.specs.Option.{option_and_then, option_map}
 use Rattle.std.proofs.lemmas.Bool.{ne_eqb}
-use Rattle.tal_tree.specs.declared.act.Act.{Act}
 use Rattle.tal_tree.specs.declared.site.Site.{Site}
 use Rattle.change_layout.specs.Changing.{whole_of, whole_where}
 use Rattle.change_layout.specs.declared.message.ChangeMessage.{ChangeMessage}
 use Rattle.change_layout.specs.sync_ids.specs.Changes.{fits_change}
 use Rattle.world_semantics.specs.checkpoint_image.specs.declared.message.ImageMessage.{ImageMessage}
 use Rattle.world_semantics.specs.declared.role.Role.{Role}
-use Rattle.world_semantics.specs.declared.role.Role.TheVariants.{Acting, Gone, Watching}
+use Rattle.world_semantics.specs.declared.role.Role.TheVariants.{Acting, Blank, Gone, Watching}
 use Rattle.world_semantics.specs.declared.which.Which.{Which}
 use Rattle.world_semantics.specs.declared.which.Which.TheVariants.{First, Second}
 use Rattle.world_semantics.specs.Core.{Core}
-use Rattle.world_semantics.specs.Passes.{after_applying}
+use Rattle.world_semantics.specs.Kept.{own_acts}
 use Rattle.world_semantics.specs.Records.{records_of}
 use Rattle.world_semantics.specs.Running.{Done, Stepped, in_world}
-use Rattle.world_semantics.specs.World.{Copy, Pair, World, copy_of}
+use Rattle.world_semantics.specs.World.{Copy, Pair, World, copy_of, other_of}
 use Rattle.world_semantics.proofs.Hands.{map-some}
 use Rattle.world_semantics.proofs.Lists.{set-there}
 use Rattle.computed_changes.specs.Changed.{change_brought_to, change_done, change_step, change_step_on}
-use Rattle.computed_changes.specs.Checkpoints.{applied_step, checkpoint_step, core_where, is_next_for}
+use Rattle.computed_changes.specs.Checkpoints.{applied_step, applied_step_where, checkpoint_step, core_where}
+use Rattle.computed_changes.specs.Checkpoints.{is_next_for}
 use Rattle.computed_changes.specs.Fitting.{depths_of}
 use Rattle.computed_changes.specs.Handed.{copy_in}
 use Rattle.computed_changes.specs.Laws.{IsCopyAt}
@@ -71,6 +71,9 @@ module _ (site : Site) (w : World) (node : ℕ) (change : ChangeMessage) (k : Wh
   not-next one off Watching =
       ap (λ (b : Bool). option_map (applied_step change.process k pair (records_of w) one)
       (core_where depths copy.core one b)) off
+  not-next one off Blank =
+      ap (λ (b : Bool). option_map (applied_step change.process k pair (records_of w) one)
+      (core_where depths copy.core one b)) off
 
   pub era-late : (change.era ≡ copy.era → ⊥) → change_done site node change w ≡ None
   era-late other = nothing (λ one era number. not-next one
@@ -86,13 +89,11 @@ module _ (site : Site) (w : World) (node : ℕ) (change : ChangeMessage) (k : Wh
       (and-false (one.era == copy.era) (one.number == copy.number + 1)
       (ne_eqb one.number (copy.number + 1) (λ same. other (sym number ∙ same)))) copy.role)
 
-  pub role-late : (copy.role ≡ Watching → ⊥) → change_done site node change w ≡ None
-  role-late other = nothing (λ one era number. by one copy.role other)
-    where
-      by : (one : ImageMessage) (role : Role) → (role ≡ Watching → ⊥) → step one role ≡ None
-      by one Acting apart = refl
-      by one Gone apart = refl
-      by one Watching apart = absurd (apart refl)
+  pub acting-late : copy.role ≡ Acting → change_done site node change w ≡ None
+  acting-late acts = nothing (λ one era number. ap (step one) acts)
+
+  pub gone-late : copy.role ≡ Gone → change_done site node change w ≡ None
+  gone-late gone = nothing (λ one era number. ap (step one) gone)
 
 -- Twice
 
@@ -100,29 +101,54 @@ module _ (site : Site) (w : World) (node : ℕ) (change : ChangeMessage) where
   abbrev DoesNothing : World → Type 0
   DoesNothing one = change_done site node change one ≡ None
 
-  stays-in : (message : ImageMessage) (applied : Core) (kept : List Act) (k : Which) (pair : Pair)
-      → copy_in node (after_applying change.process k message applied kept pair) ≡ copy_in node pair
-  stays-in message applied kept First pair = refl
-  stays-in message applied kept Second pair = refl
+  -- the process after one of its copies applied a checkpoint of the other one, which is behind the kept acts or not
+  abbrev after_step : ImageMessage → Core → Which → Pair → Bool → Pair
+  after_step message applied k pair behind =
+      (applied_step_where change.process k pair (records_of w) message applied behind).pair
 
-  numbered : (message : ImageMessage) (applied : Core) (kept : List Act) (k : Which) (pair : Pair)
-      → (copy_of k (after_applying change.process k message applied kept pair)).number ≡ message.number
-  numbered message applied kept First pair = refl
-  numbered message applied kept Second pair = refl
+  stays-in : (message : ImageMessage) (applied : Core) (k : Which) (pair : Pair) (behind : Bool)
+      → copy_in node (after_step message applied k pair behind) ≡ copy_in node pair
+  stays-in message applied First pair true = refl
+  stays-in message applied First pair false = refl
+  stays-in message applied Second pair true = refl
+  stays-in message applied Second pair false = refl
+
+  numbered : (message : ImageMessage) (applied : Core) (k : Which) (pair : Pair) (behind : Bool)
+      → (copy_of k (after_step message applied k pair behind)).number ≡ message.number
+  numbered message applied First pair true = refl
+  numbered message applied First pair false = refl
+  numbered message applied Second pair true = refl
+  numbered message applied Second pair false = refl
 
   after : (pair : Pair) → slice_get w.processes change.process ≡ Some pair → (k : Which) → copy_in node pair ≡ Some k
-      → (message : ImageMessage) → message.number ≡ change.number → (applied : Core)
+      → (message : ImageMessage) → message.number ≡ change.number → (applied : Core) (behind : Bool)
       → DoesNothing (in_world change.process w
-      (applied_step change.process k pair (records_of w) message applied)).world
-  after pair there k here message same applied =
-      let next : Pair = after_applying change.process k message applied w.kept pair in
+      (applied_step_where change.process k pair (records_of w) message applied behind)).world
+  after pair there k here message same applied behind =
+      let next : Pair = after_step message applied k pair behind in
       number-late site (in_world change.process w
-      (applied_step change.process k pair (records_of w) message applied)).world node change k next
+      (applied_step_where change.process k pair (records_of w) message applied behind)).world node change k next
       (record {
         there = set-there w.processes change.process pair next there;
-        here = stays-in message applied w.kept k pair ∙ here;
+        here = stays-in message applied k pair behind ∙ here;
       })
-      (λ is. let count = numbered message applied w.kept k pair in omega (arith, is, count, same))
+      (λ is. let count = numbered message applied k pair behind in omega (arith, is, count, same))
+
+  -- a copy that receives applies it
+  receives-late : (pair : Pair) → slice_get w.processes change.process ≡ Some pair → (k : Which)
+      → copy_in node pair ≡ Some k
+      → (message : ImageMessage) → message.number ≡ change.number → (stepped : Stepped)
+      → option_map (applied_step change.process k pair (records_of w) message)
+      (core_where (depths_of site change.process) (copy_of k pair).core message
+      (is_next_for (copy_of k pair).era (copy_of k pair).number message)) ≡ Some stepped
+      → DoesNothing (in_world change.process w stepped).world
+  receives-late pair there k here message same stepped is =
+      map-some (applied_step change.process k pair (records_of w) message)
+      (λ (one : Stepped). DoesNothing (in_world change.process w one).world)
+      (core_where (depths_of site change.process) (copy_of k pair).core message
+      (is_next_for (copy_of k pair).era (copy_of k pair).number message)) stepped
+      (λ applied put. after pair there k here message same applied
+      (nat_lt (copy_of (other_of k) pair).position (own_acts change.process w.kept))) is
 
   roles : (pair : Pair) → slice_get w.processes change.process ≡ Some pair → (k : Which) → copy_in node pair ≡ Some k
       → (message : ImageMessage) → message.number ≡ change.number → (stepped : Stepped) (role : Role)
@@ -130,12 +156,8 @@ module _ (site : Site) (w : World) (node : ℕ) (change : ChangeMessage) where
       → DoesNothing (in_world change.process w stepped).world
   roles pair there k here message same stepped Acting is = absurd (cc)
   roles pair there k here message same stepped Gone is = absurd (cc)
-  roles pair there k here message same stepped Watching is =
-      map-some (applied_step change.process k pair (records_of w) message)
-      (λ (one : Stepped). DoesNothing (in_world change.process w one).world)
-      (core_where (depths_of site change.process) (copy_of k pair).core message
-      (is_next_for (copy_of k pair).era (copy_of k pair).number message)) stepped
-      (λ applied put. after pair there k here message same applied) is
+  roles pair there k here message same stepped Watching is = receives-late pair there k here message same stepped is
+  roles pair there k here message same stepped Blank is = receives-late pair there k here message same stepped is
 
   fitting : (pair : Pair) → slice_get w.processes change.process ≡ Some pair → (k : Which) → copy_in node pair ≡ Some k
       → (stepped : Stepped) (b : Bool)

@@ -12,7 +12,8 @@ use Rattle.world_semantics.specs.World.{Pair, World, copy_of}
 use Rattle.world_semantics.specs.Records.{records_of}
 use Rattle.world_semantics.specs.Running.{Done, in_world}
 use Rattle.world_semantics.proofs.Lifted.{lifted}
-use Rattle.computed_changes.specs.Checkpoints.{applied_step, checkpoint_step, core_where, taken_step, taken_step_where}
+use Rattle.computed_changes.specs.Checkpoints.{applied_step, applied_step_where, checkpoint_step, core_where}
+use Rattle.computed_changes.specs.Checkpoints.{taken_step, taken_step_where}
 use Rattle.computed_changes.specs.Fitting.{depths_of}
 use Rattle.computed_changes.specs.Replies.{got_step, reply_step, reply_step_where}
 use Rattle.computed_changes.specs.Requests.{request_step}
@@ -32,6 +33,11 @@ got_done site number reply k pair w role = lifted number w (reply_step site numb
 abbrev pub applied_done : ImageMessage → Which → Pair → World → Core → Done
 applied_done message k pair w core =
     in_world message.process w (applied_step message.process k pair (records_of w) message core)
+
+-- the other copy is behind the kept acts or not
+abbrev pub applied_as : ImageMessage → Which → Pair → World → Core → Bool → Done
+applied_as message k pair w core behind =
+    in_world message.process w (applied_step_where message.process k pair (records_of w) message core behind)
 
 abbrev pub applied_made : ImageMessage → Which → Pair → World → Option Core → Option Done
 applied_made message k pair w core =

@@ -1,7 +1,7 @@
 -- What is computed for a message that is handed over is permitted, where the message was sent.
-use Rattle.std.proofs.Common.{◌≡◌, ℕ, ◌+◌, ◌==◌, Bool, true, false, Option, Some, None, slice_get, refl, sym, subst}
-use Rattle.std.proofs.Common.{◌∙◌}
-use Rattle.std.proofs.lemmas.Bool.{eqb-true}
+use Rattle.std.proofs.Common.{◌≡◌, ℕ, ◌+◌, ◌==◌, Bool, true, false, nat_lt, Option, Some, None, slice_get, refl, sym}
+use Rattle.std.proofs.Common.{subst, ap, ◌∙◌}
+use Rattle.std.proofs.lemmas.Bool.{eqb-true, ltb-true, ltb-false}
 use Rattle.gd_words.specs.Members.{IsAmong}
 use Rattle.gd_words.specs.declared.message.Request.{Request}
 use Rattle.gd_words.specs.declared.message.Reply.{Reply}
@@ -17,20 +17,22 @@ use Rattle.world_semantics.specs.checkpoint_image.specs.declared.message.Image.{
 use Rattle.world_semantics.specs.checkpoint_image.specs.declared.message.ImageMessage.{ImageMessage}
 use Rattle.world_semantics.specs.checkpoint_image.specs.declared.message.TakenMessage.{TakenMessage}
 use Rattle.world_semantics.specs.declared.role.Role.{Role}
-use Rattle.world_semantics.specs.declared.role.Role.TheVariants.{Acting, Watching, Gone}
+use Rattle.world_semantics.specs.declared.role.Role.TheVariants.{Acting, Watching, Blank, Gone}
 use Rattle.world_semantics.specs.Core.{Core, next_on, put_in, gets}
 use Rattle.world_semantics.specs.declared.which.Which.{Which}
-use Rattle.world_semantics.specs.World.{Pair, Terminal, World, terminal_node, copy_of}
+use Rattle.world_semantics.specs.World.{Pair, Terminal, World, terminal_node, copy_of, other_of, receives}
+use Rattle.world_semantics.specs.Kept.{own_acts}
 use Rattle.world_semantics.specs.Messages.{Message, Asking, Replying, Checkpointing, Taking, Handing}
 use Rattle.world_semantics.specs.Own.{by_reply}
-use Rattle.world_semantics.specs.Passes.{by_apply, by_acknowledge}
+use Rattle.world_semantics.specs.Passes.{by_apply, by_apply_behind, by_acknowledge}
+use Rattle.world_semantics.specs.Records.{records_of}
 use Rattle.world_semantics.specs.Rules.{Change, by_own, by_checkpoint, by_request, by_early_request, by_print}
-use Rattle.world_semantics.specs.Running.{Done}
+use Rattle.world_semantics.specs.Running.{Done, in_world}
 use Rattle.world_semantics.proofs.Lists.{some-same}
 use Rattle.world_semantics.proofs.Roles.{both-true}
 use Rattle.world_semantics.proofs.Running.{enters-as}
 use Rattle.computed_changes.specs.Fitting.{depths_of, put_where, put_fitting}
-use Rattle.computed_changes.specs.Checkpoints.{is_next_for, is_of_last}
+use Rattle.computed_changes.specs.Checkpoints.{is_next_for, is_of_last, applied_step_where}
 use Rattle.computed_changes.specs.Handed.{handed_done, replied_done, replied_to}
 use Rattle.computed_changes.specs.Replies.{awaits, awaits_at, is_to, printed_at, printed_done, printed_where}
 use Rattle.computed_changes.specs.Laws.{IsSent}
@@ -55,7 +57,10 @@ asked-may site request k pair w there sent Acting role done e =
     (by_request request k pair sent there role)
 asked-may site request k pair w there sent Watching role done e =
     subst (MayHand site (copy_of k pair).processor (Asking request) w) (some-same e)
-    (by_early_request request k pair sent there role)
+    (by_early_request request k pair sent there (ap receives role))
+asked-may site request k pair w there sent Blank role done e =
+    subst (MayHand site (copy_of k pair).processor (Asking request) w) (some-same e)
+    (by_early_request request k pair sent there (ap receives role))
 asked-may site request k pair w there sent Gone role done e = absurd (cc)
 
 -- Replies to a copy
@@ -90,9 +95,10 @@ got-may site number reply k pair w there sent Acting role done e =
         let is = awaits-is site number (copy_of k pair).core reply _ refl a in
         subst (MayHand site (copy_of k pair).processor (Replying reply) w) (some-same e)
         (by_own number k pair there role (by_reply sent is.opens is.last refl) (gets is.stands refl)
-        (enters-as number (act.Step number) w.kept (copy_of k pair)))
+        (enters-as number (act.Step number) w.kept (copy_of k pair)) tt)
     by false a e = absurd (cc)
 got-may site number reply k pair w there sent Watching role done e = absurd (cc)
+got-may site number reply k pair w there sent Blank role done e = absurd (cc)
 got-may site number reply k pair w there sent Gone role done e = absurd (cc)
 
 -- Replies to a terminal
@@ -144,9 +150,24 @@ put-in : (core : Core) (image : Image) (fitting : Bool) (applied : Core) → put
 put-in core image true applied e = e
 put-in core image false applied e = absurd (cc)
 
+-- a copy applies a checkpoint of one that is behind the kept acts or not
+step-may : (site : Site) (message : ImageMessage) (k : Which) (pair : Pair) (w : World) (applied : Core)
+    → slice_get w.processes message.process ≡ Some pair → receives (copy_of k pair).role ≡ true
+    → IsAmong message pair.checkpoints → message.era ≡ (copy_of k pair).era
+    → message.number ≡ (copy_of k pair).number + 1
+    → put_in (copy_of k pair).core message.image ≡ Some applied → (behind : Bool)
+    → nat_lt (copy_of (other_of k) pair).position (own_acts message.process w.kept) ≡ behind
+    → MayHand site (copy_of k pair).processor (Checkpointing message) w
+    (in_world message.process w (applied_step_where message.process k pair (records_of w) message applied behind))
+step-may site message k pair w applied there role sent era number is true l =
+    by_checkpoint message.process pair there
+    (by_apply_behind k message applied role sent era number is (ltb-true _ _ l))
+step-may site message k pair w applied there role sent era number is false l =
+    by_checkpoint message.process pair there (by_apply k message applied role sent era number is (ltb-false _ _ l))
+
 applied-may : (site : Site) (message : ImageMessage) (k : Which) (pair : Pair) (w : World)
     → slice_get w.processes message.process ≡ Some pair
-    → IsAmong message pair.checkpoints → (copy_of k pair).role ≡ Watching → (next : Bool)
+    → IsAmong message pair.checkpoints → receives (copy_of k pair).role ≡ true → (next : Bool)
     → is_next_for (copy_of k pair).era (copy_of k pair).number message ≡ next
     → (done : Done)
     → applied_where site message k pair w next ≡ Some done
@@ -162,9 +183,8 @@ applied-may site message k pair w there sent role true n done e =
     by (Some applied) p e =
         let b = both-true (message.era == (copy_of k pair).era) _ n in
         subst (MayHand site (copy_of k pair).processor (Checkpointing message) w) (some-same e)
-        (by_checkpoint message.process pair there
-        (by_apply k message applied role sent (eqb-true _ _ b.0) (eqb-true _ _ b.1)
-        (put-in (copy_of k pair).core message.image _ applied p)))
+        (step-may site message k pair w applied there role sent (eqb-true _ _ b.0) (eqb-true _ _ b.1)
+        (put-in (copy_of k pair).core message.image _ applied p) _ refl)
 applied-may site message k pair w there sent role false n done e = absurd (cc)
 
 checkpoint-may : (site : Site) (message : ImageMessage) (k : Which) (pair : Pair) (w : World)
@@ -174,7 +194,9 @@ checkpoint-may : (site : Site) (message : ImageMessage) (k : Which) (pair : Pair
     → MayHand site (copy_of k pair).processor (Checkpointing message) w done
 checkpoint-may site message k pair w there sent Acting role done e = absurd (cc)
 checkpoint-may site message k pair w there sent Watching role done e =
-    applied-may site message k pair w there sent role _ refl done e
+    applied-may site message k pair w there sent (ap receives role) _ refl done e
+checkpoint-may site message k pair w there sent Blank role done e =
+    applied-may site message k pair w there sent (ap receives role) _ refl done e
 checkpoint-may site message k pair w there sent Gone role done e = absurd (cc)
 
 -- That a checkpoint was taken
@@ -201,6 +223,7 @@ taken-may : (site : Site) (taken : TakenMessage) (k : Which) (pair : Pair) (w : 
 taken-may site taken k pair w there sent Acting role done e =
     acknowledged-may site taken k pair w there sent role _ refl done e
 taken-may site taken k pair w there sent Watching role done e = absurd (cc)
+taken-may site taken k pair w there sent Blank role done e = absurd (cc)
 taken-may site taken k pair w there sent Gone role done e = absurd (cc)
 
 -- Messages

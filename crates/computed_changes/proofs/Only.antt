@@ -1,7 +1,9 @@
 -- Nothing else than what is computed is permitted where a message is handed over, if the copies of each process are in
 -- two processors, what they send each other names it, and a checkpoint fits.
-use Rattle.std.proofs.Common.{◌≡◌, ℕ, ◌+◌, true, List, [], ◌∷◌, Option, Some, slice_get, refl, sym, ap, subst, ◌∙◌}
-use Rattle.std.proofs.lemmas.Bool.{eq-eqb}
+use Rattle.std.proofs.Common.{◌≡◌, ℕ, ◌+◌, true, false, nat_lt, List, [], ◌∷◌, Option, Some, slice_get, refl, sym, ap}
+use Rattle.std.proofs.Common.{subst, ◌∙◌}
+use Rattle.std.proofs.lemmas.Bool.{eq-eqb, le-ltb, lt-ltb}
+use Rattle.gd_words.specs.declared.message.Request.{Request}
 use Rattle.gd_words.specs.declared.message.Reply.{Reply}
 use Rattle.tal_tree.specs.declared.act.Act.{Act}
 use Rattle.tal_tree.specs.declared.site.Site.{Site}
@@ -11,29 +13,34 @@ use Rattle.world_semantics.specs.checkpoint_image.specs.process_semantics.specs.
 use Rattle.world_semantics.specs.plain_semantics.specs.Openers.{openers_of, opener_of}
 use Rattle.world_semantics.specs.checkpoint_image.specs.declared.message.ImageMessage.{ImageMessage}
 use Rattle.world_semantics.specs.checkpoint_image.specs.declared.message.TakenMessage.{TakenMessage}
-use Rattle.world_semantics.specs.declared.role.Role.TheVariants.{Acting, Watching}
+use Rattle.world_semantics.specs.declared.role.Role.TheVariants.{Acting, Watching, Blank, Gone}
 use Rattle.world_semantics.specs.Core.{Core, Deed, next_on, put_in, Advances, gets}
-use Rattle.world_semantics.specs.Kept.{Enters}
+use Rattle.world_semantics.specs.Kept.{Enters, own_acts}
+use Rattle.world_semantics.specs.declared.role.Role.{Role}
 use Rattle.world_semantics.specs.declared.which.Which.{Which}
 use Rattle.world_semantics.specs.World.{Copy, Pair, Terminal, World, terminal_node, copy_of, other_of, with_copy}
-use Rattle.world_semantics.specs.World.{with_pair}
+use Rattle.world_semantics.specs.World.{with_pair, receives}
 use Rattle.world_semantics.specs.Messages.{Message, Asking, Replying, Checkpointing, Taking, Sending, sent_at, Cause}
 use Rattle.world_semantics.specs.Messages.{Handing}
 use Rattle.world_semantics.specs.Own.{Around, around, Causes, by_inner, by_take, by_ask, by_answer, by_device, by_write}
 use Rattle.world_semantics.specs.Own.{by_reply}
-use Rattle.world_semantics.specs.Passes.{Passes, by_send, by_pass_again, by_pass, by_apply, by_acknowledge, taken_of}
-use Rattle.world_semantics.specs.Passes.{after_applying, kept_at_checkpoint}
+use Rattle.world_semantics.specs.Passes.{Passes, by_send, by_pass_again, by_pass, by_end, by_apply_behind}
+use Rattle.world_semantics.specs.Passes.{by_apply, by_acknowledge, taken_of, after_applying, after_applying_behind}
+use Rattle.world_semantics.specs.Passes.{after_told, kept_at}
+use Rattle.world_semantics.specs.Records.{records_of}
 use Rattle.world_semantics.specs.Rules.{Change, by_own, by_checkpoint, by_request, by_early_request, by_enter, by_print}
-use Rattle.world_semantics.specs.Rules.{by_stop, by_mark, after_own}
-use Rattle.world_semantics.specs.Running.{Done}
+use Rattle.world_semantics.specs.Rules.{by_stop, by_mark, by_reload, after_own}
+use Rattle.world_semantics.specs.Running.{Done, in_world}
 use Rattle.world_semantics.proofs.Running.{enters-only}
 use Rattle.computed_changes.specs.Fitting.{depths_of, fits}
 use Rattle.computed_changes.specs.Checkpoints.{is_next_for, is_of_last}
 use Rattle.computed_changes.specs.Handed.{handed_done, replied_done}
 use Rattle.computed_changes.specs.Replies.{awaits, awaits_at, printed_where}
+use Rattle.computed_changes.specs.Requests.{early_step}
 use Rattle.computed_changes.specs.Laws.{FitsWhereItComes}
 use Rattle.computed_changes.proofs.Homes.{AreApart, at-found}
-use Rattle.computed_changes.proofs.Lifted.{acknowledged_where, applied_done, applied_where, asked_done, checkpoint_done}
+use Rattle.computed_changes.proofs.Lifted.{acknowledged_where, applied_as, applied_done, applied_where, asked_done}
+use Rattle.computed_changes.proofs.Lifted.{checkpoint_done}
 use Rattle.computed_changes.proofs.Lifted.{got_done, got_made, got_where, taken_done}
 use Rattle.computed_changes.proofs.Placed.{opener-placed}
 use Rattle.computed_changes.proofs.Reached.{AllApart, AreNamed, AllNamed}
@@ -137,9 +144,27 @@ printed-only site number reply terminal w found entered opens last =
 
 -- Checkpoints
 
+-- to a copy that gets checkpoints one does the same whether it watches or is blank
+receives-done : (site : Site) (message : ImageMessage) (k : Which) (pair : Pair) (w : World) (role : Role)
+    → receives role ≡ true
+    → checkpoint_done site message k pair w role
+    ≡ applied_where site message k pair w (is_next_for (copy_of k pair).era (copy_of k pair).number message)
+receives-done site message k pair w Watching e = refl
+receives-done site message k pair w Blank e = refl
+receives-done site message k pair w Acting e = absurd (cc)
+receives-done site message k pair w Gone e = absurd (cc)
+
+early-done : (request : Request) (k : Which) (pair : Pair) (w : World) (role : Role) → receives role ≡ true
+    → asked_done request k pair w role
+    ≡ Some (in_world request.process w (early_step k pair (records_of w) request))
+early-done request k pair w Watching e = refl
+early-done request k pair w Blank e = refl
+early-done request k pair w Acting e = absurd (cc)
+early-done request k pair w Gone e = absurd (cc)
+
 apply-only : (site : Site) (message : ImageMessage) (k : Which) (pair : Pair) (w : World) (applied : Core)
     → slice_get w.processes message.process ≡ Some pair
-    → AreApart pair → (copy_of k pair).role ≡ Watching → message.era ≡ (copy_of k pair).era
+    → AreApart pair → receives (copy_of k pair).role ≡ true → message.era ≡ (copy_of k pair).era
     → message.number ≡ (copy_of k pair).number + 1
     → put_in (copy_of k pair).core message.image ≡ Some applied
     → fits (depths_of site message.process) (copy_of k pair).core message.image ≡ true
@@ -150,7 +175,7 @@ apply-only site message k pair w applied found apart role era number is fitting 
     rw (eq-eqb _ _ era, eq-eqb _ _ number) refl in
     at-found site message.process (copy_of k pair).processor (Checkpointing message) w
     (slice_get w.processes message.process) pair k found apart refl
-    ∙ ap (checkpoint_done site message k pair w) role ∙ ap (applied_where site message k pair w) next
+    ∙ receives-done site message k pair w (copy_of k pair).role role ∙ ap (applied_where site message k pair w) next
     ∙ rw (fitting, is) refl
 
 taken-only : (site : Site) (taken : TakenMessage) (k : Which) (pair : Pair) (w : World)
@@ -174,24 +199,42 @@ passes-only : (site : Site) (w : World) {number node : ℕ} {message : Message} 
 passes-only site w found apart named r fitting (by_send k role p s m) = absurd (cc)
 passes-only site w found apart named r fitting (by_pass_again k role p m l) = absurd (cc)
 passes-only site w found apart named r fitting (by_pass k role p m l) = absurd (cc)
-passes-only site w {pair = pair} found apart named r fitting (by_apply k message applied role i era number is) =
+passes-only site w found apart named r fitting (by_end k role s p m) = absurd (cc)
+passes-only site w {pair = pair} found apart named r fitting
+    (by_apply_behind k message applied role i era number is l) =
     let name = named.checkpoints message i in
     let here = subst (λ n. slice_get w.processes n ≡ Some pair) (sym name) found in
+    let less : nat_lt (copy_of (other_of k) pair).position (own_acts message.process w.kept) ≡ true =
+    subst (λ n. nat_lt (copy_of (other_of k) pair).position (own_acts n w.kept) ≡ true) (sym name) (lt-ltb _ _ l) in
+    handed-as site w r
+    (subst
+    (λ n. IsHanded site (copy_of k pair).processor (Checkpointing message) w
+    (sent_at (copy_of k pair).processor (Taking (taken_of message) ∷ []))
+    (record (with_pair n (after_applying_behind n k message applied pair) w) { kept = w.kept })) name
+    (apply-only site message k pair w applied here apart role era number is
+    (fits-as site w r fitting pair k here refl)
+    ∙ ap (λ b. Some (applied_as message k pair w applied b)) less))
+passes-only site w {pair = pair} found apart named r fitting (by_apply k message applied role i era number is l) =
+    let name = named.checkpoints message i in
+    let here = subst (λ n. slice_get w.processes n ≡ Some pair) (sym name) found in
+    let level : nat_lt (copy_of (other_of k) pair).position (own_acts message.process w.kept) ≡ false =
+    subst (λ n. nat_lt (copy_of (other_of k) pair).position (own_acts n w.kept) ≡ false) (sym name) (le-ltb _ _ l) in
     handed-as site w r
     (subst
     (λ n. IsHanded site (copy_of k pair).processor (Checkpointing message) w
     (sent_at (copy_of k pair).processor (Taking (taken_of message) ∷ []))
     (record (with_pair n (after_applying n k message applied w.kept pair) w)
-    { kept = kept_at_checkpoint n (copy_of (other_of k) pair) w.kept })) name
+    { kept = kept_at n (copy_of (other_of k) pair) w.kept })) name
     (apply-only site message k pair w applied here apart role era number is
-    (fits-as site w r fitting pair k here refl)))
+    (fits-as site w r fitting pair k here refl)
+    ∙ ap (λ b. Some (applied_as message k pair w applied b)) level))
 passes-only site w {pair = pair} found apart named r fitting (by_acknowledge k taken role sent i era number) =
     let name = named.takens taken i in
     let here = subst (λ n. slice_get w.processes n ≡ Some pair) (sym name) found in
     handed-as site w r
     (subst
     (λ n. IsHanded site (copy_of k pair).processor (Taking taken) w []
-    (with_pair n (with_copy k (record (copy_of k pair) { acknowledged = true }) pair) w)) name
+    (with_pair n (with_copy k (after_told (copy_of k pair)) pair) w)) name
     (taken-only site taken k pair w here apart role sent era number))
 
 -- All changes
@@ -200,7 +243,7 @@ change-only : {site : Site} (w next : World) (node : ℕ) (message : Message) (c
     → cause ≡ Handing node message
     → AllApart w → AllNamed w → FitsWhereItComes site w node message → Change site w cause sendings next
     → IsHanded site node message w sendings next
-change-only w next node message cause sendings r apart named fitting (by_own number k pair found role c a e) =
+change-only w next node message cause sendings r apart named fitting (by_own number k pair found role c a e fr) =
     own-only k pair w found (apart number pair found) role r c a e
 change-only {site = site} w next node message cause sendings r apart named fitting (by_checkpoint number pair found p) =
     passes-only site w found (apart number pair found) (named number pair found) r fitting p
@@ -215,14 +258,15 @@ change-only {site = site} w next node message cause sendings r apart named fitti
     handed-as site w r
     (at-found site request.process (copy_of k pair).processor (Asking request) w
     (slice_get w.processes request.process) pair k found
-    (apart request.process pair found) refl ∙ ap (asked_done request k pair w) role)
+    (apart request.process pair found) refl ∙ early-done request k pair w (copy_of k pair).role role)
 change-only w next node message cause sendings r apart named fitting (by_enter number terminal opener t f q o) =
     absurd (cc)
 change-only {site = site} w next node message cause sendings r apart named fitting
     (by_print number terminal reply found awaits i opens last) =
     handed-as site w r (printed-only site number reply terminal w found awaits opens last)
-change-only w next node message cause sendings r apart named fitting (by_stop x s) = absurd (cc)
+change-only w next node message cause sendings r apart named fitting (by_stop x s h) = absurd (cc)
 change-only w next node message cause sendings r apart named fitting (by_mark m x s q n) = absurd (cc)
+change-only w next node message cause sendings r apart named fitting (by_reload x s m t l) = absurd (cc)
 
 pub handed-only : {site : Site} (w next : World) (node : ℕ) (message : Message) (sendings : List Sending) → AllApart w
     → AllNamed w

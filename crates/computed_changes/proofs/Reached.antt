@@ -41,16 +41,20 @@ becomes-home : {site : Site} {w : World} {number : ℕ} {pair : Pair} {sent : Li
     {cause : Cause} {after : Copy}
     → Becomes site w number pair sent k cause after → after.processor ≡ (copy_of k pair).processor
 becomes-home becoming.stays = refl
-becomes-home (becoming.acts r c a e) = entered-home e
+becomes-home (becoming.acts r c a e fr) = entered-home e
 becomes-home (becoming.sends r p i) = refl
 becomes-home (becoming.passes r) = refl
+becomes-home (becoming.ends r) = refl
 becomes-home (becoming.applies message r i e n a) = refl
 becomes-home (becoming.is_told taken r s i e n) = refl
 becomes-home becoming.is_freed = refl
+becomes-home becoming.needs_less = refl
 becomes-home (becoming.hears request r) = refl
 becomes-home (becoming.hears_early request r) = refl
 becomes-home (becoming.stops processor) = refl
 becomes-home (becoming.takes_over node processor t) = refl
+becomes-home (becoming.is_blank processor here was) = refl
+becomes-home (becoming.renews processor there) = refl
 
 abbrev pub AllApart : World → Type 0
 AllApart w = (number : ℕ) (pair : Pair) → slice_get w.processes number ≡ Some pair → AreApart pair

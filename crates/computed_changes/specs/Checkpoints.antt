@@ -1,16 +1,18 @@
 -- What a checkpoint does that comes to a copy of a process, and the message that it was taken, computed.
-use Rattle.std.specs.Prelude.{ℕ, ◌+◌, ◌==◌, ◌&&◌, Bool, true, false, List, [], ◌∷◌, Option, Some, None}
+use Rattle.std.specs.Prelude.{ℕ, ◌+◌, ◌==◌, ◌&&◌, Bool, true, false, nat_lt, List, [], ◌∷◌, Option, Some}
+use Rattle.std.specs.Prelude.{None}
 use Rattle.std.specs.Option.{option_map}
 use Rattle.tal_tree.specs.declared.site.Site.{Site}
 use Rattle.world_semantics.specs.checkpoint_image.specs.declared.message.ImageMessage.{ImageMessage}
 use Rattle.world_semantics.specs.checkpoint_image.specs.declared.message.TakenMessage.{TakenMessage}
 use Rattle.world_semantics.specs.declared.role.Role.{Role}
-use Rattle.world_semantics.specs.declared.role.Role.TheVariants.{Acting, Watching, Gone}
+use Rattle.world_semantics.specs.declared.role.Role.TheVariants.{Acting, Watching, Blank, Gone}
 use Rattle.world_semantics.specs.declared.which.Which.{Which}
 use Rattle.world_semantics.specs.Core.{Core}
 use Rattle.world_semantics.specs.World.{Copy, Pair, copy_of, other_of, with_copy}
 use Rattle.world_semantics.specs.Messages.{Taking, sent_at}
-use Rattle.world_semantics.specs.Passes.{taken_of, after_applying, kept_at_checkpoint}
+use Rattle.world_semantics.specs.Kept.{own_acts}
+use Rattle.world_semantics.specs.Passes.{taken_of, after_applying, after_applying_behind, after_told, kept_at}
 use Rattle.world_semantics.specs.Records.{Records}
 use Rattle.world_semantics.specs.Running.{Stepped}
 use Rattle.computed_changes.specs.Fitting.{depths_of, put_fitting}
@@ -27,22 +29,34 @@ core_where depths core message true = put_fitting depths core message.image
 core_where depths core message false = None
 
 -- the core of a copy of this era, number and role after a checkpoint came to it; none where it is ignored. A copy that
--- watches applies it whole where it is the next one and fits
+-- watches or is blank applies it whole where it is the next one and fits
 abbrev pub core_as : List ℕ → ℕ → ℕ → Core → ImageMessage → Role → Option Core
 core_as depths era number core message Watching = core_where depths core message (is_next_for era number message)
+core_as depths era number core message Blank = core_where depths core message (is_next_for era number message)
 core_as depths era number core message Acting = None
 core_as depths era number core message Gone = None
 
 abbrev pub core_applying : List ℕ → Copy → ImageMessage → Option Core
 core_applying depths copy message = core_as depths copy.era copy.number copy.core message copy.role
 
--- a copy of a process applies a checkpoint, by which it has this core, and says that it was taken
-abbrev pub applied_step : ℕ → Which → Pair → Records → ImageMessage → Core → Stepped
-applied_step number k pair records message applied = record {
-  pair = after_applying number k message applied records.kept pair;
-  records = record records { kept = kept_at_checkpoint number (copy_of (other_of k) pair) records.kept };
+-- a copy of a process applies a checkpoint of the other one, by which it has this core, and says that it was taken.
+-- Where the other one is behind the kept acts nothing is kept; else what it holds is, and its act at its checkpoint
+abbrev pub applied_step_where : ℕ → Which → Pair → Records → ImageMessage → Core → Bool → Stepped
+applied_step_where number k pair records message applied true = record {
+  pair = after_applying_behind number k message applied pair;
+  records = records;
   sendings = sent_at (copy_of k pair).processor (Taking (taken_of message) ∷ []);
 }
+applied_step_where number k pair records message applied false = record {
+  pair = after_applying number k message applied records.kept pair;
+  records = record records { kept = kept_at number (copy_of (other_of k) pair) records.kept };
+  sendings = sent_at (copy_of k pair).processor (Taking (taken_of message) ∷ []);
+}
+
+abbrev pub applied_step : ℕ → Which → Pair → Records → ImageMessage → Core → Stepped
+applied_step number k pair records message applied =
+    applied_step_where number k pair records message applied
+    (nat_lt (copy_of (other_of k) pair).position (own_acts number records.kept))
 
 abbrev pub checkpoint_step : Site → ℕ → Which → Pair → Records → ImageMessage → Role → Option Stepped
 checkpoint_step site number k pair records message role =
@@ -58,7 +72,7 @@ is_of_last sent era number taken = sent && (taken.era == era && taken.number == 
 abbrev pub taken_step_where : Which → Pair → Records → Bool → Option Stepped
 taken_step_where k pair records true =
     Some (record {
-      pair = with_copy k (record (copy_of k pair) { acknowledged = true }) pair;
+      pair = with_copy k (after_told (copy_of k pair)) pair;
       records = records;
       sendings = [];
     })
@@ -70,4 +84,5 @@ taken_step k pair records taken Acting =
     taken_step_where k pair records (is_of_last (copy_of k pair).sent (copy_of k pair).era (copy_of k pair).number
     taken)
 taken_step k pair records taken Watching = None
+taken_step k pair records taken Blank = None
 taken_step k pair records taken Gone = None

@@ -13,7 +13,7 @@ use Rattle.world_semantics.specs.checkpoint_image.specs.process_semantics.specs.
 use Rattle.world_semantics.specs.plain_semantics.specs.declared.slot.Opener.{Opener}
 use Rattle.world_semantics.specs.plain_semantics.specs.Openers.{opener_of}
 use Rattle.world_semantics.specs.declared.role.Role.{Role}
-use Rattle.world_semantics.specs.declared.role.Role.TheVariants.{Acting, Watching, Gone}
+use Rattle.world_semantics.specs.declared.role.Role.TheVariants.{Acting, Watching, Blank, Gone}
 use Rattle.world_semantics.specs.declared.which.Which.{Which}
 use Rattle.world_semantics.specs.Core.{Core, core_getting, next_on}
 use Rattle.world_semantics.specs.World.{Copy, Pair, Terminal, World, copy_of, with_copy}
@@ -62,6 +62,7 @@ reply_step site number k pair records reply Acting =
     reply_step_where number k pair records reply
     (awaits site number (copy_of k pair).core reply (process.point (copy_of k pair).core.state))
 reply_step site number k pair records reply Watching = None
+reply_step site number k pair records reply Blank = None
 reply_step site number k pair records reply Gone = None
 
 -- At a terminal

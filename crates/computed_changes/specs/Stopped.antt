@@ -1,8 +1,11 @@
--- The stop of a processor, and its mark by a node, computed.
-use Rattle.std.specs.Prelude.{ℕ, ◌&&◌, Bool, true, false, not, [], ◌∷◌, map, slice_get, slice_set, Option, Some, None}
+-- The stop of a processor, its mark by a node, and its reload, computed.
+use Rattle.std.specs.Prelude.{ℕ, ◌+◌, ◌&&◌, nat_lt, Bool, true, false, not, [], ◌∷◌, map, slice_get, slice_set, Option}
+use Rattle.std.specs.Prelude.{Some, None}
 use Rattle.std.specs.List.{flat_map}
-use Rattle.world_semantics.specs.World.{World, is_running, has_noted}
-use Rattle.world_semantics.specs.Rules.{stopped_pair, pair_at_down, told_at_down}
+use Rattle.tal_tree.specs.declared.site.Site.{Site}
+use Rattle.world_semantics.specs.World.{World, is_running, has_noted, is_noted_by_all, is_whole}
+use Rattle.world_semantics.specs.Rules.{stopped_pair, pair_at_down, told_at_down, most_reloads, reloaded_from}
+use Rattle.world_semantics.specs.Rules.{without_marks}
 use Rattle.world_semantics.specs.Running.{Done}
 
 -- the world after a processor stopped
@@ -10,12 +13,16 @@ abbrev pub stopped_world : ℕ → World → World
 stopped_world processor w =
     record w { stopped = slice_set w.stopped processor true; processes = map (stopped_pair processor) w.processes }
 
+abbrev pub stop_if : ℕ → World → Bool → Option Done
+stop_if processor w true = Some (record { world = stopped_world processor w; sendings = [] })
+stop_if processor w false = None
+
 abbrev pub stop_where : ℕ → World → Option Bool → Option Done
-stop_where processor w (Some false) = Some (record { world = stopped_world processor w; sendings = [] })
+stop_where processor w (Some false) = stop_if processor w (is_whole w)
 stop_where processor w (Some true) = None
 stop_where processor w None = None
 
--- the change that the stop of a processor makes; none where it isn't there or has stopped
+-- the change that the stop of a processor makes; none where it isn't there or has stopped, or the world isn't whole
 abbrev pub stop_done : ℕ → World → Option Done
 stop_done processor w = stop_where processor w (slice_get w.stopped processor)
 
@@ -46,3 +53,31 @@ mark_where node processor w None = None
 -- processor
 abbrev pub down_done : ℕ → ℕ → World → Option Done
 down_done node processor w = mark_where node processor w (slice_get w.stopped processor)
+
+-- the world after a processor was loaded again that was loaded so often before
+abbrev pub reloaded_world : Site → ℕ → ℕ → World → World
+reloaded_world site processor times w = record w {
+  stopped = slice_set w.stopped processor false;
+  reloads = slice_set w.reloads processor (times + 1);
+  marks = without_marks processor w.marks;
+  processes = reloaded_from site processor 0 w.processes;
+}
+
+abbrev pub reload_if : Site → ℕ → ℕ → World → Bool → Option Done
+reload_if site processor times w true = Some (record { world = reloaded_world site processor times w; sendings = [] })
+reload_if site processor times w false = None
+
+abbrev pub reload_counted : Site → ℕ → World → Option ℕ → Option Done
+reload_counted site processor w None = None
+reload_counted site processor w (Some times) =
+    reload_if site processor times w (is_noted_by_all w processor && nat_lt times most_reloads)
+
+abbrev pub reload_where : Site → ℕ → World → Option Bool → Option Done
+reload_where site processor w (Some true) = reload_counted site processor w (slice_get w.reloads processor)
+reload_where site processor w (Some false) = None
+reload_where site processor w None = None
+
+-- the change that the reload of a processor makes; none where it hasn't stopped, a node that runs hasn't marked it, or
+-- it was loaded again too often
+abbrev pub reload_done : Site → ℕ → World → Option Done
+reload_done site processor w = reload_where site processor w (slice_get w.stopped processor)

@@ -11,11 +11,12 @@ ghost use Rattle.world_semantics.specs.checkpoint_image.specs.declared.message.I
 ghost use Rattle.world_semantics.specs.checkpoint_image.specs.declared.message.TakenMessage.{TakenMessage};
 ghost use Rattle.world_semantics.specs.checkpoint_image.specs.declared.receive.RequestStanding.TheVariants.{Kept};
 ghost use Rattle.world_semantics.specs.checkpoint_image.specs.Receive.{standing, reply_to};
-ghost use Rattle.world_semantics.specs.declared.role.Role.TheVariants.{Acting, Watching, Gone};
+ghost use Rattle.world_semantics.specs.declared.role.Role.TheVariants.{Acting, Watching, Blank, Gone};
 ghost use Rattle.world_semantics.specs.Core.{Core, next_on};
 ghost use Rattle.world_semantics.specs.declared.which.Which.{Which};
 ghost use Rattle.world_semantics.specs.declared.which.Which.TheVariants.{First, Second};
 ghost use Rattle.world_semantics.specs.World.{Pair, World, copy_of, terminal_node, is_running, has_noted};
+ghost use Rattle.world_semantics.specs.World.{is_noted_by_all, is_whole};
 ghost use Rattle.world_semantics.specs.World.{Terminal as AtTerminal};
 ghost use Rattle.world_semantics.specs.Messages.{Asking, Replying, Checkpointing, Taking};
 ghost use Rattle.world_semantics.specs.Running.{Done, sendings_of};
@@ -25,7 +26,7 @@ ghost use Rattle.computed_changes.specs.Changed.{change_done};
 ghost use Rattle.computed_changes.specs.Entered.{enter_done};
 ghost use Rattle.computed_changes.specs.Fitting.{depths_of, fits};
 ghost use Rattle.computed_changes.specs.Handed.{copy_in, handed_done};
-ghost use Rattle.computed_changes.specs.Stopped.{stop_done, down_done};
+ghost use Rattle.computed_changes.specs.Stopped.{stop_done, down_done, reload_done};
 ghost use Rattle.computed_changes.specs.Laws.{IsCopyAt, GoesTo};
 
 /// A process has no copy at a node that is neither of its two processors.
@@ -38,7 +39,7 @@ pub fn a_copy_is_in_its_processor()
 {}
 
 /// A checkpoint of another era or of another number than the next isn't applied, nor is one that doesn't fit, nor does
-/// a copy apply any that doesn't watch.
+/// a copy apply any that acts or is gone.
 pub fn only_the_next_checkpoint_is_applied()
     ensures era { (site : Site) (w : World) (node : ℕ) (message : ImageMessage) (k : Which) (pair : Pair)
         → IsCopyAt w node message.process k pair
@@ -50,14 +51,17 @@ pub fn only_the_next_checkpoint_is_applied()
         → IsCopyAt w node message.process k pair
         → fits (depths_of site message.process) (copy_of k pair).core message.image ≡ false
         → handed_done site node (Checkpointing message) w ≡ None }
-    ensures role { (site : Site) (w : World) (node : ℕ) (message : ImageMessage) (k : Which) (pair : Pair)
+    ensures acting { (site : Site) (w : World) (node : ℕ) (message : ImageMessage) (k : Which) (pair : Pair)
         → IsCopyAt w node message.process k pair
-        → (copy_of k pair).role ≢ Watching → handed_done site node (Checkpointing message) w ≡ None }
+        → (copy_of k pair).role ≡ Acting → handed_done site node (Checkpointing message) w ≡ None }
+    ensures gone { (site : Site) (w : World) (node : ℕ) (message : ImageMessage) (k : Which) (pair : Pair)
+        → IsCopyAt w node message.process k pair
+        → (copy_of k pair).role ≡ Gone → handed_done site node (Checkpointing message) w ≡ None }
 {}
 
 /// A checkpoint that comes as what changed isn't applied if it is of another era or of another number than the next, if
-/// the change doesn't fit the table of the copy to which it comes, or if that copy doesn't watch. So one that comes out
-/// of order, or after another was missed, does nothing; and what was applied does nothing if it comes again.
+/// the change doesn't fit the table of the copy to which it comes, or if that copy acts or is gone. So one that comes
+/// out of order, or after another was missed, does nothing; and what was applied does nothing if it comes again.
 pub fn only_the_next_change_is_applied()
     ensures era { (site : Site) (w : World) (node : ℕ) (change : ChangeMessage) (k : Which) (pair : Pair)
         → IsCopyAt w node change.process k pair
@@ -70,9 +74,12 @@ pub fn only_the_next_change_is_applied()
         → fits_change (record { table = (copy_of k pair).core.receive; depths = depths_of site change.process })
         change.image.receive ≡ false
         → change_done site node change w ≡ None }
-    ensures role { (site : Site) (w : World) (node : ℕ) (change : ChangeMessage) (k : Which) (pair : Pair)
+    ensures acting { (site : Site) (w : World) (node : ℕ) (change : ChangeMessage) (k : Which) (pair : Pair)
         → IsCopyAt w node change.process k pair
-        → (copy_of k pair).role ≢ Watching → change_done site node change w ≡ None }
+        → (copy_of k pair).role ≡ Acting → change_done site node change w ≡ None }
+    ensures gone { (site : Site) (w : World) (node : ℕ) (change : ChangeMessage) (k : Which) (pair : Pair)
+        → IsCopyAt w node change.process k pair
+        → (copy_of k pair).role ≡ Gone → change_done site node change w ≡ None }
     ensures again { (site : Site) (w : World) (node : ℕ) (change : ChangeMessage) (done : Done)
         → change_done site node change w ≡ Some done → change_done site node change done.world ≡ None }
 {}
@@ -133,8 +140,8 @@ pub fn a_reply_is_printed_once()
         → handed_done site node (Replying reply) w ≡ None }
 {}
 
-/// A kept reply is sent again where its request comes to the copy that acts. A copy that watches sends nothing, and one
-/// that is gone does nothing.
+/// A kept reply is sent again where its request comes to the copy that acts. A copy that watches or is blank sends
+/// nothing, and one that is gone does nothing.
 pub fn a_kept_reply_is_sent_again()
     ensures kept { (site : Site) (w : World) (node : ℕ) (request : Request) (words : List ℤ) (k : Which) (pair : Pair)
         → IsCopyAt w node request.process k pair
@@ -144,6 +151,9 @@ pub fn a_kept_reply_is_sent_again()
     ensures watching { (site : Site) (w : World) (node : ℕ) (request : Request) (k : Which) (pair : Pair)
         → IsCopyAt w node request.process k pair
         → (copy_of k pair).role ≡ Watching → sendings_of (handed_done site node (Asking request) w) ≡ [] }
+    ensures blank { (site : Site) (w : World) (node : ℕ) (request : Request) (k : Which) (pair : Pair)
+        → IsCopyAt w node request.process k pair
+        → (copy_of k pair).role ≡ Blank → sendings_of (handed_done site node (Asking request) w) ≡ [] }
     ensures gone { (site : Site) (w : World) (node : ℕ) (request : Request) (k : Which) (pair : Pair)
         → IsCopyAt w node request.process k pair
         → (copy_of k pair).role ≡ Gone → handed_done site node (Asking request) w ≡ None }
@@ -159,11 +169,23 @@ pub fn a_terminal_that_awaits_enters_nothing()
         → next_request site number terminal.entered ≡ None → enter_done site number w ≡ None }
 {}
 
-/// A processor that has stopped doesn't stop again, and one that isn't there doesn't stop.
+/// A processor that has stopped doesn't stop again, one that isn't there doesn't stop, and none stops in a world that
+/// isn't whole.
 pub fn a_processor_stops_once()
     ensures stopped { (w : World) (processor : ℕ) → slice_get w.stopped processor ≡ Some true
         → stop_done processor w ≡ None }
     ensures absent { (w : World) (processor : ℕ) → slice_get w.stopped processor ≡ None → stop_done processor w ≡ None }
+    ensures parts { (w : World) (processor : ℕ) → is_whole w ≡ false → stop_done processor w ≡ None }
+{}
+
+/// A processor is loaded again only where it has stopped and each node that runs has marked it, and 127 times at most.
+pub fn only_what_all_have_marked_is_loaded_again()
+    ensures running { (site : Site) (w : World) (processor : ℕ) → slice_get w.stopped processor ≡ Some false
+        → reload_done site processor w ≡ None }
+    ensures unmarked { (site : Site) (w : World) (processor : ℕ) → is_noted_by_all w processor ≡ false
+        → reload_done site processor w ≡ None }
+    ensures often { (site : Site) (w : World) (processor : ℕ) → slice_get w.reloads processor ≡ Some 127
+        → reload_done site processor w ≡ None }
 {}
 
 /// Only a processor that has stopped is marked, once by a node, which runs.

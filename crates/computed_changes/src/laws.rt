@@ -1,15 +1,16 @@
-ghost use Rattle.std.specs.Prelude.{◌≡◌, ℕ, ◌<◌, Bool, true, List, length, slice_get, Some, None};
+ghost use Rattle.std.specs.Prelude.{◌≡◌, ℕ, ◌<◌, Bool, true, false, List, [], length, slice_get, Some, None};
 ghost use Rattle.gd_words.specs.Members.{IsAmong};
 ghost use Rattle.tal_tree.specs.declared.site.Site.{Site};
 ghost use Rattle.tal_tree.specs.declared.site.ProcessSpec.{ProcessSpec};
 ghost use Rattle.schedule.specs.declared.event.Event.{Event};
-ghost use Rattle.schedule.specs.declared.event.Event.TheVariants.{Enter, Deliver, Fail};
+ghost use Rattle.schedule.specs.declared.event.Event.TheVariants.{Enter, Deliver, Fail, Reload};
 ghost use Rattle.world_semantics.specs.plain_semantics.specs.Openers.{files_of};
 ghost use Rattle.world_semantics.specs.checkpoint_image.specs.declared.message.FileNumber.{FileNumber};
 ghost use Rattle.world_semantics.specs.checkpoint_image.specs.declared.message.ImageMessage.{ImageMessage};
 ghost use Rattle.world_semantics.specs.declared.which.Which.{Which};
-ghost use Rattle.world_semantics.specs.World.{Pair, World, copy_of};
+ghost use Rattle.world_semantics.specs.World.{Pair, World, copy_of, is_whole};
 ghost use Rattle.world_semantics.specs.Messages.{Message, Sending, Entering, Handing, Stopping, NotingDown};
+ghost use Rattle.world_semantics.specs.Messages.{Reloading};
 ghost use Rattle.world_semantics.specs.Rules.{Change};
 ghost use Rattle.world_semantics.specs.Follows.{Follows, IsIdleFor, IsRun};
 ghost use Rattle.world_semantics.specs.Laws.{WasSent};
@@ -17,7 +18,7 @@ ghost use Rattle.world_semantics.specs.Running.{Done, world_after, sendings_of};
 ghost use Rattle.computed_changes.specs.Entered.{enter_done};
 ghost use Rattle.computed_changes.specs.Fitting.{depths_of, fits};
 ghost use Rattle.computed_changes.specs.Handed.{handed_done};
-ghost use Rattle.computed_changes.specs.Stopped.{stop_done, down_done};
+ghost use Rattle.computed_changes.specs.Stopped.{stop_done, down_done, reload_done};
 ghost use Rattle.computed_changes.specs.Laws.{HasCopiesApart, IsSent, FitsWhereItComes};
 
 /// A message that was sent makes the change that is computed where it is handed over.
@@ -74,7 +75,8 @@ pub fn an_entry_is_computed()
         (world_after w (enter_done site number w)) }
 {}
 
-/// A stop makes the change that is computed, no other, and none where none is.
+/// A stop makes the change that is computed, no other, and none where none is. Nothing follows where a processor would
+/// stop in a world that isn't whole.
 pub fn a_stop_is_computed()
     ensures made { (site : Site) (w : World) (processor : ℕ) (done : Done) → stop_done processor w ≡ Some done
         → Change site w (Stopping processor) done.sendings done.world }
@@ -84,8 +86,25 @@ pub fn a_stop_is_computed()
     ensures none { (site : Site) (w : World) (processor : ℕ) → stop_done processor w ≡ None
         → IsIdleFor site w (Stopping processor) }
     ensures follows { (site : Site) (w : World) (processor : ℕ)
+        → (slice_get w.stopped processor ≡ Some false → is_whole w ≡ true)
         → Follows site w (Fail processor) (sendings_of (stop_done processor w))
         (world_after w (stop_done processor w)) }
+    ensures ends { (site : Site) (w next : World) (processor : ℕ) (sendings : List Sending)
+        → slice_get w.stopped processor ≡ Some false → is_whole w ≡ false
+        → Follows site w (Fail processor) sendings next → ⊥ }
+{}
+
+/// A reload makes the change that is computed, no other, and none where none is.
+pub fn a_reload_is_computed()
+    ensures made { (site : Site) (w : World) (processor : ℕ) (done : Done) → reload_done site processor w ≡ Some done
+        → Change site w (Reloading processor) done.sendings done.world }
+    ensures only { (site : Site) (w next : World) (processor : ℕ) (sendings : List Sending)
+        → Change site w (Reloading processor) sendings next
+        → reload_done site processor w ≡ Some (record { world = next; sendings = sendings }) }
+    ensures none { (site : Site) (w : World) (processor : ℕ) → reload_done site processor w ≡ None
+        → IsIdleFor site w (Reloading processor) }
+    ensures follows { (site : Site) (w : World) (processor : ℕ)
+        → Follows site w (Reload processor) [] (world_after w (reload_done site processor w)) }
 {}
 
 /// A mark makes the change that is computed, no other, and none where none is.

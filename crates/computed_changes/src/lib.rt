@@ -1,5 +1,6 @@
 //! Changes of the world of copies, computed: what a message does that is handed over, a terminal that enters, a
-//! processor that stops, and a node that marks one. `world_semantics` has the same for a process that runs.
+//! processor that stops or is loaded again, and a node that marks one. `world_semantics` has the same for a process
+//! that runs.
 //!
 //! Below stand `world_semantics`, whose rules say which changes are permitted, and `sync_ids`, whose tables say which
 //! checkpoints fit. The layer above computes these functions, and uses the laws of this crate: what is computed is
@@ -10,6 +11,7 @@ pub mod guards;
 pub mod laws;
 
 pub use laws::{
-    a_handing_has_one_outcome, a_handing_is_computed, a_mark_is_computed, a_sent_checkpoint_fits,
-    a_stop_is_computed, an_entry_is_computed, what_copies_send_names_their_process,
+    a_handing_has_one_outcome, a_handing_is_computed, a_mark_is_computed, a_reload_is_computed,
+    a_sent_checkpoint_fits, a_stop_is_computed, an_entry_is_computed,
+    what_copies_send_names_their_process,
 };

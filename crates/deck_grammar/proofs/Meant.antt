@@ -161,6 +161,8 @@ module _ (outline : Outline) (site : Site) (processes : AreThere outline.process
       tested (nat_lt node outline.processors || nat_eq node 16) (line.One (event.Tick node)) told e
   line_meant (asked.Fail processor) told e =
       tested (nat_lt processor outline.processors) (line.One (event.Fail processor)) told e
+  line_meant (asked.Reload processor) told e =
+      tested (nat_lt processor outline.processors) (line.One (event.Reload processor)) told e
   line_meant (asked.Drive name drive change) told e =
       ap (option_map (λ place. line.One (event.Drive (record { process = place; drive = drive; change = change }))))
       (sym (mirrors name)) ∙ e

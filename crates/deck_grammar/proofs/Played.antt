@@ -121,6 +121,14 @@ module _ (outline : Outline) (site : Site) (sums : Sums) (same : outline.process
         where_true sums 1 0 (nat_lt processor outline.processors) (more_singles sums 1) fault.NoProcessor there
             (singles_more sums 1 few),
       ))
+  line_added (asked.Reload processor) told e =
+      subst (IsAdded (asked.Reload processor)) (some_same _ told e)
+      (λ of few brief.
+      let there = node_there processor of in (
+        ap (λ (c : Bool). cond c (Some (line.One (event.Reload processor))) None) there,
+        where_true sums 1 0 (nat_lt processor outline.processors) (more_singles sums 1) fault.NoProcessor there
+            (singles_more sums 1 few),
+      ))
   line_added (asked.Drive name drive change) told e =
       let one = λ (place : ℕ). line.One (event.Drive (record { process = place; drive = drive; change = change })) in
       let found = mapped one (mirror_at site name) told e in

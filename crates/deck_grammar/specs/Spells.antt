@@ -105,6 +105,7 @@ line_of site (asked.Lose packet) = Some (line.One (event.Lose packet.y packet.k)
 line_of site (asked.Repeat packet) = Some (line.One (event.Repeat packet.y packet.k))
 line_of site (asked.Tick node) = Some (line.One (event.Tick node))
 line_of site (asked.Fail processor) = Some (line.One (event.Fail processor))
+line_of site (asked.Reload processor) = Some (line.One (event.Reload processor))
 line_of site (asked.Drive name drive change) = option_map
     (λ place. line.One (event.Drive (record { process = place; drive = drive; change = change })))
     (mirror_at site name)

@@ -1,6 +1,6 @@
 -- Bytes that spell no deck, and bytes that spell one.
-use Rattle.std.proofs.Common.{◌≡◌, ℕ, ◌≤◌, Bool, true, false, List, [], ◌∷◌, length, nat_le, Some, is_some, refl, sym, ap}
-use Rattle.std.proofs.Common.{◌∙◌, true≢false, arith, leb-true, ⊎_elim, codes, pos, negsuc, inl, inr}
+use Rattle.std.proofs.Common.{◌≡◌, ℕ, ◌≤◌, Bool, true, false, List, [], ◌∷◌, length, nat_le, Some, is_some, refl, sym}
+use Rattle.std.proofs.Common.{◌∙◌, ap, true≢false, arith, leb-true, ⊎_elim, codes, pos, negsuc, inl, inr}
 use Rattle.std.specs.List.{All, AllZip}
 use Rattle.std.proofs.lemmas.List.Elements.{All-cons, All-nil}
 use Rattle.schedule.specs.declared.event.Event.TheVariants as event

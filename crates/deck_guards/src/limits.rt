@@ -53,6 +53,11 @@ pub fn an_event_keeps_its_limits()
     ensures other_tick { SpellNone (with_events (codes "tick 3" ∷ [])) }
     ensures fail { SpellNone (with_events (codes "fail 3" ∷ [])) }
     ensures fail_of_the_terminals { SpellNone (with_events (codes "fail 16" ∷ [])) }
+    ensures reload { LinesSpell (with_events (codes "reload 2" ∷ codes "fail 2" ∷ []))
+        (bare 3 (line.One (event.Reload 2) ∷ line.One (event.Fail 2) ∷ [])) }
+    ensures other_reload { SpellNone (with_events (codes "reload 3" ∷ [])) }
+    ensures reload_of_the_terminals { SpellNone (with_events (codes "reload 16" ∷ [])) }
+    ensures reload_often { SpellNone (with_events (codes "reload 2 2" ∷ [])) }
     ensures mute { SpellNone (with_events (codes "mute 3 1" ∷ [])) }
     ensures never { SpellNone (codes "processors 3" ∷ codes "disc $D 0 1 8" ∷ codes "schedule" ∷ codes "run $D 0"
         ∷ codes "END" ∷ []) }

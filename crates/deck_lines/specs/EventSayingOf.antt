@@ -56,6 +56,10 @@ tick_said parts = option_and_then (λ word. option_map said.Tick (written_number
 abbrev pub fail_said : List (List ℕ) → Option EventSaying
 fail_said parts = option_and_then (λ word. option_map said.Fail (written_number word)) (one_word parts)
 
+-- `reload P`
+abbrev pub reload_said : List (List ℕ) → Option EventSaying
+reload_said parts = option_and_then (λ word. option_map said.Reload (written_number word)) (one_word parts)
+
 -- a drive is 0 or 1
 abbrev pub drive_of : List ℕ → Option ℕ
 drive_of word = option_and_then (λ drive. if nat_lt drive 2 then Some drive else None) (written_number word)
@@ -127,6 +131,7 @@ event_said parts key.Lose = lose_said parts
 event_said parts key.Repeat = repeat_said parts
 event_said parts key.Tick = tick_said parts
 event_said parts key.Fail = fail_said parts
+event_said parts key.Reload = reload_said parts
 event_said parts (key.Drive change) = drive_said parts change
 event_said parts key.Drain = drain_said parts
 event_said parts key.Mix = mix_said parts

@@ -26,6 +26,7 @@ event_keyword_of word =
     else if bytes_eq word (codes "repeat") then Some event.Repeat
     else if bytes_eq word (codes "tick") then Some event.Tick
     else if bytes_eq word (codes "fail") then Some event.Fail
+    else if bytes_eq word (codes "reload") then Some event.Reload
     else if bytes_eq word (codes "break") then Some (event.Drive Break)
     else if bytes_eq word (codes "revive") then Some (event.Drive Revive)
     else if bytes_eq word (codes "copy") then Some (event.Drive Copy)

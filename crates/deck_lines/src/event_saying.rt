@@ -3,7 +3,8 @@ ghost use Rattle.deck_lines.specs.Lines.{words_of};
 ghost use Rattle.deck_lines.specs.EventSayingOf.{is_y_of, packet_of, is_writes_of, rounds_with, run_of, run_said};
 ghost use Rattle.deck_lines.specs.EventSayingOf.{enter_said, deliver_said, lose_said, repeat_said, tick_said};
 ghost use Rattle.deck_lines.specs.EventSayingOf.{copies_said, copy_said, drive_named, drive_of, drive_said};
-ghost use Rattle.deck_lines.specs.EventSayingOf.{fail_said, drain_said, mix_said, mute_said, until_said, event_said};
+ghost use Rattle.deck_lines.specs.EventSayingOf.{fail_said, reload_said, drain_said, mix_said, mute_said};
+ghost use Rattle.deck_lines.specs.EventSayingOf.{until_said, event_said};
 
 use crate::lines::{is_blank, next_word, one_word, three_words, two_words};
 use crate::numbers::written_number;
@@ -20,6 +21,7 @@ pub enum EventKeyword {
     Repeat,
     Tick,
     Fail,
+    Reload,
     Drive(DriveChange),
     Drain,
     Mix,
@@ -53,6 +55,8 @@ pub enum EventSaying {
     Tick(u32),
     /// The stop of a processor.
     Fail(u32),
+    /// A processor is loaded again.
+    Reload(u32),
     /// A change of a drive, 0 or 1, of a mirrored disc.
     Drive {
         name: Name,
@@ -93,6 +97,7 @@ pub fn event_said(key: EventKeyword, parts: &[u8]) -> Option<EventSaying>
         EventKeyword::Repeat => repeat(parts),
         EventKeyword::Tick => tick(parts),
         EventKeyword::Fail => fail(parts),
+        EventKeyword::Reload => reload(parts),
         EventKeyword::Drive(change) => drive(change, parts),
         EventKeyword::Drain => drain(parts),
         EventKeyword::Mix => mix(parts),
@@ -186,6 +191,14 @@ fn fail(parts: &[u8]) -> Option<EventSaying>
     let word = one_word(parts)?;
     let processor = written_number(word)?;
     Some(EventSaying::Fail(processor))
+}
+
+fn reload(parts: &[u8]) -> Option<EventSaying>
+    ensures { result ≡ reload_said (words_of parts.now) }
+{
+    let word = one_word(parts)?;
+    let processor = written_number(word)?;
+    Some(EventSaying::Reload(processor))
 }
 
 fn drive(change: DriveChange, parts: &[u8]) -> Option<EventSaying>

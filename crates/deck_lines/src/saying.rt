@@ -156,6 +156,8 @@ fn event_keyword_of(word: &[u8]) -> Option<EventKeyword>
         Some(EventKeyword::Tick)
     } else if word == b"fail".as_slice() {
         Some(EventKeyword::Fail)
+    } else if word == b"reload".as_slice() {
+        Some(EventKeyword::Reload)
     } else if word == b"break".as_slice() {
         Some(EventKeyword::Drive(DriveChange::Break))
     } else if word == b"revive".as_slice() {

@@ -39,6 +39,7 @@ singles_asked (asked.Lose place) = 1
 singles_asked (asked.Repeat place) = 1
 singles_asked (asked.Tick node) = 1
 singles_asked (asked.Fail processor) = 1
+singles_asked (asked.Reload processor) = 1
 singles_asked (asked.Drive name drive change) = 1
 singles_asked (asked.CopyTimes name drive times) = times
 singles_asked _ = 0
@@ -114,6 +115,8 @@ asks_more processors sums (asked.Tick node) few =
     where_true sums 1 0 fault.NoProcessor (nat_lt node processors || nat_eq node 16) (more_singles sums 1)
     (singles_more sums 1 few)
 asks_more processors sums (asked.Fail processor) few =
+    where_true sums 1 0 fault.NoProcessor (nat_lt processor processors) (more_singles sums 1) (singles_more sums 1 few)
+asks_more processors sums (asked.Reload processor) few =
     where_true sums 1 0 fault.NoProcessor (nat_lt processor processors) (more_singles sums 1) (singles_more sums 1 few)
 asks_more processors sums (asked.Drive name drive change) few = singles_more sums 1 few
 asks_more processors sums (asked.CopyTimes name drive times) few =
@@ -224,6 +227,8 @@ line_asked outline saying line e = by saying e
     by (asked.Tick node) same = of_test (P 1 0) _ (told.One (event.Tick node)) line
         (λ e. record { of_site = tick_of outline.processors node e; singles = refl; rounds = refl }) same
     by (asked.Fail processor) same = of_test (P 1 0) _ (told.One (event.Fail processor)) line
+        (λ e. record { of_site = ltb-true _ _ e; singles = refl; rounds = refl }) same
+    by (asked.Reload processor) same = of_test (P 1 0) _ (told.One (event.Reload processor)) line
         (λ e. record { of_site = ltb-true _ _ e; singles = refl; rounds = refl }) same
     by (asked.Drive name drive change) same =
         of_mirror (P 1 0)

@@ -35,6 +35,11 @@ tick_line processors node = if nat_lt node processors || node == 16 then Some (l
 abbrev pub fail_line : ℕ → ℕ → Option Line
 fail_line processors processor = if nat_lt processor processors then Some (line.One (event.Fail processor)) else None
 
+-- the reload of a processor of the site
+abbrev pub reload_line : ℕ → ℕ → Option Line
+reload_line processors processor =
+    if nat_lt processor processors then Some (line.One (event.Reload processor)) else None
+
 abbrev pub is_mirror : Body → Bool
 is_mirror (body.Disc sectors mirrored) = mirrored
 is_mirror (body.Pair lines) = false
@@ -79,6 +84,7 @@ event_line outline (said.Lose place) = Some (line.One (event.Lose place.y place.
 event_line outline (said.Repeat place) = Some (line.One (event.Repeat place.y place.k))
 event_line outline (said.Tick node) = tick_line outline.processors node
 event_line outline (said.Fail processor) = fail_line outline.processors processor
+event_line outline (said.Reload processor) = reload_line outline.processors processor
 event_line outline (said.Drive name drive change) = drive_line outline name drive change
 event_line outline (said.CopyTimes name drive times) = copy_times_line outline name drive times
 event_line outline (said.Drain rounds) = Some (line.Drain rounds)

@@ -90,9 +90,10 @@ abbrev pub tick_asks : ℕ → Sums → ℕ → Result Sums LineFault
 tick_asks processors sums node =
     if nat_lt node processors || node == 16 then more_singles sums 1 else Err fault.NoProcessor
 
--- `fail P`: a processor of the site
-abbrev pub fail_asks : ℕ → Sums → ℕ → Result Sums LineFault
-fail_asks processors sums processor = if nat_lt processor processors then more_singles sums 1 else Err fault.NoProcessor
+-- `fail P` and `reload P`: a processor of the site
+abbrev pub processor_asks : ℕ → Sums → ℕ → Result Sums LineFault
+processor_asks processors sums processor =
+    if nat_lt processor processors then more_singles sums 1 else Err fault.NoProcessor
 
 -- `mute P R`: a processor of the site
 abbrev pub mute_asks : ℕ → Sums → ℕ → ℕ → Result Sums LineFault
@@ -108,7 +109,8 @@ asks processors sums (said.Deliver place) = more_singles sums 1
 asks processors sums (said.Lose place) = more_singles sums 1
 asks processors sums (said.Repeat place) = more_singles sums 1
 asks processors sums (said.Tick node) = tick_asks processors sums node
-asks processors sums (said.Fail processor) = fail_asks processors sums processor
+asks processors sums (said.Fail processor) = processor_asks processors sums processor
+asks processors sums (said.Reload processor) = processor_asks processors sums processor
 asks processors sums (said.Drive name drive change) = more_singles sums 1
 asks processors sums (said.CopyTimes name drive times) = times_asks sums times
 asks processors sums (said.Drain rounds) = more_rounds sums rounds

@@ -41,7 +41,7 @@ abbrev pub IsNodeOf : ℕ → ℕ → Type 0
 IsNodeOf processors node = (node < processors) ⊎ (node ≡ 16)
 
 -- an event of a site with so many processors, processes and terminals: a step of a process, the next request of a
--- terminal, what becomes of a packet, the tick of a node, the stop of a processor or what befalls a drive
+-- terminal, what becomes of a packet, the tick of a node, the stop or the reload of a processor or what befalls a drive
 abbrev pub IsEventOf : ℕ → ℕ → ℕ → Event → Type 0
 IsEventOf processors processes terminals (event.Run place) = place < processes
 IsEventOf processors processes terminals (event.Enter place) = place < terminals
@@ -50,6 +50,7 @@ IsEventOf processors processes terminals (event.Lose y k) = Unit {0}
 IsEventOf processors processes terminals (event.Repeat y k) = Unit {0}
 IsEventOf processors processes terminals (event.Tick node) = IsNodeOf processors node
 IsEventOf processors processes terminals (event.Fail node) = node < processors
+IsEventOf processors processes terminals (event.Reload node) = node < processors
 IsEventOf processors processes terminals (event.Drive one) = one.process < processes
 
 -- one such event, one or more steps of a process or copies of a sector, or rounds; those that lose alive packets lose

@@ -1,8 +1,8 @@
 ghost use Rattle.std.specs.Prelude.{◌≡◌, ◌≤◌, length, Some};
 ghost use Rattle.schedule.specs.declared.event.Event.TheVariants as event;
 ghost use Rattle.schedule.specs.declared.line.Line.TheVariants as line;
-ghost use Rattle.deck_reader.specs.EventLineOf.{run_line, run_times_line, enter_line, tick_line, fail_line, mute_line};
-ghost use Rattle.deck_reader.specs.EventLineOf.{copy_times_line, drive_line, event_line};
+ghost use Rattle.deck_reader.specs.EventLineOf.{run_line, run_times_line, enter_line, tick_line, fail_line};
+ghost use Rattle.deck_reader.specs.EventLineOf.{copy_times_line, drive_line, event_line, mute_line, reload_line};
 ghost use Rattle.deck_reader.specs.Few.{AreFew};
 
 use crate::outline::{Outline, mirror_of, place_of};
@@ -28,6 +28,7 @@ pub fn event_line(outline: &Outline, saying: EventSaying) -> Option<Line>
         EventSaying::Repeat(place) => repeat_line(place),
         EventSaying::Tick(node) => tick_line(outline.processors, node),
         EventSaying::Fail(processor) => fail_line(outline.processors, processor),
+        EventSaying::Reload(processor) => reload_line(outline.processors, processor),
         EventSaying::Drive {
             name,
             drive,
@@ -146,6 +147,16 @@ fn fail_line(processors: u8, processor: u32) -> Option<Line>
 {
     if processor < u32::from(processors) {
         Some(Line::One(Event::Fail(processor as u8)))
+    } else {
+        None
+    }
+}
+
+fn reload_line(processors: u8, processor: u32) -> Option<Line>
+    ensures { result ≡ reload_line processors processor }
+{
+    if processor < u32::from(processors) {
+        Some(Line::One(Event::Reload(processor as u8)))
     } else {
         None
     }

@@ -1,6 +1,6 @@
 ghost use Rattle.std.specs.Prelude.{◌≡◌};
 ghost use Rattle.deck_reader.specs.LineFaults.{heading_of, disc_of, terminal_of, more_singles, more_rounds, tick_asks};
-ghost use Rattle.deck_reader.specs.LineFaults.{fail_asks, mute_asks, times_asks, asks};
+ghost use Rattle.deck_reader.specs.LineFaults.{processor_asks, mute_asks, times_asks, asks};
 
 use crate::outline::{
     Body, Heading, Outline, ProcessLines, Sums, TerminalLines, is_new, process_with,
@@ -148,7 +148,8 @@ pub fn asks(processors: u8, sums: Sums, saying: &EventSaying) -> Result<Sums, Li
         EventSaying::Lose(_) => more_singles(sums, 1),
         EventSaying::Repeat(_) => more_singles(sums, 1),
         EventSaying::Tick(node) => tick_asks(processors, sums, *node),
-        EventSaying::Fail(processor) => fail_asks(processors, sums, *processor),
+        EventSaying::Fail(processor) => processor_asks(processors, sums, *processor),
+        EventSaying::Reload(processor) => processor_asks(processors, sums, *processor),
         EventSaying::Drive { .. } => more_singles(sums, 1),
         EventSaying::CopyTimes { times, .. } => times_asks(sums, *times),
         EventSaying::Drain(rounds) => more_rounds(sums, *rounds),
@@ -181,8 +182,8 @@ fn tick_asks(processors: u8, sums: Sums, node: u32) -> Result<Sums, LineFault>
     }
 }
 
-fn fail_asks(processors: u8, sums: Sums, processor: u32) -> Result<Sums, LineFault>
-    ensures { result ≡ fail_asks processors sums processor }
+fn processor_asks(processors: u8, sums: Sums, processor: u32) -> Result<Sums, LineFault>
+    ensures { result ≡ processor_asks processors sums processor }
 {
     if processor < u32::from(processors) {
         more_singles(sums, 1)

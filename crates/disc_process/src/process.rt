@@ -101,6 +101,10 @@ impl Behaviour for DiscProcess {
         &self.listed
     }
 
+    fn everything(&self) -> &Listed {
+        &self.listed
+    }
+
     fn marked(&mut self) {
         self.progress.marked();
     }

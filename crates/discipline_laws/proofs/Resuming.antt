@@ -1,7 +1,8 @@
 -- What a process carries at a checkpoint restores it in any of its cores since the checkpoint before, where that lacks
 -- nothing that isn't named.
 use Rattle.std.proofs.Common.{◌≡◌, ℕ, ◌==◌, ◌&&◌, not, ℤ, Bool, true, false, List, [], ◌∷◌, ◌++◌, length, count_by}
-use Rattle.std.proofs.Common.{Option, Some, None, slice_get, refl, ap, subst, sym, ◌∙◌, arith}
+use Rattle.std.proofs.Common.{Option, Some, None, slice_get, refl, ap, subst, sym, ◌∙◌, arith, if◌then◌else◌, inl, inr}
+use Rattle.std.proofs.Common.{suc, zero, ◌+◌, ◌≢◌}
 use Rattle.std.specs.Prelude.{cond}
 use Rattle.std.proofs.lemmas.Bool.{or_parts}
 use Rattle.std.proofs.lemmas.List.{length-append}
@@ -15,31 +16,45 @@ use Rattle.tal_tree.specs.declared.program.Program.{Program}
 use Rattle.tal_tree.specs.declared.site.Kind.TheVariants as kind
 use Rattle.tal_tree.specs.declared.site.ProcessSpec.{ProcessSpec}
 use Rattle.tal_tree.specs.declared.site.Site.{Site}
-use Rattle.tal_tree.specs.declared.statement.What.{out-What}
+use Rattle.tal_tree.specs.declared.statement.What.{out-What, What, What-F}
+use Rattle.tal_tree.specs.Named.{IsProcess}
+use Rattle.tal_tree.specs.declared.program.FileUse.{FileUse}
+use Rattle.tal_tree.specs.declared.program.Target.TheVariants as target
+use Rattle.tal_tree.specs.declared.site.Kind.{Kind}
+use Rattle.tal_tree.specs.declared.statement.Statement.{Statement}
 use Rattle.process_semantics.specs.declared.point.Point.TheVariants as point
 use Rattle.process_semantics.specs.Image.{listed_items, listed_files, listed_items_in, listed_files_in}
 use Rattle.process_semantics.specs.Process as process
 use Rattle.process_semantics.specs.Process.{ProcessState, Runs, Serves}
 use Rattle.process_semantics.specs.State.{ProgramState}
-use Rattle.process_semantics.proofs.Points.{in-next}
-use Rattle.checkpoint_laws.specs.process_images.specs.Images.{AgreeBut, Agrees}
+use Rattle.process_semantics.proofs.Points.{in-next, AtCall, at_ask, stands-at}
+use Rattle.process_semantics.specs.Calls.{asked_file, file_in}
+use Rattle.process_semantics.specs.Points.{point_of}
+use Rattle.checkpoint_laws.specs.process_images.specs.Images.{AgreeBut, Agrees, AreOfOne, all_files_of, asking_from}
+use Rattle.checkpoint_laws.specs.process_images.specs.Images.{asks_a_process}
 use Rattle.whole_states.specs.Processes.{IsRegularKind}
-use Rattle.checkpoint_laws.proofs.Putting.{put-whole}
-use Rattle.world_semantics.specs.Core.{Core, Deed, after_passing, carried, put_in}
+use Rattle.whole_states.proofs.Frames.{IsRegularSomewhere, next-regular}
+use Rattle.whole_states.specs.Whole.{AreFrames, IsWhole}
+use Rattle.checkpoint_laws.proofs.Putting.{put-whole, put-everything}
+use Rattle.world_semantics.specs.Core.{Core, Deed, after_passing, carried, put_in, acts, answers, asks, carried_whole}
+use Rattle.world_semantics.specs.Core.{gets, goes, imaged_core, marks, takes}
+use Rattle.world_semantics.proofs.Lists.{some-same}
 use Rattle.path_semantics.specs.Accepted.{IsAccepted}
 use Rattle.path_semantics.specs.Break.{breaks_by}
 use Rattle.path_semantics.specs.declared.reason.Reason.TheVariants.{Data, SyncBlock}
 use Rattle.process_histories.specs.Bounds.{AreBounded}
-use Rattle.process_histories.specs.Histories.{HasDone}
+use Rattle.process_histories.specs.Histories.{HasDone, kind_of, nothing_done, one_more, unmirrored}
 use Rattle.process_histories.specs.Words.{ask_on, requests_on}
-use Rattle.process_histories.proofs.Counts.{done-stands, next-number}
-use Rattle.process_histories.proofs.OneKind.{files-same}
+use Rattle.process_histories.proofs.Counts.{done-stands, next-number, if-other}
+use Rattle.process_histories.proofs.OneKind.{files-same, done-kind}
 use Rattle.process_histories.proofs.Whole.{bounded-before, done-whole}
+use Rattle.process_histories.proofs.Steady.{IsSteady, done-steady}
 use Rattle.discipline_laws.specs.Disciplined.{AreUncheckpointed}
 use Rattle.discipline_laws.proofs.Covering.{none-more}
 use Rattle.discipline_laws.proofs.Standing.{IsCheckpointOf, checkpoint-of, IsSafe, runs, safe}
+use Rattle.plain_semantics.specs.Openers.{files_of}
 
-bounded-since : (since before : List Deed) → AreBounded (since ++ before) → AreBounded before
+pub bounded-since : (since before : List Deed) → AreBounded (since ++ before) → AreBounded before
 bounded-since [] before is = is
 bounded-since (deed ∷ since) before is = bounded-since since before (bounded-before is)
 
@@ -57,6 +72,63 @@ none-counted n (m ∷ ns) e =
 unlisted : (due named : Bool) → (not named && due) ≡ false → named ≡ false → due ≡ false
 unlisted due true e f = absurd (cc)
 unlisted due false e f = e
+
+-- the files that a process of a kind may ask on
+abbrev files_asked_by : Kind → List ℕ
+files_asked_by what = asking_from 0 (files_of what)
+
+all-files : (s : ProcessState) → all_files_of s ≡ files_asked_by (kind_of s)
+all-files (Runs program s) = refl
+all-files (Serves sectors s) = refl
+
+-- a file that is opened to a process is one of those
+process-listed : (from : ℕ) (files : List FileUse) (k : ℕ) (file : FileUse) (name : List ℕ)
+    → slice_get files k ≡ Some file → file.target ≡ target.Process name
+    → IsAmong (from + k) (asking_from from files)
+process-listed from [] k file name at is = absurd (cc)
+process-listed from (one ∷ files) zero file name at is =
+    let asks : asks_a_process one.target ≡ true =
+    ap (λ (f : FileUse). asks_a_process f.target) (some-same at) ∙ ap asks_a_process is in
+    rw asks (inl (omega arith))
+process-listed from (one ∷ files) (suc k) file name at is =
+    let rest : IsAmong (from + suc k) (asking_from (from + 1) files) =
+    (let more : (from + 1) + k ≡ from + suc k = omega arith in
+    subst (λ n. IsAmong n (asking_from (from + 1) files)) more
+    (process-listed (from + 1) files k file name at is)) in
+    later (asks_a_process one.target) rest
+  where
+    later : (b : Bool) → IsAmong (from + suc k) (asking_from (from + 1) files)
+        → IsAmong (from + suc k) (if b then from ∷ asking_from (from + 1) files else asking_from (from + 1) files)
+    later true rest = inr rest
+    later false rest = rest
+
+asked-process : (program : Program) (s : ProgramState) → IsRegular program → point_of program s ≡ point.Ask
+    → IsWhole program s → IsProcess program (asked_file s)
+asked-process program s regular at is =
+    let stands = stands-at program s point.Ask (λ same. cc) (λ same. cc) at in
+    let are = subst (AreFrames program) stands.frames is.frames in
+    subst (IsProcess program) (sym (in-next 0 file_in s.frames stands.statement stands.next))
+    (by (out-What stands.statement.what) stands.call
+    (next-regular stands.statement stands.rest regular are.0 stands.first))
+  where
+    by : (layer : What-F What Statement) → AtCall program s layer point.Ask → IsRegularSomewhere program layer
+        → IsProcess program (file_in layer)
+    by _ (at_ask file buffer send room got free good) there = there.regular.0
+
+asked-listed : (s : ProcessState) → IsSteady s → process.point s ≡ point.Ask
+    → IsAmong (process.asked_file s) (files_asked_by (kind_of s))
+asked-listed (Runs program s) steady at =
+    let is = asked-process program s steady.0 at steady.1 in
+    let zeros : 0 + asked_file s ≡ asked_file s = omega arith in
+    subst (λ n. IsAmong n (asking_from 0 program.files)) zeros
+    (process-listed 0 program.files (asked_file s) is.opened is.process is.there is.is)
+asked-listed (Serves sectors s) steady at = absurd (steady.1 at)
+
+of-one : (s t : ProcessState) → kind_of s ≡ kind_of t → AreOfOne s t
+of-one (Runs program s) (Runs other t) same = cc
+of-one (Runs program s) (Serves n t) same = absurd (cc)
+of-one (Serves n s) (Runs other t) same = absurd (cc)
+of-one (Serves n s) (Serves m t) same = cc
 
 module _ {site : Site} {number : ℕ} {spec : ProcessSpec} where
   -- the next number on a file on which nothing was asked since
@@ -82,6 +154,65 @@ module _ {site : Site} {number : ℕ} {spec : ProcessSpec} where
           let all = ap (length {A = List ℤ}) (filter_map-append (ask_on file) since before)
           ∙ length-append (requests_on file since) (requests_on file before) in
           let same : m ≡ n = omega (arith, first, now, all, none) in was ∙ ap Some same ∙ sym is
+
+  -- the next number on a file on which nothing was ever asked
+  unasked-next : {deeds before : List Deed} {core stale : Core} → HasDone site number spec deeds core
+      → HasDone site number spec before stale → (file : ℕ)
+      → length (requests_on file deeds) ≡ 0 → length (requests_on file before) ≡ 0
+      → slice_get stale.next file ≡ slice_get core.next file
+  unasked-next {core = core} {stale = stale} done old file none never =
+      by (slice_get stale.next file) (slice_get core.next file) refl refl
+    where
+      as-long : length stale.next ≡ length core.next
+      as-long = files-same old ∙ sym (files-same done)
+
+      by : (o c : Option ℕ) → slice_get stale.next file ≡ o → slice_get core.next file ≡ c
+          → slice_get stale.next file ≡ slice_get core.next file
+      by None None was is = was ∙ sym is
+      by None (Some n) was is = absurd (let there = slice_get_within core.next file n is in
+          let some = slice_get-get_or stale.next file 0 (omega (arith, there, as-long)) in let f = sym was ∙ some in cc)
+      by (Some m) None was is = absurd (let there = slice_get_within stale.next file m was in
+          let some = slice_get-get_or core.next file 0 (omega (arith, there, as-long)) in let f = sym is ∙ some in cc)
+      by (Some m) (Some n) was is =
+          let first = next-number old file m was in
+          let now = next-number done file n is in
+          let same : m ≡ n = omega (arith, first, now, none, never) in was ∙ ap Some same ∙ sym is
+
+  -- a process asks on files that are opened to a process alone
+  none-asked : {deeds : List Deed} {core : Core} → IsRegularKind spec.what → HasDone site number spec deeds core
+      → (file : ℕ) → (IsAmong file (files_asked_by (unmirrored spec.what)) → ⊥)
+      → length (requests_on file deeds) ≡ 0
+  none-asked regular nothing_done file apart = refl
+  none-asked regular (one_more done (goes at)) file apart = none-asked regular done file apart
+  none-asked regular (one_more done (marks at)) file apart = none-asked regular done file apart
+  none-asked regular (one_more done (takes block at there)) file apart = none-asked regular done file apart
+  none-asked regular (one_more done (gets at named)) file apart = none-asked regular done file apart
+  none-asked regular (one_more done (answers opener block at hand known there said)) file apart =
+      none-asked regular done file apart
+  none-asked regular (one_more done (acts at is)) file apart = none-asked regular done file apart
+  none-asked regular (one_more {before = core} done (asks {file = one} {words = words} at named said)) file apart =
+      let other : one ≢ file = λ e. apart (subst (λ w. IsAmong file (files_asked_by w)) (done-kind done)
+      (subst (λ n. IsAmong n (files_asked_by (kind_of core.state))) (sym named ∙ e)
+      (asked-listed core.state (done-steady regular done) at))) in
+      rw (if-other one file words other) (none-asked regular done file apart)
+
+  -- a checkpoint of everything restores a process anywhere but at Await, whatever the other copy has, and needs no
+  -- discipline
+  pub renew-from : (deeds before : List Deed) {core stale : Core} → IsRegularKind spec.what
+      → HasDone site number spec deeds core → AreBounded deeds → AreBounded before
+      → (process.point core.state ≡ point.Await → ⊥) → HasDone site number spec before stale
+      → put_in stale (carried_whole core) ≡ Some (imaged_core core)
+  renew-from deeds before {core = core} {stale = stale} regular done bounded short away old =
+      put-everything core stale (done-whole regular done bounded) (done-whole regular old short) away
+      (done-stands done).hand
+      (record {
+        state = of-one stale.state core.state (done-kind old ∙ sym (done-kind done));
+        files = files-same old ∙ sym (files-same done);
+        next = λ file apart. (let unlisted : IsAmong file (files_asked_by (unmirrored spec.what)) → ⊥ = λ among.
+            apart (subst (IsAmong file) (ap files_asked_by (sym (done-kind done)) ∙ sym (all-files core.state))
+            among) in
+            unasked-next done old file (none-asked regular done file unlisted) (none-asked regular old file unlisted));
+      })
 
   -- what isn't named differs nowhere
   pub resume-from : (since before : List Deed) {core stale : Core} → IsRegularKind spec.what

@@ -5,7 +5,8 @@ use Rattle.std.specs.Prelude.{None}
 use Rattle.std.specs.Option.{option_and_then, option_map}
 use Rattle.plain_semantics.specs.Openers.{openers_of}
 use Rattle.schedule.specs.declared.event.Event.{Event}
-use Rattle.schedule.specs.declared.event.Event.TheVariants.{Run, Enter, Deliver, Lose, Repeat, Tick, Fail, Drive}
+use Rattle.schedule.specs.declared.event.Event.TheVariants.{Run, Enter, Deliver, Lose, Repeat, Tick, Fail, Reload}
+use Rattle.schedule.specs.declared.event.Event.TheVariants.{Drive}
 use Rattle.machine_views.specs.site_machine.specs.packet_wires.specs.Play.{Packeted}
 use Rattle.tal_tree.specs.declared.act.Act.{Act}
 use Rattle.tal_tree.specs.declared.act.Act.TheVariants.{Step, Take, Enter as Entry, Print}
@@ -47,6 +48,7 @@ holding_of w (Lose y k) = None
 holding_of w (Repeat y k) = None
 holding_of w (Tick node) = None
 holding_of w (Fail processor) = None
+holding_of w (Reload processor) = None
 holding_of w (Drive one) = None
 
 -- After the event

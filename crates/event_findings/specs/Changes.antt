@@ -9,7 +9,8 @@ use Rattle.machine_views.specs.declared.views.DownView.{DownView}
 use Rattle.machine_views.specs.declared.views.TerminalView.{TerminalView}
 use Rattle.machine_views.specs.declared.views.View.{View}
 use Rattle.schedule.specs.declared.event.Event.{Event}
-use Rattle.schedule.specs.declared.event.Event.TheVariants.{Run, Enter, Deliver, Lose, Repeat, Tick, Fail, Drive}
+use Rattle.schedule.specs.declared.event.Event.TheVariants.{Run, Enter, Deliver, Lose, Repeat, Tick, Fail, Reload}
+use Rattle.schedule.specs.declared.event.Event.TheVariants.{Drive}
 use Rattle.tal_tree.specs.declared.site.Site.{Site}
 use Rattle.trace_lines.specs.declared.finding.Finding.{Finding}
 use Rattle.trace_lines.specs.declared.finding.Finding.TheVariants as finding
@@ -25,7 +26,7 @@ abbrev pub takeover_of : Site → CopyView → Finding
 takeover_of site after =
     finding.TakesOver after.process after.processor after.era (statement_of site after)
 
--- a copy that watches has the number of the last checkpoint that it put in
+-- a copy that watches has the number of the last checkpoint that it put in, and so has one that was blank
 abbrev pub applied : CopyView → CopyView → Option Finding
 applied before after =
     if nat_lt before.number after.number
@@ -34,11 +35,16 @@ applied before after =
 abbrev pub copy_found_as : Site → CopyView → CopyView → Role → Role → Option Finding
 copy_found_as site before after role.Watching role.Acting = Some (takeover_of site after)
 copy_found_as site before after role.Watching role.Watching = applied before after
+copy_found_as site before after role.Watching role.Blank = None
 copy_found_as site before after role.Watching role.Gone = None
+copy_found_as site before after role.Blank role.Watching = applied before after
+copy_found_as site before after role.Blank role.Blank = None
+copy_found_as site before after role.Blank role.Acting = None
+copy_found_as site before after role.Blank role.Gone = None
 copy_found_as site before after role.Acting now = None
 copy_found_as site before after role.Gone now = None
 
--- what a copy did that watched
+-- what a copy did that watched or was blank
 abbrev pub copy_found : Site → CopyView → CopyView → Option Finding
 copy_found site before after = copy_found_as site before after before.role after.role
 
@@ -77,6 +83,13 @@ stop_found before processor = if has_stopped before processor then [] else findi
 abbrev pub stops_found : List ℕ → List ℕ → List Finding
 stops_found before after = flat_map (stop_found before) after
 
+-- the processors that had stopped and run now
+abbrev pub reload_found : List ℕ → ℕ → List Finding
+reload_found after processor = if has_stopped after processor then [] else finding.Reloads processor ∷ []
+
+abbrev pub reloads_found : List ℕ → List ℕ → List Finding
+reloads_found before after = flat_map (reload_found after) before
+
 abbrev pub had_marked : List DownView → DownView → Bool
 had_marked before mark = list_any (λ one. one.node == mark.node && one.down == mark.down) before
 
@@ -101,6 +114,7 @@ own_found site (Lose y k) before after = None
 own_found site (Repeat y k) before after = None
 own_found site (Tick node) before after = None
 own_found site (Fail processor) before after = None
+own_found site (Reload processor) before after = None
 own_found site (Drive one) before after = None
 
 -- where the process stands still that was to run
@@ -112,11 +126,13 @@ still_found (Lose y k) view = None
 still_found (Repeat y k) view = None
 still_found (Tick node) view = None
 still_found (Fail processor) view = None
+still_found (Reload processor) view = None
 still_found (Drive one) view = None
 
 -- all that an event did between two views
 abbrev pub changes_found : Site → Event → View → View → List Finding
 changes_found site event before after =
     option_to_list (own_found site event before after) ++ sets_found site event before after
-    ++ stops_found before.stopped after.stopped ++ marks_found before.down after.down
+    ++ stops_found before.stopped after.stopped ++ reloads_found before.stopped after.stopped
+    ++ marks_found before.down after.down
     ++ copies_found site before.copies after.copies ++ waits_found before.copies after.copies

@@ -3,7 +3,8 @@ use Rattle.std.specs.Prelude.{[], slice_get, Option, Some, None}
 use Rattle.std.specs.Option.{unwrap_or}
 use Rattle.machine_states.specs.disc_device.specs.mirror.specs.States.{standing}
 use Rattle.schedule.specs.declared.event.Event.{Event}
-use Rattle.schedule.specs.declared.event.Event.TheVariants.{Run, Enter, Deliver, Lose, Repeat, Tick, Fail, Drive}
+use Rattle.schedule.specs.declared.event.Event.TheVariants.{Run, Enter, Deliver, Lose, Repeat, Tick, Fail, Reload}
+use Rattle.schedule.specs.declared.event.Event.TheVariants.{Drive}
 use Rattle.machine_views.specs.site_machine.specs.packet_wires.specs.Play.{Packeted}
 use Rattle.trace_lines.specs.declared.finding.Finding.{Finding}
 use Rattle.trace_lines.specs.declared.finding.Finding.TheVariants as finding
@@ -18,3 +19,4 @@ drive_found (Lose y k) next = None
 drive_found (Repeat y k) next = None
 drive_found (Tick node) next = None
 drive_found (Fail processor) next = None
+drive_found (Reload processor) next = None

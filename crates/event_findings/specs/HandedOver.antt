@@ -7,7 +7,8 @@ use Rattle.machine_views.specs.declared.views.CopyView.{CopyView}
 use Rattle.machine_views.specs.declared.views.View.{View}
 use Rattle.packet_words.specs.declared.packet.Packet.{Packet}
 use Rattle.schedule.specs.declared.event.Event.{Event}
-use Rattle.schedule.specs.declared.event.Event.TheVariants.{Run, Enter, Deliver, Lose, Repeat, Tick, Fail, Drive}
+use Rattle.schedule.specs.declared.event.Event.TheVariants.{Run, Enter, Deliver, Lose, Repeat, Tick, Fail, Reload}
+use Rattle.schedule.specs.declared.event.Event.TheVariants.{Drive}
 use Rattle.machine_views.specs.site_machine.specs.packet_wires.specs.Nodes.{end_at}
 use Rattle.machine_views.specs.site_machine.specs.packet_wires.specs.Play.{Packeted, packet_at}
 use Rattle.machine_views.specs.site_machine.specs.packet_wires.specs.Wires.{bus_named}
@@ -23,7 +24,7 @@ use Rattle.trace_lines.specs.declared.finding.WhyIgnored.{WhyIgnored}
 use Rattle.trace_lines.specs.declared.finding.WhyIgnored.TheVariants as why
 use Rattle.world_semantics.specs.declared.role.Role.{Role}
 use Rattle.world_semantics.specs.declared.role.Role.TheVariants as role
-use Rattle.event_findings.specs.Packets.{fate_of, message_of, sight_of, sort_of}
+use Rattle.event_findings.specs.Packets.{fate_of, message_of, sort_of}
 use Rattle.event_findings.specs.declared.noting.HandedOver.{HandedOver}
 
 -- Which message is handed over
@@ -45,6 +46,7 @@ has_come fate.Came = true
 has_come fate.CameAgain = false
 has_come fate.Dropped = false
 has_come fate.Refused = false
+has_come fate.Old = false
 has_come fate.Lost = false
 has_come fate.Repeated = false
 
@@ -54,7 +56,7 @@ handed_at node message = record { node = node; message = message }
 -- the message that a packet makes whole at the node to which it comes
 abbrev pub handed_with : Packeted → Event → Packet → Option HandedOver
 handed_with s event packet =
-    if has_come (fate_of s event (sight_of packet))
+    if has_come (fate_of s event packet)
     && makes_whole (sort_of packet.kind) (end_at s.wires.nodes packet.receiver packet.sender)
     then option_map (handed_at packet.receiver) (message_of s packet) else None
 
@@ -66,6 +68,7 @@ handed_over s (Lose y k) = None
 handed_over s (Repeat y k) = None
 handed_over s (Tick node) = None
 handed_over s (Fail processor) = None
+handed_over s (Reload processor) = None
 handed_over s (Drive one) = None
 
 -- What it does
@@ -76,7 +79,7 @@ copy_at process processor [] = None
 copy_at process processor (copy ∷ copies) =
     if (copy.process == process) && (copy.processor == processor) then Some copy else copy_at process processor copies
 
--- why a copy that watches ignores a checkpoint, if it does: it takes only the next one of its era
+-- why a copy that watches or is blank ignores a checkpoint, if it does: it takes only the next one of its era
 abbrev pub why_watching : CopyView → ℕ → ℕ → Option WhyIgnored
 why_watching copy era number =
     if era == copy.era then (if number == copy.number + 1 then None else Some why.NotNext) else Some why.OtherEra
@@ -84,6 +87,7 @@ why_watching copy era number =
 abbrev pub why_as : CopyView → ℕ → ℕ → Role → Option WhyIgnored
 why_as copy era number role.Acting = Some why.Acts
 why_as copy era number role.Watching = why_watching copy era number
+why_as copy era number role.Blank = why_watching copy era number
 why_as copy era number role.Gone = None
 
 abbrev pub ignores : CopyView → ℕ → WhyIgnored → Finding

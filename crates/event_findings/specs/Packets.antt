@@ -1,14 +1,15 @@
 -- The packet that an event names, and what became of it.
 use Rattle.std.specs.Prelude.{ℕ, ◌==◌, nat_le, ℤ, Bool, true, false, if◌then◌else◌, List, slice_get, Option, Some, None}
 use Rattle.std.specs.Option.{option_and_then, option_map}
-use Rattle.link_control.specs.Ends.{End}
+use Rattle.link_control.specs.Ends.{End, is_own}
 use Rattle.packet_words.specs.declared.packet.Packet.{Packet}
 use Rattle.packet_words.specs.declared.packet.PacketKind.{PacketKind}
 use Rattle.packet_words.specs.declared.packet.PacketKind.TheVariants as kind
 use Rattle.schedule.specs.declared.event.Event.{Event}
-use Rattle.schedule.specs.declared.event.Event.TheVariants.{Run, Enter, Deliver, Lose, Repeat, Tick, Fail, Drive}
+use Rattle.schedule.specs.declared.event.Event.TheVariants.{Run, Enter, Deliver, Lose, Repeat, Tick, Fail, Reload}
+use Rattle.schedule.specs.declared.event.Event.TheVariants.{Drive}
 use Rattle.machine_views.specs.site_machine.specs.packet_wires.specs.Nodes.{end_at}
-use Rattle.machine_views.specs.site_machine.specs.packet_wires.specs.Play.{Packeted, packet_at}
+use Rattle.machine_views.specs.site_machine.specs.packet_wires.specs.Play.{Packeted, is_current_at, packet_at}
 use Rattle.machine_views.specs.site_machine.specs.packet_wires.specs.Wires.{bus_named}
 use Rattle.trace_lines.specs.declared.finding.Fate.{Fate}
 use Rattle.trace_lines.specs.declared.finding.Fate.TheVariants as fate
@@ -38,6 +39,7 @@ named_packet s (Run process) = None
 named_packet s (Enter terminal) = None
 named_packet s (Tick node) = None
 named_packet s (Fail processor) = None
+named_packet s (Reload processor) = None
 named_packet s (Drive one) = None
 
 -- whether a piece of this number came to an end before: its pieces come in the order of their numbers
@@ -55,14 +57,22 @@ had_come (sort.Acknowledgement number) e = false
 abbrev pub taken_in : Bool → Fate
 taken_in before = if before then fate.CameAgain else fate.Came
 
--- a processor that has stopped drops what is delivered to it, and a node what comes of a processor that it has marked
-abbrev pub delivered_fate : Packeted → PacketSight → Fate
-delivered_fate s packet =
-    if is_running s.world.stopped packet.receiver
-    then (if has_noted s.world.marks packet.receiver packet.sender then fate.Refused
-    else taken_in (had_come packet.sort (end_at s.wires.nodes packet.receiver packet.sender))) else fate.Dropped
+-- a processor that has stopped drops what is delivered to it, and a node what was sent before a reload, and what comes
+-- of a processor that it has marked
+abbrev pub taken_fate : Packeted → Packet → Fate
+taken_fate s packet =
+    if has_noted s.world.marks packet.receiver packet.sender then fate.Refused
+    else taken_in (had_come (sort_of packet.kind) (end_at s.wires.nodes packet.receiver packet.sender))
 
-abbrev pub fate_of : Packeted → Event → PacketSight → Fate
+abbrev pub current_fate : Packeted → Packet → Fate
+current_fate s packet =
+    if is_current_at packet (end_at s.wires.nodes packet.receiver packet.sender) then taken_fate s packet else fate.Old
+
+abbrev pub delivered_fate : Packeted → Packet → Fate
+delivered_fate s packet =
+    if is_running s.world.stopped packet.receiver then current_fate s packet else fate.Dropped
+
+abbrev pub fate_of : Packeted → Event → Packet → Fate
 fate_of s (Lose y k) packet = fate.Lost
 fate_of s (Repeat y k) packet = fate.Repeated
 fate_of s (Deliver y k) packet = delivered_fate s packet
@@ -70,6 +80,7 @@ fate_of s (Run process) packet = fate.Came
 fate_of s (Enter terminal) packet = fate.Came
 fate_of s (Tick node) packet = fate.Came
 fate_of s (Fail processor) packet = fate.Came
+fate_of s (Reload processor) packet = fate.Came
 fate_of s (Drive one) packet = fate.Came
 
 -- the words of the message of which its sender has the piece of this number outstanding
@@ -82,15 +93,20 @@ words_for kind.Alive e = None
 words_for (kind.Piece number piece) e = outstanding_at number e
 words_for (kind.Acknowledgement number) e = None
 
+-- the end that sent a packet, unless it was made new since
+abbrev pub end_of : Packet → Option End → Option End
+end_of packet None = None
+end_of packet (Some e) = if is_own packet e then Some e else None
+
 -- the message of which a packet is a piece, if its sender has that outstanding
 abbrev pub message_of : Packeted → Packet → Option MessageName
 message_of s packet =
     option_and_then (message_named s.site)
-    (words_for packet.kind (end_at s.wires.nodes packet.sender packet.receiver))
+    (words_for packet.kind (end_of packet (end_at s.wires.nodes packet.sender packet.receiver)))
 
 abbrev pub packet_found : Packeted → Event → Packet → Finding
 packet_found s event packet =
-    finding.Packet (sight_of packet) (fate_of s event (sight_of packet)) (message_of s packet)
+    finding.Packet (sight_of packet) (fate_of s event packet) (message_of s packet)
 
 -- what became of the packet that an event names, if there is one
 abbrev pub named_found : Packeted → Event → Option Finding
@@ -116,4 +132,5 @@ may_change s (Run process) = true
 may_change s (Enter terminal) = true
 may_change s (Tick node) = true
 may_change s (Fail processor) = true
+may_change s (Reload processor) = true
 may_change s (Drive one) = false

@@ -9,7 +9,8 @@ use Rattle.machine_views.specs.declared.views.CopyView.{CopyView}
 use Rattle.machine_views.specs.declared.views.View.{View}
 use Rattle.packet_words.specs.Pieces.{pieces}
 use Rattle.schedule.specs.declared.event.Event.{Event}
-use Rattle.schedule.specs.declared.event.Event.TheVariants.{Run, Enter, Deliver, Lose, Repeat, Tick, Fail, Drive}
+use Rattle.schedule.specs.declared.event.Event.TheVariants.{Run, Enter, Deliver, Lose, Repeat, Tick, Fail, Reload}
+use Rattle.schedule.specs.declared.event.Event.TheVariants.{Drive}
 use Rattle.machine_views.specs.site_machine.specs.packet_wires.specs.Nodes.{Node, all_nodes, end_at}
 use Rattle.machine_views.specs.site_machine.specs.packet_wires.specs.Play.{Packeted, packet_at}
 use Rattle.machine_views.specs.site_machine.specs.packet_wires.specs.Wires.{bus_named}
@@ -37,6 +38,7 @@ sender_of s (Lose y k) view = None
 sender_of s (Repeat y k) view = None
 sender_of s (Tick node) view = Some node
 sender_of s (Fail processor) view = None
+sender_of s (Reload processor) view = None
 sender_of s (Drive one) view = None
 
 -- how many messages wait at an end, if there is one
@@ -54,6 +56,7 @@ sends_again (Enter terminal) = false
 sends_again (Lose y k) = false
 sends_again (Repeat y k) = false
 sends_again (Fail processor) = false
+sends_again (Reload processor) = false
 sends_again (Drive one) = false
 
 abbrev pub queued_for : List Node → Bool → ℕ → ℕ → Queued

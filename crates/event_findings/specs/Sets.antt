@@ -5,7 +5,8 @@ use Rattle.global_changes.specs.declared.changes.WordSet.{WordSet}
 use Rattle.machine_views.specs.declared.views.CopyView.{CopyView}
 use Rattle.machine_views.specs.declared.views.View.{View}
 use Rattle.schedule.specs.declared.event.Event.{Event}
-use Rattle.schedule.specs.declared.event.Event.TheVariants.{Run, Enter, Deliver, Lose, Repeat, Tick, Fail, Drive}
+use Rattle.schedule.specs.declared.event.Event.TheVariants.{Run, Enter, Deliver, Lose, Repeat, Tick, Fail, Reload}
+use Rattle.schedule.specs.declared.event.Event.TheVariants.{Drive}
 use Rattle.tal_tree.specs.declared.site.Kind.{Kind}
 use Rattle.tal_tree.specs.declared.site.Kind.TheVariants as kind
 use Rattle.tal_tree.specs.declared.site.ProcessSpec.{ProcessSpec}
@@ -42,4 +43,5 @@ sets_found site (Lose y k) before after = []
 sets_found site (Repeat y k) before after = []
 sets_found site (Tick node) before after = []
 sets_found site (Fail processor) before after = []
+sets_found site (Reload processor) before after = []
 sets_found site (Drive one) before after = []

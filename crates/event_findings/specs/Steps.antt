@@ -46,6 +46,7 @@ statement_of site copy = statement_by (slice_get site.processes copy.process) co
 abbrev pub is_acting : Role → Bool
 is_acting role.Acting = true
 is_acting role.Watching = false
+is_acting role.Blank = false
 is_acting role.Gone = false
 
 -- whether a copy acts for this process
@@ -57,10 +58,10 @@ abbrev pub acting_of : ℕ → List CopyView → Option CopyView
 acting_of process [] = None
 acting_of process (copy ∷ copies) = if acts_for process copy then Some copy else acting_of process copies
 
--- where a process stands still that was to run
+-- where a process stands still that was to run: one that has sent a checkpoint stands as at its checkpoint
 abbrev pub still_of : Option CopyView → Option Finding
 still_of None = None
-still_of (Some copy) = Some (finding.StandsStill copy.point)
+still_of (Some copy) = Some (finding.StandsStill (if copy.sent then point.AtCheckpoint else copy.point))
 
 -- at its checkpoint a process sends it, or goes on behind it
 abbrev pub checkpoint_step : CopyView → Finding
@@ -70,15 +71,22 @@ abbrev pub made : ℕ → Point → Option ℕ → Finding
 made process stood None = finding.DiscGoesOn stood
 made process stood (Some statement) = finding.Makes process statement
 
+-- and elsewhere it ends such a checkpoint first, or sends one with everything if it has to
+abbrev pub elsewhere_step : Site → ℕ → CopyView → CopyView → Finding
+elsewhere_step site process before after =
+    if before.sent then finding.EndsSending
+    else if before.renewal then finding.SendsEverything after.number
+    else made process before.point (statement_of site before)
+
 abbrev pub step_at : Site → ℕ → CopyView → CopyView → Point → Finding
 step_at site process before after point.AtCheckpoint = checkpoint_step after
-step_at site process before after point.Inner = made process point.Inner (statement_of site before)
-step_at site process before after point.Take = made process point.Take (statement_of site before)
-step_at site process before after point.Ask = made process point.Ask (statement_of site before)
-step_at site process before after point.Await = made process point.Await (statement_of site before)
-step_at site process before after point.Answer = made process point.Answer (statement_of site before)
-step_at site process before after point.Device = made process point.Device (statement_of site before)
-step_at site process before after point.Ended = made process point.Ended (statement_of site before)
+step_at site process before after point.Inner = elsewhere_step site process before after
+step_at site process before after point.Take = elsewhere_step site process before after
+step_at site process before after point.Ask = elsewhere_step site process before after
+step_at site process before after point.Await = elsewhere_step site process before after
+step_at site process before after point.Answer = elsewhere_step site process before after
+step_at site process before after point.Device = elsewhere_step site process before after
+step_at site process before after point.Ended = elsewhere_step site process before after
 
 abbrev pub step_between : Site → ℕ → Option CopyView → Option CopyView → Option Finding
 step_between site process (Some before) (Some after) = Some (step_at site process before after before.point)

@@ -7,7 +7,8 @@ use Rattle.alive_regroup.specs.Watching.{Watching, after_tick, is_missed, is_sil
 use Rattle.alive_regroup.specs.declared.neighbour.Neighbour.{Neighbour}
 use Rattle.alive_regroup.specs.declared.set.ProcessorSet.{ProcessorSet}
 use Rattle.schedule.specs.declared.event.Event.{Event}
-use Rattle.schedule.specs.declared.event.Event.TheVariants.{Run, Enter, Deliver, Lose, Repeat, Tick, Fail, Drive}
+use Rattle.schedule.specs.declared.event.Event.TheVariants.{Run, Enter, Deliver, Lose, Repeat, Tick, Fail, Reload}
+use Rattle.schedule.specs.declared.event.Event.TheVariants.{Drive}
 use Rattle.machine_views.specs.site_machine.specs.packet_wires.specs.Lines.{line_pulled}
 use Rattle.machine_views.specs.site_machine.specs.packet_wires.specs.Play.{Packeted}
 use Rattle.machine_views.specs.site_machine.specs.packet_wires.specs.Wires.{nothing_sent, ticked}
@@ -38,6 +39,7 @@ ticking_of s (Deliver y k) = None
 ticking_of s (Lose y k) = None
 ticking_of s (Repeat y k) = None
 ticking_of s (Fail processor) = None
+ticking_of s (Reload processor) = None
 ticking_of s (Drive one) = None
 
 -- What the tick finds out

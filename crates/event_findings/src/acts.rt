@@ -27,6 +27,7 @@ pub(crate) fn holding_of(machine: &Machine, event: Event) -> Option<Holding>
         Event::Repeat { y: _, k: _ } => None,
         Event::Tick(_) => None,
         Event::Fail(_) => None,
+        Event::Reload(_) => None,
         Event::Drive(_) => None,
     }
 }

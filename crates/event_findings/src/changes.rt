@@ -1,7 +1,9 @@
 ghost use Rattle.std.specs.Prelude.{◌≡◌, ◌++◌, flat_map, option_to_list, slice_get, OnOk};
 ghost use Rattle.std.specs.Option.{option_map};
 ghost use Rattle.event_findings.specs.Changes.{applied, changes_found, copies_found, copy_found, entered_found};
-ghost use Rattle.event_findings.specs.Changes.{had_marked, has_stopped, mark_found, marks_found, own_found, stop_found};
+ghost use Rattle.event_findings.specs.Changes.{had_marked, has_stopped, mark_found, marks_found, own_found};
+ghost use Rattle.event_findings.specs.Changes.{reload_found};
+ghost use Rattle.event_findings.specs.Changes.{reloads_found, stop_found};
 ghost use Rattle.event_findings.specs.Changes.{had_waiting, still_found, stops_found, takeover_of, wait_found};
 ghost use Rattle.event_findings.specs.Changes.{waits_found};
 
@@ -29,6 +31,11 @@ pub(crate) fn put_changes(
     put_any(findings, own_found(site, event, before, after))?;
     put_sets(alloc, findings, site, event, before, after)?;
     put_stops(
+        findings,
+        before.stopped.as_slice(),
+        after.stopped.as_slice(),
+    )?;
+    put_reloads(
         findings,
         before.stopped.as_slice(),
         after.stopped.as_slice(),
@@ -76,6 +83,7 @@ fn own_found(site: &Site, event: Event, before: &View, after: &View) -> Option<F
         Event::Repeat { y: _, k: _ } => None,
         Event::Tick(_) => None,
         Event::Fail(_) => None,
+        Event::Reload(_) => None,
         Event::Drive(_) => None,
     }
 }
@@ -92,6 +100,7 @@ pub(crate) fn still_found(event: Event, view: &View) -> Option<Finding>
         Event::Repeat { y: _, k: _ } => None,
         Event::Tick(_) => None,
         Event::Fail(_) => None,
+        Event::Reload(_) => None,
         Event::Drive(_) => None,
     }
 }
@@ -103,6 +112,25 @@ fn entered_in(terminals: &[TerminalView], terminal: u8) -> Option<Finding>
         None => None,
         Some(view) => Some(Finding::Enters(view.entered)),
     }
+}
+
+/// Puts the processors behind the findings that had stopped and run now.
+fn put_reloads(findings: &mut List<Finding>, before: &[u8], after: &[u8]) -> Result<(), NoMemory>
+    ensures { OnOk result (findings.new ≡ findings.old ++ reloads_found before.now after.now) }
+{
+    for processor in before {
+        put_reload(findings, after, *processor)?;
+    }
+    Ok(())
+}
+
+fn put_reload(findings: &mut List<Finding>, after: &[u8], processor: u8) -> Result<(), NoMemory>
+    ensures { OnOk result (findings.new ≡ findings.old ++ reload_found after.now processor) }
+{
+    if !has_stopped(after, processor) {
+        findings.push(Finding::Reloads(processor))?;
+    }
+    Ok(())
 }
 
 /// Puts the processors behind the findings that have stopped and hadn't before.
@@ -190,14 +218,19 @@ fn put_copies(
     Ok(())
 }
 
-/// What a copy did that watched.
+/// What a copy did that watched or was blank.
 fn copy_found(site: &Site, before: &CopyView, after: &CopyView) -> Option<Finding>
     ensures { result ≡ copy_found site.now before.now after.now }
 {
     match (before.role, after.role) {
         (Role::Watching, Role::Acting) => Some(takeover_of(site, after)),
         (Role::Watching, Role::Watching) => applied(before, after),
+        (Role::Watching, Role::Blank) => None,
         (Role::Watching, Role::Gone) => None,
+        (Role::Blank, Role::Watching) => applied(before, after),
+        (Role::Blank, Role::Blank) => None,
+        (Role::Blank, Role::Acting) => None,
+        (Role::Blank, Role::Gone) => None,
         (Role::Acting, _) => None,
         (Role::Gone, _) => None,
     }
@@ -214,7 +247,7 @@ fn takeover_of(site: &Site, after: &CopyView) -> Finding
     }
 }
 
-/// A copy that watches has the number of the last checkpoint that it put in.
+/// A copy that watches has the number of the last checkpoint that it put in, and so has one that was blank.
 fn applied(before: &CopyView, after: &CopyView) -> Option<Finding>
     ensures { result ≡ applied before.now after.now }
 {

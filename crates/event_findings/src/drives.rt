@@ -18,5 +18,6 @@ pub(crate) fn drive_found(event: Event, machine: &Machine) -> Option<Finding>
         Event::Repeat { y: _, k: _ } => None,
         Event::Tick(_) => None,
         Event::Fail(_) => None,
+        Event::Reload(_) => None,
     }
 }

@@ -6,7 +6,7 @@ ghost use Rattle.event_findings.specs.HandedOver.{taken_by};
 ghost use Rattle.event_findings.specs.HandedOver.{why_as, why_watching};
 
 use crate::noting::HandedOver;
-use crate::packets::{fate_of, message_of, sight_of, sort_of};
+use crate::packets::{fate_of, message_of, sort_of};
 use link_control::Channel;
 use machine_views::site_machine::Machine;
 use machine_views::{CopyView, View};
@@ -30,6 +30,7 @@ pub(crate) fn handed_over(machine: &Machine, event: Event) -> Option<HandedOver>
         Event::Repeat { y: _, k: _ } => None,
         Event::Tick(_) => None,
         Event::Fail(_) => None,
+        Event::Reload(_) => None,
         Event::Drive(_) => None,
     }
 }
@@ -38,7 +39,7 @@ pub(crate) fn handed_over(machine: &Machine, event: Event) -> Option<HandedOver>
 fn handed_with(machine: &Machine, event: Event, packet: &Packet) -> Option<HandedOver>
     ensures { result ≡ handed_with machine.now.state event packet.now }
 {
-    if !has_come(fate_of(machine, event, sight_of(packet))) {
+    if !has_come(fate_of(machine, event, packet)) {
         return None;
     }
     if !makes_whole(
@@ -62,6 +63,7 @@ fn has_come(fate: Fate) -> bool
         Fate::CameAgain => false,
         Fate::Dropped => false,
         Fate::Refused => false,
+        Fate::Old => false,
         Fate::Lost => false,
         Fate::Repeated => false,
     }
@@ -173,7 +175,7 @@ fn why_as(copy: &CopyView, era: u32, number: u32) -> Option<WhyIgnored>
 {
     match copy.role {
         Role::Acting => Some(WhyIgnored::Acts),
-        Role::Watching => why_watching(copy, era, number),
+        Role::Watching | Role::Blank => why_watching(copy, era, number),
         Role::Gone => None,
     }
 }

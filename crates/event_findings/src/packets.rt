@@ -5,7 +5,8 @@ ghost use Rattle.event_findings.specs.Packets as spec;
 ghost use Rattle.event_findings.specs.Packets.{delivered_fate, fate_of, had_come, has_piece, is_last, is_last_sort};
 ghost use Rattle.event_findings.specs.Packets.{message_of, named_packet, outstanding_at, packet_found, sight_of};
 ghost use Rattle.event_findings.specs.Packets.{sort_of};
-ghost use Rattle.event_findings.specs.Packets.{taken_in, words_for};
+ghost use Rattle.event_findings.specs.Packets.{current_fate, end_of, taken_in, words_for};
+ghost use Rattle.machine_views.specs.site_machine.specs.packet_wires.specs.Play.{is_current_at};
 
 use crate::messages::message_named;
 use gd_words::List;
@@ -40,6 +41,7 @@ fn named_packet(machine: &Machine, event: Event) -> Option<&Packet>
         Event::Enter(_) => None,
         Event::Tick(_) => None,
         Event::Fail(_) => None,
+        Event::Reload(_) => None,
         Event::Drive(_) => None,
     }
 }
@@ -50,7 +52,7 @@ fn packet_found(machine: &Machine, event: Event, packet: &Packet) -> Finding
     let sight = sight_of(packet);
     Finding::Packet {
         packet: sight,
-        fate: fate_of(machine, event, sight),
+        fate: fate_of(machine, event, packet),
         message: message_of(machine, packet),
     }
 }
@@ -59,8 +61,17 @@ fn packet_found(machine: &Machine, event: Event, packet: &Packet) -> Finding
 pub(crate) fn message_of(machine: &Machine, packet: &Packet) -> Option<MessageName>
     ensures { result ≡ message_of machine.now.state packet.now }
 {
-    let words = words_for(&packet.kind, machine.end_at(packet.sender, packet.receiver))?;
+    let end = end_of(packet, machine.end_at(packet.sender, packet.receiver));
+    let words = words_for(&packet.kind, end)?;
     message_named(machine, words.as_slice())
+}
+
+/// The end that sent a packet, unless it was made new since.
+fn end_of<'a>(packet: &Packet, end: Option<&'a Channel>) -> Option<&'a Channel>
+    ensures { option_copied result ≡ end_of packet.now (option_copied end.entry) }
+{
+    let end = end?;
+    if end.is_own(packet) { Some(end) } else { None }
 }
 
 fn words_for<'a>(kind: &PacketKind, end: Option<&'a Channel>) -> Option<&'a List<i16>>
@@ -115,8 +126,8 @@ pub(crate) fn sort_of(kind: &PacketKind) -> PacketSort
     }
 }
 
-pub(crate) fn fate_of(machine: &Machine, event: Event, packet: PacketSight) -> Fate
-    ensures { result ≡ fate_of machine.now.state event packet }
+pub(crate) fn fate_of(machine: &Machine, event: Event, packet: &Packet) -> Fate
+    ensures { result ≡ fate_of machine.now.state event packet.now }
 {
     match event {
         Event::Lose { y: _, k: _ } => Fate::Lost,
@@ -126,20 +137,43 @@ pub(crate) fn fate_of(machine: &Machine, event: Event, packet: PacketSight) -> F
         Event::Enter(_) => Fate::Came,
         Event::Tick(_) => Fate::Came,
         Event::Fail(_) => Fate::Came,
+        Event::Reload(_) => Fate::Came,
         Event::Drive(_) => Fate::Came,
     }
 }
 
 /// What becomes of a packet that is delivered.
-fn delivered_fate(machine: &Machine, packet: PacketSight) -> Fate
-    ensures { result ≡ delivered_fate machine.now.state packet }
+fn delivered_fate(machine: &Machine, packet: &Packet) -> Fate
+    ensures { result ≡ delivered_fate machine.now.state packet.now }
 {
-    if !is_running(machine.stopped(), packet.receiver) {
+    if is_running(machine.stopped(), packet.receiver) {
+        current_fate(machine, packet)
+    } else {
         Fate::Dropped
+    }
+}
+
+/// What becomes of a packet that comes to a node that runs.
+fn current_fate(machine: &Machine, packet: &Packet) -> Fate
+    ensures { result ≡ current_fate machine.now.state packet.now }
+{
+    let end = machine.end_at(packet.receiver, packet.sender);
+    if !is_current_at(packet, end) {
+        Fate::Old
     } else if machine.marks().has(packet.receiver, packet.sender) {
         Fate::Refused
     } else {
-        taken_in(had_come(packet.sort, machine.end_at(packet.receiver, packet.sender)))
+        taken_in(had_come(sort_of(&packet.kind), end))
+    }
+}
+
+/// Whether a packet bears the incarnations that an end knows, where there is one.
+fn is_current_at(packet: &Packet, end: Option<&Channel>) -> bool
+    ensures { result ≡ is_current_at packet.now (option_copied end.entry) }
+{
+    match end {
+        None => false,
+        Some(end) => end.is_current(packet),
     }
 }
 
@@ -193,6 +227,7 @@ pub(crate) fn may_change(machine: &Machine, event: Event) -> bool
         Event::Enter(_) => true,
         Event::Tick(_) => true,
         Event::Fail(_) => true,
+        Event::Reload(_) => true,
         Event::Drive(_) => false,
     }
 }

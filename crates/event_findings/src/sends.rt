@@ -91,6 +91,7 @@ fn sender_of(machine: &Machine, event: Event, view: &View) -> Option<u8>
         Event::Repeat { y: _, k: _ } => None,
         Event::Tick(node) => Some(node),
         Event::Fail(_) => None,
+        Event::Reload(_) => None,
         Event::Drive(_) => None,
     }
 }
@@ -254,6 +255,7 @@ fn sends_again(event: Event) -> bool
         Event::Lose { y: _, k: _ } => false,
         Event::Repeat { y: _, k: _ } => false,
         Event::Fail(_) => false,
+        Event::Reload(_) => false,
         Event::Drive(_) => false,
     }
 }

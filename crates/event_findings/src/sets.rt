@@ -38,6 +38,7 @@ pub(crate) fn put_sets(
         Event::Repeat { y: _, k: _ } => Ok(()),
         Event::Tick(_) => Ok(()),
         Event::Fail(_) => Ok(()),
+        Event::Reload(_) => Ok(()),
         Event::Drive(_) => Ok(()),
     }
 }

@@ -1,8 +1,9 @@
-ghost use Rattle.std.specs.Prelude.{◌≡◌};
+ghost use Rattle.std.specs.Prelude.{◌≡◌, if◌then◌else◌};
 ghost use Rattle.std.specs.Option.{option_copied};
 ghost use Rattle.event_findings.specs.Steps as spec;
-ghost use Rattle.event_findings.specs.Steps.{acting_of, acts_for, checkpoint_step, is_acting, made, statement_at};
-ghost use Rattle.event_findings.specs.Steps.{statement_in, step_at};
+ghost use Rattle.event_findings.specs.Steps.{acting_of, acts_for, checkpoint_step, elsewhere_step, is_acting, made};
+ghost use Rattle.event_findings.specs.Steps.{statement_at, statement_in, step_at};
+ghost use Rattle.process_semantics.specs.declared.point.Point.TheVariants as point;
 
 use image_places::next_in;
 use machine_views::CopyView;
@@ -47,7 +48,18 @@ pub(crate) fn still_of(process: u8, copies: &[CopyView]) -> Option<Finding>
 {
     match acting_of(process, copies) {
         None => None,
-        Some(copy) => Some(Finding::StandsStill(copy.point)),
+        Some(copy) => Some(Finding::StandsStill(standing_point(copy))),
+    }
+}
+
+/// The point as which a copy stands still: one that has sent a checkpoint stands as at its checkpoint.
+fn standing_point(copy: &CopyView) -> Point
+    ensures { result ≡ (if copy.now.sent then point.AtCheckpoint else copy.now.point) }
+{
+    if copy.sent {
+        Point::AtCheckpoint
+    } else {
+        copy.point
     }
 }
 
@@ -68,6 +80,7 @@ pub(crate) fn is_acting(role: Role) -> bool
     match role {
         Role::Acting => true,
         Role::Watching => false,
+        Role::Blank => false,
         Role::Gone => false,
     }
 }
@@ -77,13 +90,26 @@ fn step_at(site: &Site, process: u8, before: &CopyView, after: &CopyView) -> Fin
 {
     match before.point {
         Point::AtCheckpoint => checkpoint_step(after),
-        Point::Inner => made(process, Point::Inner, statement_of(site, before)),
-        Point::Take => made(process, Point::Take, statement_of(site, before)),
-        Point::Ask => made(process, Point::Ask, statement_of(site, before)),
-        Point::Await => made(process, Point::Await, statement_of(site, before)),
-        Point::Answer => made(process, Point::Answer, statement_of(site, before)),
-        Point::Device => made(process, Point::Device, statement_of(site, before)),
-        Point::Ended => made(process, Point::Ended, statement_of(site, before)),
+        Point::Inner => elsewhere_step(site, process, before, after),
+        Point::Take => elsewhere_step(site, process, before, after),
+        Point::Ask => elsewhere_step(site, process, before, after),
+        Point::Await => elsewhere_step(site, process, before, after),
+        Point::Answer => elsewhere_step(site, process, before, after),
+        Point::Device => elsewhere_step(site, process, before, after),
+        Point::Ended => elsewhere_step(site, process, before, after),
+    }
+}
+
+/// Elsewhere than at its checkpoint a process ends one that it has sent, or sends one with everything, or goes on.
+fn elsewhere_step(site: &Site, process: u8, before: &CopyView, after: &CopyView) -> Finding
+    ensures { result ≡ elsewhere_step site.now process before.now after.now }
+{
+    if before.sent {
+        Finding::EndsSending
+    } else if before.renewal {
+        Finding::SendsEverything(after.number)
+    } else {
+        made(process, before.point, statement_of(site, before))
     }
 }
 

@@ -25,6 +25,7 @@ pub(crate) fn ticking_of(machine: &Machine, event: Event) -> Option<Ticking>
         Event::Lose { y: _, k: _ } => None,
         Event::Repeat { y: _, k: _ } => None,
         Event::Fail(_) => None,
+        Event::Reload(_) => None,
         Event::Drive(_) => None,
     }
 }

@@ -1,6 +1,6 @@
 -- What nodes do only adds to what was sent before.
 use Rattle.std.proofs.Common.{◌≡◌, ℕ, ◌==◌, ℤ, Bool, true, false, if◌then◌else◌, List, [], ◌∷◌, ◌++◌, Option, Some}
-use Rattle.std.proofs.Common.{None, slice_get, refl, ap, sym, ◌∙◌, append_assoc, append-nil}
+use Rattle.std.proofs.Common.{map, None, slice_get, refl, ap, sym, ◌∙◌, append_assoc, append-nil}
 use Rattle.packet_words.specs.declared.bus_name.BusName.{BusName}
 use Rattle.packet_words.specs.declared.bus_name.BusName.TheVariants as bus
 use Rattle.packet_words.specs.declared.packet.Packet.{Packet}
@@ -14,13 +14,13 @@ use Rattle.alive_regroup.specs.Watching.{Watching, changed_at, told_by_tick}
 use Rattle.packet_wires.specs.world_semantics.specs.World.{is_running, terminal_node}
 use Rattle.packet_wires.specs.message_layout.specs.Messages.{NodeMessage, Reporting, Declaring}
 use Rattle.packet_wires.specs.message_layout.specs.Layout.{words_of}
-use Rattle.packet_wires.specs.Nodes.{Node, all_nodes, others, with_end, with_watch}
+use Rattle.packet_wires.specs.Nodes.{Node, all_nodes, node_after_reload, others, with_end, with_watch}
 use Rattle.packet_wires.specs.Parcels.{Parcel}
 use Rattle.packet_wires.specs.Wires.{Midst, Outgoing, nothing_sent, goes_over, any_goes_over, goes_again, at_node}
 use Rattle.packet_wires.specs.Wires.{at_end_of, at_end, end_changed, watch_changed, learns, for_each, push_at, sends}
 use Rattle.packet_wires.specs.Wires.{sends_all, posted, all_posted, bus_of_answer, heard_of, arrive_at, arrived}
 use Rattle.packet_wires.specs.Wires.{alive_at, tells_alive, reports, check_at, checks, tick_at, resends, ticked}
-use Rattle.packet_wires.specs.Wires.{down_at, cut_off, declares}
+use Rattle.packet_wires.specs.Wires.{down_at, cut_off, declares, loaded_again}
 use Rattle.event_parts.specs.Parts.{OnlyAdds, sent_before}
 
 -- What is put together
@@ -191,3 +191,8 @@ adds-cut-off x y =
 pub adds-declares : (processors x processor : ℕ) → OnlyAdds (declares processors x processor)
 adds-declares processors x processor =
     adds-sends-all x (Declaring processor) (others processors x ++ terminal_node ∷ [])
+
+-- Reloads
+
+pub adds-loaded : (processors x : ℕ) → OnlyAdds (loaded_again processors x)
+adds-loaded processors x = adds-nodes (map (node_after_reload processors x))

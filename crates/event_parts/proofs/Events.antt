@@ -1,18 +1,21 @@
 -- Events that are one part.
 use Rattle.std.specs.Option.{option_and_then}
 use Rattle.std.proofs.Common.{◌≡◌, ℕ, ℤ, Bool, true, if◌then◌else◌, List, Option, Some, None, slice_get, refl, ap, sym}
-use Rattle.std.proofs.Common.{◌∙◌}
-use Rattle.schedule.specs.declared.event.Event.TheVariants.{Deliver, Repeat, Tick}
+use Rattle.std.proofs.Common.{◌∙◌, ◌&&◌}
+use Rattle.schedule.specs.declared.event.Event.TheVariants.{Deliver, Reload, Repeat, Tick}
 use Rattle.packet_words.specs.declared.bus_name.BusName.{BusName}
 use Rattle.packet_words.specs.declared.bus_name.BusName.TheVariants as bus
 use Rattle.packet_words.specs.declared.packet.Packet.{Packet}
 use Rattle.packet_wires.specs.machine_states.specs.States.{Makes, Skips}
+use Rattle.packet_wires.specs.message_wires.specs.computed_changes.specs.Stopped.{reload_done}
+use Rattle.packet_wires.specs.world_semantics.specs.Running.{Done}
 use Rattle.packet_wires.specs.world_semantics.specs.World.{is_running}
 use Rattle.packet_wires.specs.Lines.{line_pulled}
-use Rattle.packet_wires.specs.Nodes.{Node}
+use Rattle.packet_wires.specs.Nodes.{Node, end_at}
 use Rattle.packet_wires.specs.Play.{Packeted, Underway, begun, deliver_acted, ended, handed_words, packet_at, play}
-use Rattle.packet_wires.specs.Play.{pulls, pulls_its, received, repeat_acted}
-use Rattle.packet_wires.specs.Wires.{Wires, arrived, bus_named, nothing_sent, ticked, with_sent, without_packet}
+use Rattle.packet_wires.specs.Play.{is_current_at, pulls, pulls_its, received, reload_acted, repeat_acted}
+use Rattle.packet_wires.specs.Wires.{Wires, arrived, bus_named, loaded_again, nothing_sent, ticked, with_sent}
+use Rattle.packet_wires.specs.Wires.{without_packet}
 use Rattle.event_parts.specs.Parts.{carried_out, completed_by, delivered, repeated}
 
 nodes-same : (name : BusName) (k : ℕ) (wires : Wires) → (without_packet name k wires).nodes ≡ wires.nodes
@@ -20,14 +23,18 @@ nodes-same bus.X k wires = refl
 nodes-same bus.Y k wires = refl
 
 pub delivers : (s : Packeted) (y : Bool) (k : ℕ) (packet : Packet) → packet_at s (bus_named y) k ≡ Some packet
-    → is_running s.world.stopped packet.receiver ≡ true → completed_by (Some packet) s.wires.nodes ≡ None
+    → is_running s.world.stopped packet.receiver ≡ true
+    → is_current_at packet (end_at s.wires.nodes packet.receiver packet.sender) ≡ true
+    → completed_by (Some packet) s.wires.nodes ≡ None
     → play s (Deliver y k) ≡ Makes (record s { wires = delivered (bus_named y) k (Some packet) s.wires })
-delivers s y k packet found runs none =
+delivers s y k packet found runs current none =
     let name : BusName = bus_named y in
     let off : Wires = without_packet name k s.wires in
     let after : Underway = record (begun s) { wires = arrived name packet (nothing_sent s.wires.nodes) } in
     ap (λ (o : Option Packet). ended off (deliver_acted name (begun s) o)) found
-    ∙ ap (λ (b : Bool). ended off (Makes (if b then received name packet (begun s) else begun s))) runs
+    ∙ ap (λ (b : Bool). ended off (Makes (if b && is_current_at packet
+    (end_at s.wires.nodes packet.receiver packet.sender) then received name packet (begun s) else begun s))) runs
+    ∙ ap (λ (b : Bool). ended off (Makes (if b then received name packet (begun s) else begun s))) current
     ∙ ap (λ (w : Option (List ℤ)). ended off (Makes (handed_words packet.receiver w after))) none
     ∙ ap (λ (nodes : List Node). Makes (record s { wires = with_sent (arrived name packet (nothing_sent nodes)) off }))
     (sym (nodes-same name k s.wires))
@@ -44,3 +51,10 @@ ticks s node runs none =
     let after : Underway = record (begun s) { wires = ticked s.site.processors node (nothing_sent s.wires.nodes) } in
     ap (λ (b : Bool). ended s.wires (if b then pulls_its node after else Skips)) runs
     ∙ ap (λ (line : Option ℕ). ended s.wires (pulls node after line)) none
+
+pub reloads : (s : Packeted) (processor : ℕ) (done : Done) → reload_done s.site processor s.world ≡ Some done
+    → play s (Reload processor) ≡ Makes (record s {
+      world = done.world;
+      wires = carried_out (loaded_again s.site.processors processor) s.wires;
+    })
+reloads s processor done is = ap (λ (o : Option Done). ended s.wires (reload_acted processor (begun s) o)) is

@@ -1,6 +1,6 @@
 -- What is pushed goes on to find a number at each end.
 use Rattle.std.proofs.Common.{◌≡◌, ℕ, ◌+◌, ◌*◌, ◌<◌, ◌==◌, nat_lt, ℤ, Bool, true, false, if◌then◌else◌, List, [], ◌∷◌}
-use Rattle.std.proofs.Common.{◌++◌, length, Option, Some, None, slice_get, slice_set, refl}
+use Rattle.std.proofs.Common.{◌++◌, length, Option, Some, None, slice_get, slice_set, refl, subst, sym, arith}
 use Rattle.packet_words.specs.declared.bus_name.BusName.{BusName}
 use Rattle.packet_words.specs.declared.bus_name.BusName.TheVariants as bus
 use Rattle.packet_words.specs.declared.packet.Packet.{Packet}
@@ -11,21 +11,21 @@ use Rattle.link_control.specs.declared.channel.Resent.{Resent}
 use Rattle.link_control.specs.Ends.{End, HasNumberForPush, HasNumbersLeft, after_down}
 use Rattle.link_control.specs.Ends.{after_kind, after_packet, after_push, after_tick, begun, is_ended_by, is_idle}
 use Rattle.link_control.specs.Ends.{is_none, moved_on, numbered_at, packet_of, after_push_of, sent_by_packet}
-use Rattle.link_control.specs.Ends.{sent_by_push, sent_by_tick}
+use Rattle.link_control.specs.Ends.{sent_by_push, sent_by_tick, end_after_reload, is_of, next_end}
 use Rattle.alive_regroup.specs.declared.set.ProcessorSet.{ProcessorSet}
 use Rattle.alive_regroup.specs.Watching as watching
 use Rattle.alive_regroup.specs.Watching.{Watching, changed_at, told_by_tick}
 use Rattle.packet_wires.specs.world_semantics.specs.World.{is_running, terminal_node}
-use Rattle.packet_wires.specs.world_semantics.proofs.Lists.{set-all}
+use Rattle.packet_wires.specs.world_semantics.proofs.Lists.{mapped, set-all}
 use Rattle.packet_wires.specs.message_layout.specs.Messages.{NodeMessage, Reporting, Declaring}
 use Rattle.packet_wires.specs.message_layout.specs.Layout.{words_of}
-use Rattle.packet_wires.specs.Nodes.{Node, all_nodes, others, with_end, with_watch}
+use Rattle.packet_wires.specs.Nodes.{Node, all_nodes, node_after_reload, others, with_end, with_watch}
 use Rattle.packet_wires.specs.Parcels.{Parcel}
 use Rattle.packet_wires.specs.Wires as wires
 use Rattle.packet_wires.specs.Wires.{Midst, goes_over, any_goes_over, goes_again, at_node, at_end_of, at_end}
 use Rattle.packet_wires.specs.Wires.{end_changed, watch_changed, learns, for_each, push_at, sends, sends_all, posted}
 use Rattle.packet_wires.specs.Wires.{all_posted, bus_of_answer, heard_of, arrive_at, arrived, alive_at, tells_alive}
-use Rattle.packet_wires.specs.Wires.{reports, check_at, checks, tick_at, down_at, cut_off, declares}
+use Rattle.packet_wires.specs.Wires.{reports, check_at, checks, tick_at, down_at, cut_off, declares, loaded_again}
 use Rattle.event_parts.specs.Numbers.{CanPush, HasNumbersAt, NodeCanPush}
 
 -- One end
@@ -96,6 +96,13 @@ packet-has packet e left has = by e.down packet.kind
     by false kind.Alive = has
     by false (kind.Piece number piece) = has
     by false (kind.Acknowledgement number) = ends (is_ended_by number e.sending)
+
+reload-has : (x : ℕ) (e : End) → HasNumberForPush e → HasNumberForPush (end_after_reload x e)
+reload-has x e has = by (is_of x e)
+  where
+    by : (test : Bool) → HasNumberForPush (if test then next_end x e else e)
+    by true = λ up idle. omega arith
+    by false = has
 
 -- Ends of nodes
 
@@ -248,3 +255,13 @@ can-cut-off x y midst can =
 
 pub can-declares : (processors x processor : ℕ) → Keeps (declares processors x processor)
 can-declares processors x processor = can-sends-all x (Declaring processor) (others processors x ++ terminal_node ∷ [])
+
+pub can-loaded : (processors x : ℕ) → Keeps (loaded_again processors x)
+can-loaded processors x midst can y one there =
+    let was = mapped (node_after_reload processors x) midst.nodes y one there in
+    subst NodeCanPush (sym was.2) (of was.0 (can y was.0 was.1))
+  where
+    of : (node : Node) → NodeCanPush node → NodeCanPush (node_after_reload processors x node)
+    of node can z e at =
+        let was = mapped (end_after_reload x) node.ends z e at in
+        subst HasNumberForPush (sym was.2) (reload-has x was.0 (can z was.0 was.1))

@@ -1,11 +1,11 @@
 -- Parts of an event on wires. That packets are sent as the event goes on, and not all at its end, is our own.
-use Rattle.std.specs.Prelude.{◌≡◌, ℕ, ℤ, ◌++◌, List, Option, Some, None, slice_get}
+use Rattle.std.specs.Prelude.{◌≡◌, ℕ, ℤ, Bool, false, ◌++◌, List, Option, Some, None, slice_get}
 use Rattle.std.specs.Option.{option_and_then, option_map}
 use Rattle.packet_words.specs.declared.bus_name.BusName.{BusName}
 use Rattle.packet_words.specs.declared.packet.Packet.{Packet}
 use Rattle.alive_regroup.specs.Watching.{Watching}
 use Rattle.packet_wires.specs.Nodes.{Node, end_at}
-use Rattle.packet_wires.specs.Play.{completed}
+use Rattle.packet_wires.specs.Play.{completed, is_current_at}
 use Rattle.packet_wires.specs.Wires.{Wires, Outgoing, Midst, nothing_sent, with_sent, without_packet, goes_over}
 use Rattle.packet_wires.specs.Wires.{arrived}
 
@@ -41,3 +41,8 @@ completed_by found nodes =
 abbrev pub repeated : BusName → Option Packet → Wires → Wires
 repeated name None wires = wires
 repeated name (Some packet) wires = carried_out (goes_over name packet) wires
+
+-- whether it bears the incarnations that the end knows to which it comes
+abbrev pub is_current_in : Option Packet → List Node → Bool
+is_current_in None nodes = false
+is_current_in (Some packet) nodes = is_current_at packet (end_at nodes packet.receiver packet.sender)

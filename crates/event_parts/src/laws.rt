@@ -1,18 +1,21 @@
 //! Laws of the parts of an event.
 ghost use Rattle.std.specs.Prelude.{◌≡◌, ℕ, ℤ, Bool, true, List, Some, None, slice_get};
 ghost use Rattle.std.specs.Option.{option_and_then, option_map};
-ghost use Rattle.schedule.specs.declared.event.Event.TheVariants.{Deliver, Repeat, Tick};
+ghost use Rattle.schedule.specs.declared.event.Event.TheVariants.{Deliver, Reload, Repeat, Tick};
 ghost use Rattle.packet_words.specs.declared.bus_name.BusName.{BusName};
 ghost use Rattle.packet_words.specs.declared.packet.Packet.{Packet};
 ghost use Rattle.alive_regroup.specs.Watching.{Watching, after_tick};
 ghost use Rattle.packet_wires.specs.machine_states.specs.States.{Makes};
+ghost use Rattle.packet_wires.specs.message_wires.specs.computed_changes.specs.Stopped.{reload_done};
+ghost use Rattle.packet_wires.specs.world_semantics.specs.Running.{Done};
 ghost use Rattle.packet_wires.specs.world_semantics.specs.World.{is_running};
 ghost use Rattle.packet_wires.specs.Parcels.{Parcel};
 ghost use Rattle.packet_wires.specs.message_layout.specs.Messages.{NodeMessage};
 ghost use Rattle.packet_wires.specs.Lines.{line_pulled};
-ghost use Rattle.packet_wires.specs.Play.{Packeted, begun, over, packet_at, play};
+ghost use Rattle.packet_wires.specs.Nodes.{end_at};
+ghost use Rattle.packet_wires.specs.Play.{Packeted, begun, is_current_at, over, packet_at, play};
 ghost use Rattle.packet_wires.specs.Wires.{Midst, Wires, all_posted, arrived, at_end, bus_named, cut_off, declares};
-ghost use Rattle.packet_wires.specs.Wires.{goes_over, learns, nothing_sent, push_at, sends, ticked};
+ghost use Rattle.packet_wires.specs.Wires.{goes_over, learns, loaded_again, nothing_sent, push_at, sends, ticked};
 ghost use Rattle.event_parts.specs.Numbers.{CanPush, HasNumbersAt};
 ghost use Rattle.event_parts.specs.Parts.{OnlyAdds, carried_out, completed_by, delivered, repeated, watch_at};
 
@@ -23,11 +26,13 @@ pub fn a_part_may_be_an_event()
         → (over wires (record (begun s) { wires = part (begun s).wires })).wires ≡ carried_out part wires }
 {}
 
-/// What an event makes of the wires where no message is whole with its packet, and where no line is pulled: the part
-/// that is named.
+/// What an event makes of the wires where no message is whole with its packet, and where no line is pulled, and what a
+/// reload makes of them: the part that is named.
 pub fn events_of_packets_are_parts()
     ensures delivers { (s : Packeted) (y : Bool) (k : ℕ) (packet : Packet) → packet_at s (bus_named y) k ≡ Some packet
-        → is_running s.world.stopped packet.receiver ≡ true → completed_by (Some packet) s.wires.nodes ≡ None
+        → is_running s.world.stopped packet.receiver ≡ true
+        → is_current_at packet (end_at s.wires.nodes packet.receiver packet.sender) ≡ true
+        → completed_by (Some packet) s.wires.nodes ≡ None
         → play s (Deliver y k) ≡ Makes (record s { wires = delivered (bus_named y) k (Some packet) s.wires }) }
     ensures repeats { (s : Packeted) (y : Bool) (k : ℕ) (packet : Packet) → packet_at s (bus_named y) k ≡ Some packet
         → play s (Repeat y k) ≡ Makes (record s { wires = repeated (bus_named y) (Some packet) s.wires }) }
@@ -35,6 +40,11 @@ pub fn events_of_packets_are_parts()
         → option_and_then (line_pulled node) (slice_get
         (ticked s.site.processors node (nothing_sent s.wires.nodes)).nodes node) ≡ None
         → play s (Tick node) ≡ Makes (record s { wires = carried_out (ticked s.site.processors node) s.wires }) }
+    ensures reloads { (s : Packeted) (processor : ℕ) (done : Done) → reload_done s.site processor s.world ≡ Some done
+        → play s (Reload processor) ≡ Makes (record s {
+          world = done.world;
+          wires = carried_out (loaded_again s.site.processors processor) s.wires;
+        }) }
 {}
 
 /// Two parts that are carried out one after the other make of the wires what both make in turn, if the second one only
@@ -57,6 +67,7 @@ pub fn what_nodes_do_only_adds()
     ensures ticks { (processors x : ℕ) → OnlyAdds (ticked processors x) }
     ensures cuts { (x y : ℕ) → OnlyAdds (cut_off x y) }
     ensures declares { (processors x processor : ℕ) → OnlyAdds (declares processors x processor) }
+    ensures loads { (processors x : ℕ) → OnlyAdds (loaded_again processors x) }
 {}
 
 /// Where what is pushed finds a number at every end, it does so after each thing that a node does. A packet that comes
@@ -76,6 +87,8 @@ pub fn each_push_finds_a_number()
     ensures cuts { (x y : ℕ) (midst : Midst) → CanPush midst.nodes → CanPush (cut_off x y midst).nodes }
     ensures declares { (processors x processor : ℕ) (midst : Midst) → CanPush midst.nodes
         → CanPush (declares processors x processor midst).nodes }
+    ensures loads { (processors x : ℕ) (midst : Midst) → CanPush midst.nodes
+        → CanPush (loaded_again processors x midst).nodes }
 {}
 
 /// What a node knows of the processors changes in its tick as a tick of its watch changes it.

@@ -13,7 +13,7 @@ ghost use Rattle.verdicts.specs.Refused.{AreAccepted};
 
 use crate::scope::Scope;
 use chart_marks::{Chart, Layout};
-use charted_runs::traced_runs::running::sizes_of;
+use charted_runs::traced_runs::sizes_of;
 use charted_runs::{ChartFault, chart_run};
 use deck_reader::Deck;
 use explain_why::{

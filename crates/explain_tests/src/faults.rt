@@ -1,16 +1,5 @@
-use explain_decks::{Telling, tell_number};
-use gd_io::{MemorySink, MemorySource};
-use gd_words::List;
-use std::alloc::Global;
+use crate::row::Row;
 use std::test::Fail;
-
-/// A deck, what is told of it, and the number with which the program ends.
-#[derive(Clone, Copy)]
-struct Row {
-    deck: &'static [u8],
-    told: &'static [u8],
-    number: u8,
-}
 
 const ROWS: [Row; 21] = [
     Row {
@@ -120,20 +109,10 @@ const ROWS: [Row; 21] = [
     },
 ];
 
-/// Whether the row's text is told, and its number ends the program.
-fn is_told(alloc: Global, row: &Row) -> Result<bool, Fail> {
-    let deck = List::from_vec(Vec::from_slice(alloc, row.deck)?);
-    let mut source = MemorySource::new(deck, List::new(alloc));
-    let mut sink = MemorySink::new(alloc, 1000, List::new(alloc))?;
-    let mut progress = MemorySink::new(alloc, 0, List::new(alloc))?;
-    let number = tell_number(alloc, Telling::Why, &mut source, &mut sink, &mut progress);
-    Ok(number == row.number && sink.bytes() == row.told)
-}
-
 #[test]
 fn tells_each_fault(rt: HostRuntime) -> Result<(), Fail> {
     for row in ROWS {
-        assert!(rt; is_told(rt.alloc(), &row)?, "{:?}", row.deck);
+        assert!(rt; row.is_told(rt.alloc())?, "{:?}", row.deck);
     }
     Ok(())
 }

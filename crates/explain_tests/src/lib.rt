@@ -7,3 +7,5 @@
 mod faults;
 #[cfg(test)]
 mod programs;
+#[cfg(test)]
+mod row;

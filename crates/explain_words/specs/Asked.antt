@@ -8,19 +8,25 @@ use Rattle.clap.specs.declared.error.kind.ErrorKind.{ErrorKind}
 use Rattle.clap.specs.declared.error.kind.ErrorKind.TheVariants as kind
 use Rattle.command_words.specs.Asked.{stop_of}
 use Rattle.deck_lines.specs.Numbers.{written_number}
+use Rattle.player.specs.declared.stop.ProcessorStop.{ProcessorStop}
 use Rattle.explain_words.specs.Line.{the_line}
 use Rattle.explain_words.specs.declared.asked.Question.{Question}
 use Rattle.explain_words.specs.declared.asked.Question.TheVariants.{Why, Left, Breaks, Trace, Chart, Help, Version}
+use Rattle.explain_words.specs.declared.asked.ToldRun.{ToldRun}
 
 -- `why` takes no stop
 abbrev pub why_as : Option Text → Option Question
 why_as None = Some Why
 why_as (Some fail) = None
 
--- `left` takes one, `P:K`
+-- the stop that the words give, if they give one: `P:K`
+abbrev pub stop_asked : Option Text → Option (Option ProcessorStop)
+stop_asked None = Some None
+stop_asked (Some fail) = option_map (λ stop. Some stop) (stop_of fail)
+
+-- `left` takes one
 abbrev pub left_as : Option Text → Option Question
-left_as None = Some (Left None)
-left_as (Some fail) = option_map (λ stop. Left (Some stop)) (stop_of fail)
+left_as fail = option_map (λ stop. Left stop) (stop_asked fail)
 
 -- `break` takes none
 abbrev pub breaks_as : Option Text → Option Question
@@ -47,29 +53,22 @@ abbrev pub event_number : Option Text → ℕ → Option ℕ
 event_number None missing = Some missing
 event_number (Some text) missing = written_number text
 
-abbrev pub trace_within : Option Text → Option ℕ → Option ℕ → Bool → Option Question
-trace_within None (Some from) (Some to) json = Some (Trace None from to json)
-trace_within (Some fail) (Some from) (Some to) json =
-    option_map (λ stop. Trace (Some stop) from to json) (stop_of fail)
-trace_within fail (Some from) None json = None
-trace_within fail None to json = None
+-- the run that is told: with its stop, and from its first event to its last one, which are else the first and the last
+-- of all
+abbrev pub told_run : Option Text → Option Text → Option Text → Option ToldRun
+told_run fail from to = option_and_then (λ first. option_and_then (λ last.
+    option_map (λ stop. record { stop = stop; from = first; to = last }) (stop_asked fail))
+    (event_number to 4294967295)) (event_number from 1)
 
--- `trace` takes a stop, and the first and the last event, which are else the first and the last of all; and `--json`
+-- `trace` takes a stop, and the first and the last event; and `--json`
 abbrev pub trace_as : Option Text → Option Text → Option Text → Bool → Bool → Option Question
 trace_as fail from to json alive =
-    if alive then None else trace_within fail (event_number from 1) (event_number to 4294967295) json
-
-abbrev pub chart_within : Option Text → Option ℕ → Option ℕ → Bool → Option Question
-chart_within None (Some from) (Some to) alive = Some (Chart None from to alive)
-chart_within (Some fail) (Some from) (Some to) alive =
-    option_map (λ stop. Chart (Some stop) from to alive) (stop_of fail)
-chart_within fail (Some from) None alive = None
-chart_within fail None to alive = None
+    if alive then None else option_map (λ run. Trace run.stop run.from run.to json) (told_run fail from to)
 
 -- `chart` takes what `trace` takes, but `--alive` in place of `--json`
 abbrev pub chart_as : Option Text → Option Text → Option Text → Bool → Bool → Option Question
 chart_as fail from to json alive =
-    if json then None else chart_within fail (event_number from 1) (event_number to 4294967295) alive
+    if json then None else option_map (λ run. Chart run.stop run.from run.to alive) (told_run fail from to)
 
 -- what a mode asks for with these values of `--fail`, `--from` and `--to`, and with `--json` and `--alive` or without
 abbrev pub question_as : Text → Option Text → Option Text → Option Text → Bool → Bool → Option Question

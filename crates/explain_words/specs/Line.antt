@@ -15,34 +15,23 @@ mode_rule = record (new_rule (codes "mode")) { required = true; action = Some Se
 abbrev pub file_rule : Rule
 file_rule = record (new_rule (codes "file")) { action = Some Set }
 
--- `--fail`, a flag with one value, for which `--help` has one name
-abbrev pub fail_rule : Rule
-fail_rule =
-    record (new_rule (codes "fail")) { long = Some (codes "fail"); action = Some Set; value_names = 1 }
+-- a flag of this name with one value, for which `--help` has one name
+abbrev pub valued_rule : Text → Rule
+valued_rule name = record (new_rule name) { long = Some name; action = Some Set; value_names = 1 }
 
--- `--from` and `--to`, each with one value
-abbrev pub from_rule : Rule
-from_rule =
-    record (new_rule (codes "from")) { long = Some (codes "from"); action = Some Set; value_names = 1 }
-
-abbrev pub to_rule : Rule
-to_rule = record (new_rule (codes "to")) { long = Some (codes "to"); action = Some Set; value_names = 1 }
-
--- `--json`, a flag
-abbrev pub json_rule : Rule
-json_rule = record (new_rule (codes "json")) { long = Some (codes "json"); action = Some SetTrue }
-
--- `--alive`, a flag
-abbrev pub alive_rule : Rule
-alive_rule = record (new_rule (codes "alive")) { long = Some (codes "alive"); action = Some SetTrue }
+-- a flag of this name alone
+abbrev pub flag_rule : Text → Rule
+flag_rule name = record (new_rule name) { long = Some name; action = Some SetTrue }
 
 -- a program that has a version, which `--version` asks for
 abbrev pub versioned : App → App
 versioned app = record app { top = record app.top { has_version = true } }
 
+-- MODE, FILE, `--fail`, `--from` and `--to`, `--json` and `--alive`
 abbrev pub the_line : App
 the_line = with_rule (with_rule (with_rule (with_rule (with_rule (with_rule (with_rule
-    (versioned (new_app (codes "explain"))) mode_rule) file_rule) fail_rule) from_rule) to_rule) json_rule) alive_rule
+    (versioned (new_app (codes "explain"))) mode_rule) file_rule) (valued_rule (codes "fail")))
+    (valued_rule (codes "from"))) (valued_rule (codes "to"))) (flag_rule (codes "json"))) (flag_rule (codes "alive"))
 
 -- what clap makes of the words, the program's name first: it takes them, or refuses them for one of these kinds
 abbrev pub IsParse : List Text → Parse → Type 0

@@ -1,8 +1,8 @@
 ghost use Rattle.std.specs.Prelude.{◌≡◌, IfOk, map, option_map, string_bytes};
 ghost use Rattle.clap.specs.Words.{found_of, rows_of};
-ghost use Rattle.explain_words.specs.Asked.{IsAsked, IsFileAsked, breaks_as, chart_as, chart_within, event_number};
-ghost use Rattle.explain_words.specs.Asked.{has_flag, kind_question, left_as, question_as, question_in, told_as};
-ghost use Rattle.explain_words.specs.Asked.{trace_as, trace_within, why_as, without_events, without_flags};
+ghost use Rattle.explain_words.specs.Asked.{IsAsked, IsFileAsked, breaks_as, chart_as, event_number};
+ghost use Rattle.explain_words.specs.Asked.{has_flag, kind_question, left_as, question_as, question_in, stop_asked};
+ghost use Rattle.explain_words.specs.Asked.{told_as, told_run, trace_as, why_as, without_events, without_flags};
 
 use crate::line::{Parse, parsed, text_of};
 use clap::ArgMatches;
@@ -42,6 +42,14 @@ pub enum Question {
     Help,
     /// The program's version.
     Version,
+}
+
+/// A run whose events are told: its stop, where there is one, and the numbers of the first and the last of them.
+#[derive(Clone, Copy, PartialEq, Eq)]
+pub struct ToldRun {
+    pub stop: Option<ProcessorStop>,
+    pub from: u32,
+    pub to: u32,
 }
 
 /// What the words ask for, the program's name first; none where they ask for nothing.
@@ -162,11 +170,19 @@ fn why_as(fail: Option<&str>) -> Option<Question>
 fn left_as(fail: Option<&str>) -> Option<Question>
     ensures { result ≡ left_as (option_map (λ text. text.now) fail.entry) }
 {
+    let stop = stop_asked(fail)?;
+    Some(Question::Left(stop))
+}
+
+/// The stop that the words give, if they give one.
+fn stop_asked(fail: Option<&str>) -> Option<Option<ProcessorStop>>
+    ensures { result ≡ stop_asked (option_map (λ text. text.now) fail.entry) }
+{
     match fail {
-        None => Some(Question::Left(None)),
+        None => Some(None),
         Some(fail) => {
             let stop = stop_of(fail)?;
-            Some(Question::Left(Some(stop)))
+            Some(Some(stop))
         }
     }
 }
@@ -193,12 +209,13 @@ fn trace_as(
     if alive {
         return None;
     }
-    trace_within(
-        fail,
-        event_number(from, 1),
-        event_number(to, u32::MAX),
+    let run = told_run(fail, from, to)?;
+    Some(Question::Trace {
+        stop: run.stop,
+        from: run.from,
+        to: run.to,
         json,
-    )
+    })
 }
 
 fn chart_as(
@@ -214,41 +231,24 @@ fn chart_as(
     if json {
         return None;
     }
-    chart_within(
-        fail,
-        event_number(from, 1),
-        event_number(to, u32::MAX),
+    let run = told_run(fail, from, to)?;
+    Some(Question::Chart {
+        stop: run.stop,
+        from: run.from,
+        to: run.to,
         alive,
-    )
+    })
 }
 
-fn chart_within(
-    fail: Option<&str>,
-    from: Option<u32>,
-    to: Option<u32>,
-    alive: bool,
-) -> Option<Question>
-    ensures { result ≡ chart_within (option_map (λ text. text.now) fail.entry) from to alive }
+/// The run that is told with these values of `--fail`, `--from` and `--to`.
+fn told_run(fail: Option<&str>, from: Option<&str>, to: Option<&str>) -> Option<ToldRun>
+    ensures { result ≡ told_run (option_map (λ text. text.now) fail.entry) (option_map (λ text. text.now) from.entry)
+        (option_map (λ text. text.now) to.entry) }
 {
-    let from = from?;
-    let to = to?;
-    match fail {
-        None => Some(Question::Chart {
-            stop: None,
-            from,
-            to,
-            alive,
-        }),
-        Some(fail) => {
-            let stop = stop_of(fail)?;
-            Some(Question::Chart {
-                stop: Some(stop),
-                from,
-                to,
-                alive,
-            })
-        }
-    }
+    let from = event_number(from, 1)?;
+    let to = event_number(to, u32::MAX)?;
+    let stop = stop_asked(fail)?;
+    Some(ToldRun { stop, from, to })
 }
 
 /// The number of an event, or this one where the words give none.
@@ -258,35 +258,6 @@ fn event_number(text: Option<&str>, missing: u32) -> Option<u32>
     match text {
         None => Some(missing),
         Some(text) => written_number(text.as_bytes()),
-    }
-}
-
-fn trace_within(
-    fail: Option<&str>,
-    from: Option<u32>,
-    to: Option<u32>,
-    json: bool,
-) -> Option<Question>
-    ensures { result ≡ trace_within (option_map (λ text. text.now) fail.entry) from to json }
-{
-    let from = from?;
-    let to = to?;
-    match fail {
-        None => Some(Question::Trace {
-            stop: None,
-            from,
-            to,
-            json,
-        }),
-        Some(fail) => {
-            let stop = stop_of(fail)?;
-            Some(Question::Trace {
-                stop: Some(stop),
-                from,
-                to,
-                json,
-            })
-        }
     }
 }
 

@@ -1,7 +1,7 @@
 ghost use Rattle.std.specs.Prelude.{◌≡◌, ◌≢◌, false, IfOk, map, option_map, string_bytes};
 ghost use Rattle.clap.specs.Words.{FailsBy, HasMatchesOf, app_of, fault_of, first_of, found_of, rows_of, rule_of};
-ghost use Rattle.explain_words.specs.Line.{IsParse, IsRefusedFor, alive_rule, fail_rule, file_rule, from_rule};
-ghost use Rattle.explain_words.specs.Line.{json_rule, mode_rule, the_line, to_rule};
+ghost use Rattle.explain_words.specs.Line.{IsParse, IsRefusedFor, file_rule, flag_rule, mode_rule, the_line};
+ghost use Rattle.explain_words.specs.Line.{valued_rule};
 
 use clap::error::ErrorKind;
 use clap::{Arg, ArgAction, ArgMatches, Command, Error};
@@ -37,59 +37,27 @@ fn file_argument<'a>(alloc: Global) -> Arg<'a>
     )
 }
 
-fn fail_argument<'a>(alloc: Global) -> Arg<'a>
-    ensures rule { rule_of result ≡ fail_rule }
+/// A flag of a name with one value, for which the help has this name.
+fn valued_argument<'a>(alloc: Global, name: &'a str, value: &'a str, help: &'a str) -> Arg<'a>
+    ensures rule { rule_of result ≡ valued_rule name.now }
     ensures local { result.global ≡ false }
 {
-    Arg::new(alloc, "fail")
-        .long("fail")
+    Arg::new(alloc, name)
+        .long(name)
         .action(ArgAction::Set)
-        .value_name("P:K")
-        .help(
-            "Of left, trace and chart: stops processor P just before the event that K events precede",
-        )
+        .value_name(value)
+        .help(help)
 }
 
-fn from_argument<'a>(alloc: Global) -> Arg<'a>
-    ensures rule { rule_of result ≡ from_rule }
+/// A flag of a name alone.
+fn flag_argument<'a>(alloc: Global, name: &'a str, help: &'a str) -> Arg<'a>
+    ensures rule { rule_of result ≡ flag_rule name.now }
     ensures local { result.global ≡ false }
 {
-    Arg::new(alloc, "from")
-        .long("from")
-        .action(ArgAction::Set)
-        .value_name("E")
-        .help("Of trace and chart: the first event that is told, by its number from 1")
-}
-
-fn to_argument<'a>(alloc: Global) -> Arg<'a>
-    ensures rule { rule_of result ≡ to_rule }
-    ensures local { result.global ≡ false }
-{
-    Arg::new(alloc, "to")
-        .long("to")
-        .action(ArgAction::Set)
-        .value_name("E")
-        .help("Of trace and chart: the last event that is told")
-}
-
-fn json_argument<'a>(alloc: Global) -> Arg<'a>
-    ensures rule { rule_of result ≡ json_rule }
-    ensures local { result.global ≡ false }
-{
-    Arg::new(alloc, "json")
-        .long("json")
+    Arg::new(alloc, name)
+        .long(name)
         .action(ArgAction::SetTrue)
-        .help("Of trace: writes each line as an object of JSON")
-}
-
-fn alive_argument<'a>(alloc: Global) -> Arg<'a>
-    ensures rule { rule_of result ≡ alive_rule }
-    ensures local { result.global ≡ false }
-{
-    Arg::new(alloc, "alive")
-        .long("alive")
-        .action(ArgAction::SetTrue)
-        .help("Of chart: draws alive packets too")
+        .help(help)
 }
 
 /// The words that a command line may have, as one simple command.
@@ -101,11 +69,30 @@ fn the_line<'a>(alloc: Global) -> Result<Command<'a>, AllocError>
         .version("1")
         .arg(mode_argument(alloc))?
         .arg(file_argument(alloc))?
-        .arg(fail_argument(alloc))?
-        .arg(from_argument(alloc))?
-        .arg(to_argument(alloc))?
-        .arg(json_argument(alloc))?
-        .arg(alive_argument(alloc))
+        .arg(valued_argument(
+            alloc,
+            "fail",
+            "P:K",
+            "Of left, trace and chart: stops processor P just before the event that K events precede",
+        ))?
+        .arg(valued_argument(
+            alloc,
+            "from",
+            "E",
+            "Of trace and chart: the first event that is told, by its number from 1",
+        ))?
+        .arg(valued_argument(
+            alloc,
+            "to",
+            "E",
+            "Of trace and chart: the last event that is told",
+        ))?
+        .arg(flag_argument(
+            alloc,
+            "json",
+            "Of trace: writes each line as an object of JSON",
+        ))?
+        .arg(flag_argument(alloc, "alive", "Of chart: draws alive packets too"))
 }
 
 fn matches_of<'a>(alloc: Global, words: &'a [String]) -> Result<ArgMatches<'a>, Error>

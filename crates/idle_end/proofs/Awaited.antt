@@ -82,4 +82,4 @@ module _ {site : Site} {events : ℕ} {post : Post} (end : IsEnd site events pos
           seen (subst (λ i. HasSeen post asker one (copy_of i pair) opener n)
           (same-seat opener.server pair j k there (at ∙ route)) has)
           (awaited-stands site end.fit events post.world end.good.invariant asker one n opener pair k opens there
-          awaited (λ gone. absurd (cc)))
+          awaited (λ gone. absurd (cc)) (λ blank. absurd (cc)))

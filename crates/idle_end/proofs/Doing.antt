@@ -1,6 +1,6 @@
 -- What copies that act can do at an idle end: nothing but take a request or get a reply, and so only what others bring
 -- them.
-use Rattle.std.proofs.Common.{◌≡◌, inl, inr, ℕ, ◌||◌, Bool, true, false, Some, slice_get, refl}
+use Rattle.std.proofs.Common.{◌≡◌, ◌≢◌, inl, inr, ℕ, ◌||◌, Bool, true, false, Some, slice_get, refl}
 use Rattle.std.proofs.lemmas.Bool.{cases_lt}
 use Rattle.gd_words.specs.declared.device.DeviceCall.{DeviceCall}
 use Rattle.gd_words.specs.declared.device.DeviceCall.TheVariants as call
@@ -15,7 +15,8 @@ use Rattle.world_semantics.specs.Core.{Core, Deed, Took, Got, Advances, goes, ma
 use Rattle.world_semantics.specs.Kept.{own_acts}
 use Rattle.world_semantics.specs.Own.{by_inner, by_ask, by_answer, by_device, by_write, is_new_write}
 use Rattle.world_semantics.specs.Passes.{by_send, by_pass, by_pass_again}
-use Rattle.world_semantics.specs.Rules.{by_own, by_checkpoint}
+use Rattle.world_semantics.specs.Messages.{Running}
+use Rattle.world_semantics.specs.Rules.{IsFreeFor, by_own, by_checkpoint}
 use Rattle.world_semantics.specs.World.{Pair, has_noted, may_pass, copy_of, other_of}
 use Rattle.world_semantics.proofs.Running.{enters-as}
 use Rattle.letters.specs.Posts.{Post}
@@ -28,6 +29,20 @@ TakesIn (Got file words) = Unit {0}
 TakesIn _ = ⊥
 
 module _ {site : Site} {events : ℕ} {post : Post} (end : IsEnd site events post) where
+  -- a copy that acts and awaits no reply has nothing to send: it could send it
+  pub free : (number : ℕ) (pair : Pair) (k : Which) → slice_get post.world.processes number ≡ Some pair
+      → (copy_of k pair).role ≡ Acting
+      → process.point (copy_of k pair).core.state ≢ point.Await → IsFreeFor (Running number) (copy_of k pair)
+  free number pair k there role away =
+      (end.idle.waits number pair k there role, by (copy_of k pair).renewal refl)
+    where
+      by : (renews : Bool) → (copy_of k pair).renewal ≡ renews → renews ≡ false
+      by false is = refl
+      by true is =
+          absurd (end.idle.runs number _ _ (by_checkpoint number pair there
+          (by_send k role (inr (is, away)) (end.idle.waits number pair k there role)
+          (end.renewing number pair k there is))))
+
   marks-none : (number : ℕ) (pair : Pair) (k : Which) → slice_get post.world.processes number ≡ Some pair
       → (copy_of k pair).role ≡ Acting
       → process.point (copy_of k pair).core.state ≡ point.AtCheckpoint → ⊥
@@ -41,7 +56,7 @@ module _ {site : Site} {events : ℕ} {post : Post} (end : IsEnd site events pos
       by : (marked : Bool) → has_noted post.world.marks (copy_of k pair).processor
           (copy_of (other_of k) pair).processor ≡ marked → ⊥
       by false is = end.idle.runs number _ _ (by_checkpoint number pair there
-          (by_send k role at (end.idle.waits number pair k there role) is))
+          (by_send k role (inl at) (end.idle.waits number pair k there role) is))
       by true is =
           let may : may_pass post.world.marks k pair ≡ true = or-else (copy_of k pair).acknowledged is in
           elim (cases_lt (copy_of k pair).position (own_acts number post.world.kept)) [
@@ -56,10 +71,12 @@ module _ {site : Site} {events : ℕ} {post : Post} (end : IsEnd site events pos
       → (new : Bool) → is_new_write pair.sectors asked ≡ new → ⊥
   calls-none number pair k there role at asked same false is =
       end.idle.runs number _ _ (by_own number k pair there role (by_device is) (acts at same)
-      (enters-as number (Step number) post.world.kept (copy_of k pair)))
+      (enters-as number (Step number) post.world.kept (copy_of k pair))
+      (free number pair k there role (λ awaits. cc)))
   calls-none number pair k there role at (call.Write sector words write) same true is =
       end.idle.runs number _ _ (by_own number k pair there role (by_write is) (acts at same)
-      (enters-as number (Step number) post.world.kept (copy_of k pair)))
+      (enters-as number (Step number) post.world.kept (copy_of k pair))
+      (free number pair k there role (λ awaits. cc)))
   calls-none number pair k there role at call.Nothing same true is = cc
   calls-none number pair k there role at (call.Read sector) same true is = cc
 
@@ -69,16 +86,19 @@ module _ {site : Site} {events : ℕ} {post : Post} (end : IsEnd site events pos
       → Advances (openers_of site number) (copy_of k pair).core deed next → TakesIn deed
   takes-in number pair k there role (goes at) =
       absurd (end.idle.runs number _ _ (by_own number k pair there role by_inner (goes at)
-      (enters-as number (Step number) post.world.kept (copy_of k pair))))
+      (enters-as number (Step number) post.world.kept (copy_of k pair))
+      (free number pair k there role (λ awaits. cc))))
   takes-in number pair k there role (marks at) = absurd (marks-none number pair k there role at)
   takes-in number pair k there role (takes block at known) = tt
   takes-in number pair k there role (asks at named said) =
       absurd (end.idle.runs number _ _ (by_own number k pair there role by_ask (asks at named said)
-      (enters-as number (Step number) post.world.kept (copy_of k pair))))
+      (enters-as number (Step number) post.world.kept (copy_of k pair))
+      (free number pair k there role (λ awaits. cc))))
   takes-in number pair k there role (gets at named) = tt
   takes-in number pair k there role (answers opener block at hand known placed said) =
       absurd (end.idle.runs number _ _ (by_own number k pair there role (by_answer placed)
       (answers opener block at hand known placed said)
-      (enters-as number (Step number) post.world.kept (copy_of k pair))))
+      (enters-as number (Step number) post.world.kept (copy_of k pair))
+      (free number pair k there role (λ awaits. cc))))
   takes-in number pair k there role (acts {call = asked} at same) =
       absurd (calls-none number pair k there role at asked same (is_new_write pair.sectors asked) refl)

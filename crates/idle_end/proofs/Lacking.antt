@@ -36,6 +36,7 @@ use Rattle.awaited_requests.specs.Served.{WaitsFor}
 use Rattle.awaited_requests.specs.takeover_laws.proofs.Backed.{next-is}
 use Rattle.awaited_requests.specs.takeover_laws.proofs.Waiting.{chosen-is}
 use Rattle.idle_end.proofs.Closed.{IsClosed}
+use Rattle.idle_end.proofs.Doing.{free}
 use Rattle.idle_end.proofs.Ends.{IsEnd, who_acts, acting}
 use Rattle.idle_end.proofs.Awaited.{unanswered, at-server}
 use Rattle.idle_end.proofs.Unanswered.{none-in-hand, chosen-there}
@@ -175,4 +176,5 @@ module _ {site : Site} {events : ℕ} {post : Post} (end : IsEnd site events pos
           let is = chosen-is table (copy_of (who_acts pair) pair).waiting found.0 found.1 in
           end.idle.runs number _ _ (by_own number (who_acts pair) pair there (acting end number pair there)
           (by_take found.1) (takes is.block at is.there)
-          (enters-as number (act.Take number found.0.request.opener) post.world.kept (copy_of (who_acts pair) pair)))
+          (enters-as number (act.Take number found.0.request.opener) post.world.kept (copy_of (who_acts pair) pair))
+          (free end number pair (who_acts pair) there (acting end number pair there) (λ awaits. cc)))

@@ -9,6 +9,7 @@ pub mod Lacking
 pub mod Owned
 pub mod Quiet
 pub mod Reached
+pub mod Renewing
 pub mod Resting
 pub mod Still
 pub mod Unanswered

@@ -1,18 +1,20 @@
 -- A disc that stands at its beginning and has nothing to take is idle.
-use Rattle.std.proofs.Common.{◌≡◌, ◌≢◌, ℕ, zero, suc, Bool, true, false, List, [], ◌∷◌, Some, None, slice_get, refl}
+use Rattle.std.proofs.Common.{◌≡◌, ◌≢◌, ℕ, zero, suc, ℤ, Bool, true, false, List, [], ◌∷◌, Some, None, slice_get, refl}
 use Rattle.std.proofs.Common.{subst}
 use Rattle.gd_words.specs.Members.{IsAmong}
 use Rattle.tal_tree.specs.declared.act.Act.{Act}
 use Rattle.tal_tree.specs.declared.site.Site.{Site}
+use Rattle.plain_semantics.specs.Machine.{next_request}
 use Rattle.world_semantics.specs.declared.which.Which.{Which}
 use Rattle.world_semantics.specs.declared.which.Which.TheVariants.{First, Second}
 use Rattle.world_semantics.specs.Core.{Core, Deed}
 use Rattle.world_semantics.specs.Messages.{Message, Sending, Cause, Entering}
 use Rattle.world_semantics.specs.Own.{Around, Causes, by_inner, by_take, by_ask, by_answer, by_device, by_write}
 use Rattle.world_semantics.specs.Own.{by_reply}
-use Rattle.world_semantics.specs.Passes.{Passes, by_send, by_pass_again, by_pass, by_apply, by_acknowledge}
+use Rattle.world_semantics.specs.Passes.{Passes, by_send, by_pass_again, by_pass, by_end, by_apply_behind, by_apply}
+use Rattle.world_semantics.specs.Passes.{by_acknowledge}
 use Rattle.world_semantics.specs.Rules.{Change, by_own, by_checkpoint, by_request, by_early_request, by_enter, by_print}
-use Rattle.world_semantics.specs.Rules.{by_stop, by_mark}
+use Rattle.world_semantics.specs.Rules.{by_stop, by_mark, by_reload}
 use Rattle.world_semantics.specs.Running.{run_done}
 use Rattle.world_semantics.specs.World.{Pair, Terminal, Down, World, pair_at_boot, copy_of}
 use Rattle.world_semantics.proofs.Lists.{some-same}
@@ -22,7 +24,7 @@ use Rattle.letters.specs.Posts.{Post}
 use Rattle.letters.specs.Routes.{Letter}
 use Rattle.process_histories.specs.Served.{disc}
 
--- Only a terminal that lacks no reply enters
+-- Only a terminal that lacks no reply and has a request left enters
 
 not-own : {site : Site} {number node terminal : ℕ} {core : Core} {before after : Around} {cause : Cause} {deed : Deed}
     {act : Act} {messages : List Message}
@@ -41,24 +43,35 @@ not-passes : {number terminal : ℕ} {marks : List Down} {kept after : List Act}
 not-passes (by_send k role at unsent unmarked) same = cc
 not-passes (by_pass_again k role at may less) same = cc
 not-passes (by_pass k role at may most) same = cc
-not-passes (by_apply k message applied role among era number put) same = cc
+not-passes (by_end k role sent at may) same = cc
+not-passes (by_apply_behind k message applied role among era number put less) same = cc
+not-passes (by_apply k message applied role among era number put most) same = cc
 not-passes (by_acknowledge k taken role sent among era number) same = cc
 
 entering-same : {one other : ℕ} → Entering one ≡ Entering other → one ≡ other
 entering-same same = cc
 
-entering-even : {site : Site} {w next : World} {cause : Cause} {sendings : List Sending} (number : ℕ)
-    → Change site w cause sendings next → cause ≡ Entering number
-    → (terminal : Terminal) × (slice_get w.terminals number ≡ Some terminal) × (terminal.entered ≡ terminal.printed)
-entering-even number (by_own one k pair there role causes advances enters) same = absurd (not-own causes same)
+-- a terminal that enters awaits no reply, and has a request left
+pub record Enters (site : Site) (w : World) (number : ℕ) : Type 0 where
+  pub terminal : Terminal
+  pub there : slice_get w.terminals number ≡ Some terminal
+  pub even : terminal.entered ≡ terminal.printed
+  pub words : List ℤ
+  pub next : next_request site number terminal.entered ≡ Some words
+
+pub entering-even : {site : Site} {w next : World} {cause : Cause} {sendings : List Sending} (number : ℕ)
+    → Change site w cause sendings next → cause ≡ Entering number → Enters site w number
+entering-even number (by_own one k pair there role causes advances enters fr) same = absurd (not-own causes same)
 entering-even number (by_checkpoint one pair there passes) same = absurd (not-passes passes same)
 entering-even number (by_request request k pair among there role) same = absurd (cc)
 entering-even number (by_early_request request k pair among there role) same = absurd (cc)
-entering-even {w = w} number (by_enter one terminal opener there even next opens) same =
-    (terminal, subst (λ n. slice_get w.terminals n ≡ Some terminal) (entering-same same) there, even)
+entering-even {site = site} {w = w} number (by_enter {words = words} one terminal opener there even next opens) same =
+    subst (Enters site w) (entering-same same)
+    (record { terminal = terminal; there = there; even = even; words = words; next = next })
 entering-even number (by_print one terminal reply there waits among opens last) same = absurd (cc)
-entering-even number (by_stop processor running) same = absurd (cc)
+entering-even number (by_stop processor running whole) same = absurd (cc)
 entering-even number (by_mark node processor stopped runs unmarked) same = absurd (cc)
+entering-even number (by_reload processor stopped all counted less) same = absurd (cc)
 
 -- The disc
 
@@ -83,7 +96,7 @@ pub disc-idle : (site : Site) (post : Post) → post.world.processes ≡ pair_at
     → ((number : ℕ) → run_done site number post.world ≡ None) → IsIdle site post
 disc-idle site post processes stopped owed lacks none = record {
   enters = λ number sendings next change.
-      (let has = entering-even number change refl in lacks number has.0 has.1 has.2);
+      (let has = entering-even number change refl in lacks number has.terminal has.there has.even);
   runs = λ number. run-idle site number post.world (none number);
   waits = λ number pair k there role. unsent site number pair k
       (subst (λ (all : List Pair). slice_get all number ≡ Some pair) processes there);

@@ -6,31 +6,36 @@ use Rattle.world_semantics.specs.declared.role.Role.TheVariants.{Acting}
 use Rattle.world_semantics.specs.declared.which.Which.{Which}
 use Rattle.world_semantics.specs.Kept.{own_acts}
 use Rattle.world_semantics.specs.World.{Pair, copy_of}
-use Rattle.world_semantics.proofs.Reached.{run-marks, run-roles}
+use Rattle.world_semantics.proofs.Reached.{run-kept}
 use Rattle.plain_histories.proofs.Counted.{booked-count}
 use Rattle.letters.specs.Posts.{Post}
 use Rattle.awaited_requests.proofs.Seats.{run-seats}
 use Rattle.awaited_requests.specs.takeover_laws.proofs.Kept.{run-keeps}
 use Rattle.idle_end.specs.Ends.{IsIdleEnd}
 use Rattle.idle_end.proofs.Ends.{IsEnd}
+use Rattle.idle_end.proofs.Renewing.{run-renewing}
 use Rattle.idle_end.proofs.Resting.{caught-up}
 
 pub end-of : {site : Site} {events : List Event} {post : Post} → IsIdleEnd site events post
     → IsEnd site (length events) post
-end-of {site = site} {events = events} {post = post} end = record {
-  fit = end.fit;
-  laid_out = end.laid_out;
-  few = end.few;
-  good = record {
-    roles = run-roles end.run;
-    stopped = run-marks end.run;
-    invariant = run-keeps site end.fit events post.world end.few end.run;
-  };
-  one_stops = end.one_stops;
-  seated = run-seats site events post.world end.laid_out end.run;
-  served = end.served;
-  idle = end.idle;
-}
+end-of {site = site} {events = events} {post = post} end =
+    let kept = run-kept end.fit.seats end.run in
+    record {
+      fit = end.fit;
+      laid_out = end.laid_out;
+      few = end.few;
+      good = record {
+        roles = kept.roles;
+        stopped = kept.marks;
+        steady = kept.steady;
+        seated = kept.seated;
+        invariant = run-keeps site end.fit events post.world end.few end.run;
+      };
+      seated = run-seats site events post.world end.laid_out end.run;
+      renewing = run-renewing end.run;
+      served = end.served;
+      idle = end.idle;
+    }
 
 -- so each copy that acts has done as many acts as are kept of its process
 pub done-kept : {site : Site} {events : List Event} {post : Post} (end : IsIdleEnd site events post) (number : ℕ)

@@ -76,8 +76,8 @@ module _ {site : Site} {events : ℕ} {post : Post} (end : IsEnd site events pos
       let role = acting end number seat.0 seat.1 in
       let was = end.good.invariant.processes number seat.0 seat.1 in
       let same : was.0 ≡ spec = some-same (sym was.1 ∙ known) in
-      let sound : IsSound site post.world.marks the_ledger events number spec seat.0 =
-      subst (λ (s : ProcessSpec). IsSound site post.world.marks the_ledger events number s seat.0) same was.2 in
+      let sound : IsSound site the_ledger events number spec seat.0 =
+      subst (λ (s : ProcessSpec). IsSound site the_ledger events number s seat.0) same was.2 in
       by seat.0 seat.1 role (acting-leads seat.0 (who_acts seat.0) sound.led role).1
     where
       by : (pair : Pair) → slice_get post.world.processes number ≡ Some pair
@@ -95,8 +95,11 @@ module _ {site : Site} {events : ℕ} {post : Post} (end : IsEnd site events pos
         position = position;
         ends = inl refl;
       }
-      by pair there role (is_applied before is split position done sent) =
-          let unsent = end.idle.waits number pair (who_acts pair) there role in absurd (cc)
+      by pair there role (is_applied before is split position done) =
+          -- it stands at a checkpoint, which it could pass or send
+          let all = (booked-ran end.fit.regular end.good.invariant.booked).agrees.processes number spec known in
+          let next_done = next-advances [] Checkpointed before split all.2.done done in
+          absurd (takes-in end number pair (who_acts pair) there role next_done.1)
       by pair there role (is_behind since next before is split one all position done unsent) = record {
         pair = pair;
         there = there;

@@ -6,19 +6,17 @@ use Rattle.plain_semantics.specs.Machine.{PlainProcess}
 use Rattle.world_semantics.specs.Follows.{IsRun}
 use Rattle.world_semantics.specs.World.{Copy, Pair}
 use Rattle.awaited_requests.specs.takeover_laws.specs.Fit.{IsFit}
-use Rattle.letters.specs.Idle.{IsIdle, OneStops}
+use Rattle.letters.specs.Idle.{IsIdle}
 use Rattle.letters.specs.Posts.{Post}
 use Rattle.awaited_requests.specs.Seats.{IsLaidOut}
 use Rattle.awaited_requests.specs.Served.{AreServed}
 
--- a run of a fit site that is laid out has come to a post that is idle, at which every awaited request is served and at
--- most one processor has stopped
+-- a run of a fit site that is laid out has come to a post that is idle, at which every awaited request is served
 pub record IsIdleEnd (site : Site) (events : List Event) (post : Post) : Type 0 where
   pub fit : IsFit site
   pub laid_out : IsLaidOut site
   pub few : length events < 4294967296
   pub run : IsRun site events post.world
-  pub one_stops : OneStops post.world
   pub served : AreServed site post
   pub idle : IsIdle site post
 

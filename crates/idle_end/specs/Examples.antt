@@ -1,9 +1,12 @@
--- Worked examples: a disc that nobody asks, a request that was lost on its way to its disc, and one that two copies
--- hold.
-use Rattle.std.specs.Prelude.{List, [], ◌∷◌}
+-- Worked examples: a disc that nobody asks, a request that was lost on its way to its disc, one that two copies hold,
+-- and a disc of which both processors stop, the first of them before it is loaded again.
+use Rattle.std.specs.Prelude.{false, List, [], ◌∷◌}
 use Rattle.tal_tree.specs.declared.act.Act.{Act}
-use Rattle.tal_tree.specs.declared.act.Act.TheVariants.{Take, Enter}
+use Rattle.tal_tree.specs.declared.act.Act.TheVariants.{Take}
+use Rattle.tal_tree.specs.declared.act.Act.TheVariants as act
 use Rattle.tal_tree.specs.declared.site.Site.{Site}
+use Rattle.schedule.specs.declared.event.Event.{Event}
+use Rattle.schedule.specs.declared.event.Event.TheVariants.{Run, Enter, Deliver, Tick, Fail, Reload}
 use Rattle.world_semantics.specs.declared.role.Role.TheVariants.{Acting, Gone}
 use Rattle.world_semantics.specs.World.{World}
 use Rattle.letters.specs.Posts.{Post}
@@ -17,7 +20,7 @@ quiet_site = record disc_site { terminals = [] }
 -- a terminal has entered its request, which is owed no more and waits nowhere
 abbrev pub lost : Post
 lost = record {
-  world = record entered { requests = first_request ∷ []; kept = Enter 0 ∷ [] };
+  world = record entered { requests = first_request ∷ []; kept = act.Enter 0 ∷ [] };
   owed = [];
   sent = letter_to 0 ∷ [];
 }
@@ -30,3 +33,11 @@ taken_over_from held = record lost.world {
     second = record disc_pair.second { role = Acting; held = Take 0 0 ∷ [] };
   } ∷ [];
 }
+
+-- the first processor of a disc stops, is loaded again and gets all that the copy has which took over; then the second
+-- one stops, and the terminal's request is entered, taken, done and answered
+abbrev pub two_stops : List Event
+two_stops =
+    Fail 0 ∷ Tick 1 ∷ Tick 16 ∷ Reload 0 ∷ Run 0 ∷ Deliver false 0 ∷ Deliver false 0 ∷ Run 0
+    ∷ Fail 1 ∷ Tick 0 ∷ Tick 16
+    ∷ Enter 0 ∷ Deliver false 0 ∷ Run 0 ∷ Run 0 ∷ Run 0 ∷ Run 0 ∷ Deliver false 0 ∷ []

@@ -2,7 +2,7 @@
 use Rattle.std.proofs.Common.{◌<◌, List, length, arith}
 use Rattle.tal_tree.specs.declared.site.Site.{Site}
 use Rattle.schedule.specs.declared.event.Event.{Event}
-use Rattle.letters.specs.Idle.{IsIdle, OneStops}
+use Rattle.letters.specs.Idle.{IsIdle}
 use Rattle.letters.specs.Posts.{Post, HasPlayed}
 use Rattle.letters.proofs.Worlds.{played-run}
 use Rattle.served_requests.specs.awaited_requests.specs.Seats.{IsLaidOut}
@@ -13,13 +13,14 @@ use Rattle.idle_laws.proofs.Sound.{played-sound}
 
 pub played-ends : (site : Site) (events : List Event) (post : Post) → IsAcceptedSite site → IsLaidOut site
     → length events < 4294967295
-    → HasPlayed site events post → OneStops post.world → IsIdle site post → IsIdleEnd site events post
-played-ends site events post accepted out few played one_stops idle = record {
-  fit = accepted-fit site accepted;
-  laid_out = out;
-  few = omega (arith, few);
-  run = played-run played;
-  one_stops = one_stops;
-  served = (played-sound site (accepted-fit site accepted) out few one_stops played).served;
-  idle = idle;
-}
+    → HasPlayed site events post → IsIdle site post → IsIdleEnd site events post
+played-ends site events post accepted out few played idle =
+    let fit = accepted-fit site accepted out.places in
+    record {
+      fit = fit;
+      laid_out = out;
+      few = omega (arith, few);
+      run = played-run played;
+      served = (played-sound site fit out few played).served;
+      idle = idle;
+    }

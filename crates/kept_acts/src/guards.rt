@@ -1,4 +1,6 @@
 ghost use Rattle.std.specs.Prelude.{◌≡◌, ◌<◌, ◌≤◌, ℕ, ◌+◌, [], ◌∷◌, List};
+ghost use Rattle.process_semantics.specs.declared.point.Point.{Point};
+ghost use Rattle.process_semantics.specs.declared.point.Point.TheVariants.{Ask, AtCheckpoint};
 ghost use Rattle.tal_tree.specs.declared.act.Act.{Act};
 ghost use Rattle.tal_tree.specs.declared.act.Act.TheVariants.{Enter, Step, Take};
 ghost use Rattle.world_semantics.specs.Kept.{own_acts};
@@ -36,13 +38,31 @@ pub fn a_mark_is_kept_once()
 /// After a checkpoint was applied, it and all before it are kept. The copy that sent it does the checkpoint anew when
 /// it passes it.
 pub fn a_checkpoint_keeps_its_mark()
-    ensures held { share_after_cover 1 (Step 1 ∷ Step 2 ∷ []) (record { position = 1; held = Take 1 0 ∷ [] })
+    ensures held { share_after_cover 1 AtCheckpoint (Step 1 ∷ Step 2 ∷ [])
+        (record { position = 1; held = Take 1 0 ∷ [] })
         ≡ record { share = share_from 2; kept = Step 1 ∷ Take 1 0 ∷ Step 1 ∷ Step 2 ∷ [] } }
-    ensures base { covered_count 1 (Step 1 ∷ Step 2 ∷ []) (record { position = 1; held = Take 1 0 ∷ [] }) ≡ 3 }
-    ensures passed { (number : ℕ) (kept : List Act) (share : Share)
-        → share_after_pass number (share_after_cover number kept share).kept (share_after_cover number kept share).share
+    ensures base { covered_count 1 AtCheckpoint (Step 1 ∷ Step 2 ∷ []) (record { position = 1; held = Take 1 0 ∷ [] })
+        ≡ 3 }
+    ensures passed { (number : ℕ) (kept : List Act) (share : Share) → own_acts number kept ≤ share.position
+        → share_after_pass number (share_after_cover number AtCheckpoint kept share).kept
+        (share_after_cover number AtCheckpoint kept share).share
         ≡ record {
-          share = share_from (covered_count number kept share);
-          kept = (share_after_cover number kept share).kept;
+          share = share_from (covered_count number AtCheckpoint kept share);
+          kept = (share_after_cover number AtCheckpoint kept share).kept;
         } }
+{}
+
+/// A checkpoint of a copy that stands elsewhere, as one that was renewed may, keeps what the copy holds and no mark.
+pub fn a_checkpoint_elsewhere_keeps_no_mark()
+    ensures held { share_after_cover 1 Ask (Step 1 ∷ Step 2 ∷ []) (record { position = 1; held = Take 1 0 ∷ [] })
+        ≡ record { share = share_from 2; kept = Take 1 0 ∷ Step 1 ∷ Step 2 ∷ [] } }
+    ensures base { covered_count 1 Ask (Step 1 ∷ Step 2 ∷ []) (record { position = 1; held = Take 1 0 ∷ [] }) ≡ 2 }
+{}
+
+/// A checkpoint of a copy that is behind the kept acts keeps nothing more, and leaves the copy where it is.
+pub fn a_checkpoint_of_what_is_done_anew_keeps_nothing()
+    ensures kept { (number position : ℕ) (stands : Point) (kept : List Act) → position < own_acts number kept
+        → share_after_cover number stands kept (share_from position)
+        ≡ record { share = share_from position; kept = kept } }
+    ensures base { covered_count 1 AtCheckpoint (Step 1 ∷ Step 1 ∷ Step 1 ∷ []) (share_from 1) ≡ 2 }
 {}

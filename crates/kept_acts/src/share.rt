@@ -6,6 +6,7 @@ ghost use Rattle.world_semantics.specs.Shares.{share_without_held, share_after_p
 use crate::kept::KeptActs;
 use gd_words::NoMemory;
 use logs::Log;
+use process_semantics::Point;
 use std::alloc::Global;
 use std::marker::Model;
 use tal_tree::Act;
@@ -103,19 +104,41 @@ impl CopyShare {
         Ok(())
     }
 
-    /// The other copy of the process applied this copy's checkpoint. Answers the base: how many kept acts of the
-    /// process the checkpoint covers.
-    pub fn cover(&mut self, process: u8, kept: &mut KeptActs) -> Result<u64, NoMemory>
-        ensures base { IfOk result (λ base. base ≡ covered_count process kept.old self.old) }
-        ensures share { OnOk result (self.new ≡ (share_after_cover process kept.old self.old).share) }
-        ensures kept { OnOk result (kept.new ≡ (share_after_cover process kept.old self.old).kept) }
+    /// The other copy of the process applied this copy's checkpoint, which stands at this point. Answers the base: how
+    /// many kept acts of the process the checkpoint covers.
+    pub fn cover(
+        &mut self,
+        process: u8,
+        stands: Point,
+        kept: &mut KeptActs,
+    ) -> Result<u64, NoMemory>
+        ensures base { IfOk result (λ base. base ≡ covered_count process stands kept.old self.old) }
+        ensures share { OnOk result (self.new ≡ (share_after_cover process stands kept.old self.old).share) }
+        ensures kept { OnOk result (kept.new ≡ (share_after_cover process stands kept.old self.old).kept) }
         ensures err { OnErr result ((self.new ≡ self.old) × (kept.new ≡ kept.old)) }
     {
-        kept.keep_with_mark(process, &self.held)?;
-        self.held.clear();
-        let base = kept.length_of(process);
-        self.position = base - 1;
-        Ok(base)
+        if self.position < kept.length_of(process) {
+            return match stands {
+                Point::AtCheckpoint => Ok(self.position + 1),
+                _ => Ok(self.position),
+            };
+        }
+        match stands {
+            Point::AtCheckpoint => {
+                kept.keep_with_mark(process, &self.held)?;
+                self.held.clear();
+                let base = kept.length_of(process);
+                self.position = base - 1;
+                Ok(base)
+            }
+            _ => {
+                kept.keep_all(&self.held)?;
+                self.held.clear();
+                let base = kept.length_of(process);
+                self.position = base;
+                Ok(base)
+            }
+        }
     }
 
     /// The copy took over: it goes on from the base, and holds nothing.

@@ -1,4 +1,5 @@
 use kept_acts::{CopyShare, KeptActs};
+use process_semantics::Point;
 use std::test::Fail;
 use tal_tree::Act;
 
@@ -46,7 +47,7 @@ fn what_was_kept_is_done_anew(rt: HostRuntime) -> Result<(), Fail> {
     let mut first = CopyShare::new(rt.alloc());
     let mut second = CopyShare::new(rt.alloc());
     enter(&mut first, TAKE, &mut kept)?;
-    let base = first.cover(1, &mut kept)?;
+    let base = first.cover(1, Point::AtCheckpoint, &mut kept)?;
     assert_eq!(rt; base, 2);
     assert_eq!(rt; first.position(), 1);
     first.pass(1, &mut kept)?;
@@ -63,5 +64,29 @@ fn what_was_kept_is_done_anew(rt: HostRuntime) -> Result<(), Fail> {
     second.close(&mut kept)?;
     assert!(rt; kept.as_slice() == [TAKE, STEP, STEP, TAKE].as_slice());
     assert!(rt; second.held().is_empty());
+    Ok(())
+}
+
+#[test]
+fn what_is_behind_is_covered_as_far_as_it_came(rt: HostRuntime) -> Result<(), Fail> {
+    let mut kept = KeptActs::new(rt.alloc())?;
+    let mut share = CopyShare::new(rt.alloc());
+    kept.keep(STEP)?;
+    kept.keep(STEP)?;
+    kept.keep(STEP)?;
+    enter(&mut share, STEP, &mut kept)?;
+    let at_mark = share.cover(1, Point::AtCheckpoint, &mut kept)?;
+    assert_eq!(rt; at_mark, 2);
+    assert_eq!(rt; share.position(), 1);
+    let inside = share.cover(1, Point::Inner, &mut kept)?;
+    assert_eq!(rt; inside, 1);
+    assert_eq!(rt; kept.length_of(1), 3);
+    enter(&mut share, STEP, &mut kept)?;
+    enter(&mut share, STEP, &mut kept)?;
+    enter(&mut share, TAKE, &mut kept)?;
+    let elsewhere = share.cover(1, Point::Answer, &mut kept)?;
+    assert_eq!(rt; elsewhere, 4);
+    assert!(rt; kept.as_slice() == [STEP, STEP, STEP, TAKE].as_slice());
+    assert!(rt; share.held().is_empty());
     Ok(())
 }

@@ -40,13 +40,28 @@ stand_at_point copy point.Ask = stand.CanStep
 stand_at_point copy point.Answer = stand.CanStep
 stand_at_point copy point.Device = stand.CanStep
 
--- where a copy stands that acts
+-- where a copy stands that acts: one that has sent a checkpoint waits until that is acknowledged, and one that has to
+-- send everything can do so unless it awaits a reply
+abbrev pub stand_renewing : CopyView → Point → Stand
+stand_renewing copy point.Await = stand_awaiting copy.awaited
+stand_renewing copy point.Take = stand.CanStep
+stand_renewing copy point.AtCheckpoint = stand.CanStep
+stand_renewing copy point.Ended = stand.CanStep
+stand_renewing copy point.Inner = stand.CanStep
+stand_renewing copy point.Ask = stand.CanStep
+stand_renewing copy point.Answer = stand.CanStep
+stand_renewing copy point.Device = stand.CanStep
+
 abbrev pub stand_at : CopyView → Stand
-stand_at copy = stand_at_point copy copy.point
+stand_at copy =
+    if copy.sent then stand.AtAcknowledgement copy.number
+    else if copy.renewal then stand_renewing copy copy.point
+    else stand_at_point copy copy.point
 
 abbrev pub is_acting_as : ℕ → ℕ → Role → Bool
 is_acting_as process number role.Acting = number == process
 is_acting_as process number role.Watching = false
+is_acting_as process number role.Blank = false
 is_acting_as process number role.Gone = false
 
 -- whether a copy acts for this process

@@ -2,7 +2,7 @@ ghost use Rattle.std.specs.Prelude.{◌≡◌, ◌++◌, map, IfOk, OnOk};
 ghost use Rattle.std.specs.Option.{option_copied};
 ghost use Rattle.left_findings.specs.Left.{IsLeft, acting_among, is_acting_of, left_acting, left_process};
 ghost use Rattle.left_findings.specs.Left.{processes_left, servers_of, stand_at, stand_awaiting, stand_checked};
-ghost use Rattle.left_findings.specs.Left.{terminal_left};
+ghost use Rattle.left_findings.specs.Left.{stand_at_point, stand_renewing, terminal_left};
 
 use crate::finding::{Left, ProcessLeft, Stand, TerminalLeft};
 use crate::places::line_of_copy;
@@ -130,13 +130,42 @@ fn is_acting_of(process: usize, copy: &CopyView) -> bool
     match copy.role {
         Role::Acting => usize::from(copy.process) == process,
         Role::Watching => false,
+        Role::Blank => false,
         Role::Gone => false,
     }
 }
 
-/// Where a copy stands that acts.
+/// Where a copy stands that acts: one that has sent a checkpoint waits until that is acknowledged.
 fn stand_at(copy: &CopyView) -> Stand
     ensures { result ≡ stand_at copy.now }
+{
+    if copy.sent {
+        Stand::AtAcknowledgement(copy.number)
+    } else if copy.renewal {
+        stand_renewing(copy)
+    } else {
+        stand_at_point(copy)
+    }
+}
+
+/// Where a copy stands that has to send everything.
+fn stand_renewing(copy: &CopyView) -> Stand
+    ensures { result ≡ stand_renewing copy.now copy.now.point }
+{
+    match copy.point {
+        Point::Await => stand_awaiting(copy),
+        Point::Take => Stand::CanStep,
+        Point::AtCheckpoint => Stand::CanStep,
+        Point::Ended => Stand::CanStep,
+        Point::Inner => Stand::CanStep,
+        Point::Ask => Stand::CanStep,
+        Point::Answer => Stand::CanStep,
+        Point::Device => Stand::CanStep,
+    }
+}
+
+fn stand_at_point(copy: &CopyView) -> Stand
+    ensures { result ≡ stand_at_point copy.now copy.now.point }
 {
     match copy.point {
         Point::Take => Stand::AtTake,

@@ -9,7 +9,8 @@ ghost use Rattle.world_semantics.specs.declared.role.Role.TheVariants as role;
 ghost use Rattle.program_ends.specs.Ends.{line_of_number};
 ghost use Rattle.tal_tree.specs.declared.program.Program.{Program};
 ghost use Rattle.left_findings.specs.Left.{acting_among, is_acting_as, left_by, server_of_stand};
-ghost use Rattle.left_findings.specs.Left.{stand_at_point, stand_awaiting, stand_checked, terminal_left};
+ghost use Rattle.left_findings.specs.Left.{stand_at_point, stand_awaiting, stand_checked, stand_renewing};
+ghost use Rattle.left_findings.specs.Left.{terminal_left};
 ghost use Rattle.left_findings.specs.Places.{line_of_copy};
 ghost use Rattle.left_findings.specs.declared.finding.Stand.TheVariants as stand;
 ghost use Rattle.left_findings.specs.declared.finding.TerminalLeft.TheVariants as terminal;
@@ -25,11 +26,19 @@ pub fn a_copy_stands_at_its_next_step()
     ensures unsent { stand_checked false 4 ≡ stand.CanStep }
 {}
 
+/// One that has to send everything can do so even if it has ended, but not while it awaits a reply.
+pub fn a_copy_sends_everything_first()
+    ensures ended { (copy : CopyView) → stand_renewing copy point.Ended ≡ stand.CanStep }
+    ensures take { (copy : CopyView) → stand_renewing copy point.Take ≡ stand.CanStep }
+    ensures awaits { (copy : CopyView) → stand_renewing copy point.Await ≡ stand_awaiting copy.awaited }
+{}
+
 /// A process stands where its own copy stands that acts, and without one it waits until another takes over.
 pub fn a_process_stands_by_its_acting_copy()
     ensures acting { is_acting_as 2 2 role.Acting ≡ true }
     ensures another { is_acting_as 2 3 role.Acting ≡ false }
     ensures watching { is_acting_as 2 2 role.Watching ≡ false }
+    ensures blank { is_acting_as 2 2 role.Blank ≡ false }
     ensures gone { is_acting_as 2 2 role.Gone ≡ false }
     ensures none { acting_among 2 [] ≡ None }
     ensures takeover { (site : Site) (spec : ProcessSpec) → left_by site spec None

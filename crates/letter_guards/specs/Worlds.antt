@@ -1,6 +1,6 @@
 -- A small world that the guards name: a bank that awaits a disc's reply, a user of the bank, and a terminal of each of
 -- both.
-use Rattle.std.specs.Prelude.{ℕ, ℤ, pos, true, false, List, [], ◌∷◌, codes, Option, None}
+use Rattle.std.specs.Prelude.{ℕ, ℤ, pos, true, false, List, [], ◌∷◌, codes, map, Option, None}
 use Rattle.gd_words.specs.declared.message.Request.{Request}
 use Rattle.tal_tree.specs.declared.expression.Expr.{Number}
 use Rattle.tal_tree.specs.declared.expression.Variable.TheVariants as variable
@@ -15,6 +15,7 @@ use Rattle.process_semantics.specs.Process as process
 use Rattle.checkpoint_image.specs.declared.receive.ReceiveBlock.{ReceiveBlock}
 use Rattle.checkpoint_image.specs.declared.message.ImageMessage.{ImageMessage}
 use Rattle.world_semantics.specs.declared.role.Role.TheVariants.{Gone}
+use Rattle.world_semantics.specs.declared.which.Which.TheVariants.{Second}
 use Rattle.world_semantics.specs.Core.{Core}
 use Rattle.world_semantics.specs.Messages.{Message, Asking, Replying}
 use Rattle.world_semantics.specs.Passes.{checkpoint_of}
@@ -108,6 +109,7 @@ lost pair = record pair { first = record pair.first { role = Gone } }
 abbrev pub world_at : ℕ → World
 world_at node = record {
   stopped = false ∷ false ∷ true ∷ false ∷ [];
+  reloads = 0 ∷ 0 ∷ 0 ∷ 0 ∷ [];
   marks = [];
   requests = [];
   replies = [];
@@ -124,6 +126,13 @@ world = world_at 0
 -- the world after this node marked processor 2
 abbrev pub marked_by : ℕ → World → World
 marked_by node w = record w { marks = record { node = node; down = 2 } ∷ [] }
+
+-- the world in which the disc's second copy leads, and this node has marked these processors
+abbrev pub led_by_second : ℕ → List ℕ → World
+led_by_second node downs = record world {
+  marks = map (λ down. record { node = node; down = down }) downs;
+  processes = record (pair_at_boot site 0 disc) { led = Second } ∷ bank_at 0 ∷ [];
+}
 
 -- the request that the bank awaits, and that of the disc's terminal
 abbrev pub bank_asks : Message

@@ -4,16 +4,19 @@ ghost use Rattle.world_semantics.specs.Passes.{taken_of};
 ghost use Rattle.world_semantics.specs.World.{terminal_node};
 ghost use Rattle.letters.specs.Routes.{route_to, receiver_of, letters_of};
 ghost use Rattle.letter_guards.specs.Worlds.{site, world, marked_by, bank_asks, user_is_told, terminal_is_told};
-ghost use Rattle.letter_guards.specs.Worlds.{checkpoint, letter};
+ghost use Rattle.letter_guards.specs.Worlds.{checkpoint, led_by_second, letter};
 
-/// A node sends to the first copy of a process, and once it has marked that one's processor to the second one; other
-/// nodes still send to the first.
+/// A node sends to the copy of a process that leads, at first the first one, and once it has marked that one's
+/// processor to the other one; other nodes still send to the one that leads.
 pub fn routes_change_where_marks_are_made()
     ensures before { route_to world 0 0 ≡ Some 2 }
     ensures after { route_to (marked_by 0 world) 0 0 ≡ Some 3 }
     ensures other_node { route_to (marked_by 0 world) 1 0 ≡ Some 2 }
     ensures other_process { route_to (marked_by 0 world) 0 1 ≡ Some 0 }
     ensures missing { route_to world 0 3 ≡ None }
+    ensures second { route_to (led_by_second 0 []) 0 0 ≡ Some 3 }
+    ensures other_marked { route_to (led_by_second 0 (2 ∷ [])) 0 0 ≡ Some 3 }
+    ensures led_marked { route_to (led_by_second 0 (3 ∷ [])) 0 0 ≡ Some 2 }
 {}
 
 /// Requests and replies to files go by the routes, replies to terminals to their node, and what is between two copies

@@ -10,7 +10,7 @@ use Rattle.tal_tree.specs.declared.site.Site.{Site}
 use Rattle.plain_semantics.specs.Openers.{openers_of}
 use Rattle.checkpoint_image.specs.declared.receive.ReceiveBlock.{ReceiveBlock}
 use Rattle.world_semantics.specs.declared.role.Role.{Role}
-use Rattle.world_semantics.specs.declared.role.Role.TheVariants.{Acting, Watching, Gone}
+use Rattle.world_semantics.specs.declared.role.Role.TheVariants.{Acting, Watching, Blank, Gone}
 use Rattle.world_semantics.specs.declared.which.Which.{Which}
 use Rattle.world_semantics.specs.declared.which.Which.TheVariants.{First, Second}
 use Rattle.world_semantics.specs.Messages.{Message, Asking, Replying, Sending}
@@ -151,6 +151,7 @@ of-acting : {A : Type 0} (x : A) (node : ℕ) (role : Role) (at : ℕ) (items : 
     → IsAmong x (if_acts_on node role at items) → (role ≡ Acting) × IsAmong x items
 of-acting x node Acting at items among = (refl, if-among x (at == node) items among)
 of-acting x node Watching at items none = absurd none
+of-acting x node Blank at items none = absurd none
 of-acting x node Gone at items none = absurd none
 
 -- which request is asked again

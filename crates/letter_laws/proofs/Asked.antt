@@ -1,6 +1,6 @@
 -- Each change leaves what is awaited among what was sent.
 use Rattle.std.proofs.Common.{◌≡◌, ◌≢◌, ◌==◌, inl, ℕ, ◌+◌, ◌-◌, ℤ, Bool, true, false, if◌then◌else◌, List, [], ◌∷◌}
-use Rattle.std.proofs.Common.{Option, Some, None, slice_get, refl, subst, arith}
+use Rattle.std.proofs.Common.{Option, Some, None, slice_get, refl, ap, subst, arith}
 use Rattle.std.proofs.lemmas.Bool.{eqb-true}
 use Rattle.gd_words.specs.Members.{IsAmong}
 use Rattle.gd_words.specs.declared.message.Request.{Request}
@@ -16,25 +16,26 @@ use Rattle.disc_device.specs.Sectors.{Stored}
 use Rattle.world_semantics.specs.declared.role.Role.TheVariants.{Acting}
 use Rattle.world_semantics.specs.declared.which.Which.{Which}
 use Rattle.world_semantics.specs.declared.which.Which.TheVariants.{First, Second}
-use Rattle.world_semantics.specs.Core.{after_passing}
+use Rattle.world_semantics.specs.Core.{Core, after_passing}
 use Rattle.world_semantics.specs.Laws.{HasGrown}
 use Rattle.world_semantics.specs.Messages.{Sending, Cause}
-use Rattle.world_semantics.specs.Passes.{Passes, by_send, by_pass_again, by_pass, by_apply, by_acknowledge}
+use Rattle.world_semantics.specs.Passes.{Passes, by_send, by_pass_again, by_pass, by_end, by_apply_behind}
+use Rattle.world_semantics.specs.Passes.{by_apply, by_acknowledge}
 use Rattle.world_semantics.specs.Rules.{Change, by_own, by_checkpoint, by_request, by_early_request, by_enter, by_print}
-use Rattle.world_semantics.specs.Rules.{by_stop, by_mark, stopped_copy, stopped_pair, taker, pair_after_down}
-use Rattle.world_semantics.specs.Rules.{pair_at_down, entered_request}
-use Rattle.world_semantics.specs.World.{Copy, Pair, Terminal, World, boot, copy_of, with_copy}
+use Rattle.world_semantics.specs.Rules.{by_stop, by_mark, by_reload, stopped_copy, stopped_pair, taker}
+use Rattle.world_semantics.specs.Rules.{pair_after_down, pair_at_down, renewals_ended, entered_request, begun, reloaded_by}
+use Rattle.world_semantics.specs.World.{Copy, Pair, Terminal, World, boot, copy_of, receives, with_copy}
 use Rattle.world_semantics.proofs.Becoming.{was-role}
 use Rattle.world_semantics.proofs.Growing.{causes-grow}
 use Rattle.world_semantics.proofs.Lists.{set-all, map-all, grown-none, grown-one}
-use Rattle.world_semantics.proofs.Roles.{taker-is}
+use Rattle.world_semantics.proofs.Roles.{taker-is, reload-all}
 use Rattle.process_histories.proofs.Steady.{calm-away, marked-calm, done-steady}
 use Rattle.awaited_requests.specs.plain_histories.specs.Agreeing.{AreRegular}
 use Rattle.awaited_requests.specs.takeover_laws.proofs.Kept.{IsGood}
 use Rattle.letters.specs.Again.{awaited_by, entered_last, awaited_from}
 use Rattle.letter_laws.specs.Known.{WatchersAreCalm, AwaitedWereSent}
 use Rattle.letter_laws.proofs.Awaited.{awaited-last, acting-done, own-awaited}
-use Rattle.letter_laws.proofs.Calm.{not-both, begins-resting}
+use Rattle.letter_laws.proofs.Calm.{begins-resting}
 use Rattle.letter_laws.proofs.Entered.{begins-even}
 use Rattle.letter_laws.proofs.Given.{only}
 use Rattle.letter_laws.proofs.Sent.{among-grown}
@@ -121,14 +122,26 @@ module _ (site : Site) (regular : AreRegular site) (events : ℕ) (w : World) (g
   passes-sent number pair there (by_pass Second role at may most) Second = λ _ request among.
       absurd (passed-none number pair Second there role at
       (awaited-last site number (after_passing (copy_of Second pair).core) request among).stands)
-  passes-sent number pair there (by_apply First message applied role among era next put) First =
-      λ acting. absurd (not-both acting role)
-  passes-sent number pair there (by_apply First message applied role among era next put) Second =
+  passes-sent number pair there (by_end First role sent away may) First = pairs-sent number pair there First
+  passes-sent number pair there (by_end First role sent away may) Second = pairs-sent number pair there Second
+  passes-sent number pair there (by_end Second role sent away may) First = pairs-sent number pair there First
+  passes-sent number pair there (by_end Second role sent away may) Second = pairs-sent number pair there Second
+  passes-sent number pair there (by_apply_behind First message applied role among era next put less) First =
+      λ acting. absurd (cc)
+  passes-sent number pair there (by_apply_behind First message applied role among era next put less) Second =
       pairs-sent number pair there Second
-  passes-sent number pair there (by_apply Second message applied role among era next put) First =
+  passes-sent number pair there (by_apply_behind Second message applied role among era next put less) First =
       pairs-sent number pair there First
-  passes-sent number pair there (by_apply Second message applied role among era next put) Second =
-      λ acting. absurd (not-both acting role)
+  passes-sent number pair there (by_apply_behind Second message applied role among era next put less) Second =
+      λ acting. absurd (cc)
+  passes-sent number pair there (by_apply First message applied role among era next put most) First =
+      λ acting. absurd (cc)
+  passes-sent number pair there (by_apply First message applied role among era next put most) Second =
+      pairs-sent number pair there Second
+  passes-sent number pair there (by_apply Second message applied role among era next put most) First =
+      pairs-sent number pair there First
+  passes-sent number pair there (by_apply Second message applied role among era next put most) Second =
+      λ acting. absurd (cc)
   passes-sent number pair there (by_acknowledge First taken role sent among era same) First =
       pairs-sent number pair there First
   passes-sent number pair there (by_acknowledge First taken role sent among era same) Second =
@@ -147,22 +160,34 @@ module _ (site : Site) (regular : AreRegular site) (events : ℕ) (w : World) (g
   -- a copy that takes over awaits nothing
   marked-sent : (node processor number : ℕ) (pair : Pair) (k : Option Which) → taker node processor pair ≡ k
       → slice_get w.processes number ≡ Some pair
-      → PairSent site w.requests number (pair_after_down k pair)
-  marked-sent node processor number pair None is there k = pairs-sent number pair there k
+      → PairSent site w.requests number (renewals_ended node processor (pair_after_down k pair))
+  marked-sent node processor number pair None is there First = pairs-sent number pair there First
+  marked-sent node processor number pair None is there Second = pairs-sent number pair there Second
   marked-sent node processor number pair (Some First) is there First = λ _ request among.
-      absurd (calm number pair First there (taker-is node processor pair First is).watching
+      absurd (calm number pair First there (ap receives (taker-is node processor pair First is).watching)
       (awaited-last site number (copy_of First pair).core request among).stands)
   marked-sent node processor number pair (Some First) is there Second = pairs-sent number pair there Second
   marked-sent node processor number pair (Some Second) is there First = pairs-sent number pair there First
   marked-sent node processor number pair (Some Second) is there Second = λ _ request among.
-      absurd (calm number pair Second there (taker-is node processor pair Second is).watching
+      absurd (calm number pair Second there (ap receives (taker-is node processor pair Second is).watching)
       (awaited-last site number (copy_of Second pair).core request among).stands)
+
+  -- a copy that has to send everything awaits what it did, and one that is blank doesn't act
+  reloaded-sent : (core : Core) (number : ℕ) (pair : Pair) (one two : Bool)
+      → slice_get w.processes number ≡ Some pair → PairSent site w.requests number (reloaded_by core pair one two)
+  reloaded-sent core number pair false false there k = pairs-sent number pair there k
+  reloaded-sent core number pair true false there First = λ acting. absurd (cc)
+  reloaded-sent core number pair true false there Second = pairs-sent number pair there Second
+  reloaded-sent core number pair false true there First = pairs-sent number pair there First
+  reloaded-sent core number pair false true there Second = λ acting. absurd (cc)
+  reloaded-sent core number pair true true there First = λ acting. absurd (cc)
+  reloaded-sent core number pair true true there Second = λ acting. absurd (cc)
 
   copies-after : (next : World) (cause : Cause) (sendings : List Sending) → Change site w cause sendings next
       → (number : ℕ) (pair : Pair) → slice_get next.processes number ≡ Some pair
       → PairSent site next.requests number pair
   copies-after next cause sendings (by_own {after = after} {core = core} {entered = entered} number k pair there role
-      causes advances enters) =
+      causes advances enters free) =
       set-all (PairSent site after.requests) w.processes number _
       (pairs-more after.requests (causes-grow causes).requests)
       (one-sent after.requests number k pair (record entered { core = core; waiting = after.waiting }) after.sectors
@@ -182,7 +207,7 @@ module _ (site : Site) (regular : AreRegular site) (events : ℕ) (w : World) (g
   copies-after next cause sendings (by_enter {words = words} number terminal opener there even is opens) =
       pairs-more (entered_request opener terminal words ∷ w.requests) (grown-one _ w.requests)
   copies-after next cause sendings (by_print number terminal reply there odd among opens same) = pairs-sent
-  copies-after next cause sendings (by_stop processor runs) =
+  copies-after next cause sendings (by_stop processor runs whole) =
       map-all (PairSent site w.requests) (stopped_pair processor) w.processes
       (λ number pair there k. stopped-sent-both processor number pair there k)
     where
@@ -193,6 +218,10 @@ module _ (site : Site) (regular : AreRegular site) (events : ℕ) (w : World) (g
   copies-after next cause sendings (by_mark node processor down runs unmarked) =
       map-all (PairSent site w.requests) (pair_at_down node processor) w.processes
       (λ number pair there. marked-sent node processor number pair (taker node processor pair) refl there)
+  copies-after next cause sendings (by_reload x down marked counted less) =
+      reload-all (PairSent site w.requests) site x w.processes
+      (λ number pair there. reloaded-sent (begun site number (slice_get site.processes number) pair.first.core) number
+      pair (pair.first.processor == x) (pair.second.processor == x) there)
 
   terminals-more : (more : List Request) → HasGrown w.requests more
       → (number : ℕ) (terminal : Terminal) → slice_get w.terminals number ≡ Some terminal
@@ -218,7 +247,7 @@ module _ (site : Site) (regular : AreRegular site) (events : ℕ) (w : World) (g
   terminals-after : (next : World) (cause : Cause) (sendings : List Sending) → Change site w cause sendings next
       → (number : ℕ) (terminal : Terminal) → slice_get next.terminals number ≡ Some terminal
       → TerminalSent site next.requests number terminal
-  terminals-after next cause sendings (by_own {after = after} number k pair there role causes advances enters) =
+  terminals-after next cause sendings (by_own {after = after} number k pair there role causes advances enters free) =
       terminals-more after.requests (causes-grow causes).requests
   terminals-after next cause sendings (by_checkpoint number pair there passes) =
       terminals-more w.requests (grown-none w.requests)
@@ -236,8 +265,11 @@ module _ (site : Site) (regular : AreRegular site) (events : ℕ) (w : World) (g
       (terminals-more w.requests (grown-none w.requests))
       (λ request still. (let again = (awaited-odd site number (record terminal { printed = terminal.printed + 1 })
       request still).0 in absurd (omega (arith, odd, again))))
-  terminals-after next cause sendings (by_stop processor runs) = terminals-more w.requests (grown-none w.requests)
+  terminals-after next cause sendings (by_stop processor runs whole) =
+      terminals-more w.requests (grown-none w.requests)
   terminals-after next cause sendings (by_mark node processor down runs unmarked) =
+      terminals-more w.requests (grown-none w.requests)
+  terminals-after next cause sendings (by_reload x down marked counted less) =
       terminals-more w.requests (grown-none w.requests)
 
   pub change-awaited : (next : World) (cause : Cause) (sendings : List Sending) → Change site w cause sendings next

@@ -20,9 +20,11 @@ use Rattle.world_semantics.specs.Core.{Core, Deed, Advances, next_on}
 use Rattle.world_semantics.specs.Messages.{Message, Asking, Replying, Sending, Cause}
 use Rattle.world_semantics.specs.Own.{Around, around, Causes, by_inner, by_take, by_ask, by_answer, by_device, by_write}
 use Rattle.world_semantics.specs.Own.{by_reply, request_to, asked_on}
-use Rattle.world_semantics.specs.Passes.{Passes, by_send, by_pass_again, by_pass, by_apply, by_acknowledge}
+use Rattle.world_semantics.specs.Passes.{Passes, by_send, by_pass_again, by_pass, by_end, by_apply_behind}
+use Rattle.world_semantics.specs.Passes.{by_apply, by_acknowledge}
 use Rattle.world_semantics.specs.Rules.{Change, by_own, by_checkpoint, by_request, by_early_request, by_enter, by_print}
-use Rattle.world_semantics.specs.Rules.{by_stop, by_mark, told_at_down, takeover_sendings, taker, entered_request}
+use Rattle.world_semantics.specs.Rules.{by_stop, by_mark, by_reload, told_at_down, takeover_sendings, taker}
+use Rattle.world_semantics.specs.Rules.{entered_request}
 use Rattle.world_semantics.specs.World.{Copy, Pair, World, copy_of, with_copy}
 use Rattle.world_semantics.proofs.Becoming.{entered-same}
 use Rattle.world_semantics.proofs.Lists.{set-there}
@@ -123,7 +125,10 @@ module _ (site : Site) (regular : AreRegular site) (events : ℕ) (w : World) (g
       let same = sym (ap (λ (s : Sending). s.message) (only sending _ among)) ∙ asks in cc
   passes-ask-none sending request (by_pass_again k role at may less) among asks = among
   passes-ask-none sending request (by_pass k role at may most) among asks = among
-  passes-ask-none sending request (by_apply k message applied role sent era next put) among asks =
+  passes-ask-none sending request (by_end k role sent at may) among asks = among
+  passes-ask-none sending request (by_apply_behind k message applied role sent era next put less) among asks =
+      let same = sym (ap (λ (s : Sending). s.message) (only sending _ among)) ∙ asks in cc
+  passes-ask-none sending request (by_apply k message applied role sent era next put most) among asks =
       let same = sym (ap (λ (s : Sending). s.message) (only sending _ among)) ∙ asks in cc
   passes-ask-none sending request (by_acknowledge k taken role sent was era is) among asks = among
 
@@ -148,7 +153,7 @@ module _ (site : Site) (regular : AreRegular site) (events : ℕ) (w : World) (g
       → (sending : Sending) (request : Request)
       → IsAmong sending sendings → sending.message ≡ Asking request → HasAsker site next request
   change-asker next cause sendings (by_own {messages = messages} {after = after} {core = core} {entered = entered}
-      number k pair there role causes advances enters) sending request among asks =
+      number k pair there role causes advances enters free) sending request among asks =
       let acts = entered-acts k pair core entered after.waiting after.sectors ((entered-same enters).role ∙ role) in
       own-asker number pair k there role causes advances next _ (set-there w.processes number pair _ there) acts.0
       acts.1 request
@@ -168,10 +173,13 @@ module _ (site : Site) (regular : AreRegular site) (events : ℕ) (w : World) (g
       (ap (λ (r : Request). r.opener) (sym same))
   change-asker next cause sendings (by_print number terminal reply there odd sent opens is) sending request among
       asks = absurd among
-  change-asker next cause sendings (by_stop processor alive) sending request among asks = absurd among
+  change-asker next cause sendings (by_stop processor alive whole) sending request among asks =
+      absurd among
   change-asker next cause sendings (by_mark node processor down alive unmarked) sending request among asks =
       let of = among-flat_map (told_at_down node processor) w.processes sending among in
       absurd (told-ask-none sending request of.item (taker node processor of.item) of.within asks)
+  change-asker next cause sendings (by_reload processor down marked counted less) sending request among asks =
+      absurd among
 
   -- what is sent again
   pub again-asker : (message : Message) (request : Request) → IsAgain site w message → message ≡ Asking request

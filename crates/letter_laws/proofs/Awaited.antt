@@ -87,7 +87,8 @@ pub acting-done : (site : Site) (events : ℕ) (w : World) → IsGood site event
     → (copy_of k pair).role ≡ Acting → IsDone site number (copy_of k pair).core
 acting-done site events w good number pair k there role =
     let sound = good.invariant.processes number pair there in
-    let takes = copy-takes pair k sound.2.led (λ gone. (let same = sym role ∙ gone in cc)) in
+    let takes = copy-takes pair k sound.2.led (λ gone. (let same = sym role ∙ gone in cc))
+    (λ blank. (let same = sym role ∙ blank in cc)) in
     record { spec = sound.0; there = sound.1; deeds = takes.whole; done = takes.done }
 
 module _ (site : Site) (regular : AreRegular site) (number : ℕ) where

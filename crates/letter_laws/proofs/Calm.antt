@@ -1,4 +1,4 @@
--- No copy that watches awaits a reply: what a checkpoint restores awaits none.
+-- No copy that watches or is blank awaits a reply: what a checkpoint restores awaits none.
 use Rattle.std.proofs.Common.{◌≡◌, ◌≢◌, ◌==◌, ℕ, ℤ, Bool, true, false, if◌then◌else◌, List, [], ◌∷◌, Option, Some, None}
 use Rattle.std.proofs.Common.{option_map, slice_get, refl, sym, subst, ◌∙◌}
 use Rattle.std.proofs.lemmas.Option.{option_and_then_some}
@@ -23,13 +23,15 @@ use Rattle.world_semantics.specs.declared.which.Which.{Which}
 use Rattle.world_semantics.specs.declared.which.Which.TheVariants.{First, Second}
 use Rattle.world_semantics.specs.Core.{Core, put_in}
 use Rattle.world_semantics.specs.Messages.{Sending, Cause}
-use Rattle.world_semantics.specs.Rules.{Change}
-use Rattle.world_semantics.specs.World.{Copy, Pair, World, boot, copy_of, pair_at_boot}
+use Rattle.world_semantics.specs.Rules.{Change, begun}
+use Rattle.world_semantics.specs.World.{Copy, Pair, World, boot, copy_of, pair_at_boot, receives}
 use Rattle.world_semantics.proofs.Becoming as becoming
-use Rattle.world_semantics.proofs.Becoming.{Becomes, entered-same, was-role, change-was}
+use Rattle.world_semantics.proofs.Becoming.{Becomes, acting-gets-none, entered-same, change-was}
 use Rattle.world_semantics.proofs.Beginning.{all-begin}
 use Rattle.world_semantics.proofs.Hands.{map-some}
 use Rattle.world_semantics.proofs.Lists.{some-same}
+use Rattle.world_semantics.proofs.Steady.{IsSeated}
+use Rattle.awaited_requests.proofs.Seats.{was-getting}
 use Rattle.letter_laws.specs.Known.{WatchersAreCalm}
 
 -- What is restored
@@ -45,6 +47,12 @@ free-rests program s free at =
 pub start-rests : (what : Kind) → Rests (process.start_of what)
 start-rests (kind.Disc sectors mirrored) = λ same. cc
 start-rests (kind.Pair program) = free-rests program (start program) refl
+
+-- a process that the site has awaits none at its beginning
+begun-rests : (site : Site) (number : ℕ) (o : Option ProcessSpec) (spec : ProcessSpec) → o ≡ Some spec → (core : Core)
+    → Rests (begun site number o core).state
+begun-rests site number None spec is core = absurd (cc)
+begun-rests site number (Some one) spec is core = start-rests one.what
 
 items-free : (program : Program) (s t : ProgramState) (hand : Bool) (frames : List Frame) (words : List ℤ)
     → image.restored_items program s hand frames words ≡ Some t → t.awaits ≡ false
@@ -85,9 +93,9 @@ put-rests core applied carries is =
 
 -- Changes
 
--- a copy that watches awaits no reply
+-- a copy that watches or is blank awaits no reply
 abbrev IsCalm : Copy → Type 0
-IsCalm copy = copy.role ≡ Watching → Rests copy.core.state
+IsCalm copy = receives copy.role ≡ true → Rests copy.core.state
 
 -- a copy that acts doesn't watch
 pub not-both : {role : Role} → role ≡ Acting → role ≡ Watching → ⊥
@@ -95,27 +103,34 @@ not-both acts watches = let same : Acting ≡ Watching = sym acts ∙ watches in
 
 becomes-calm : {site : Site} {w : World} {number : ℕ} {pair : Pair} {sent : List ImageMessage} {k : Which}
     {cause : Cause} {after : Copy}
-    → Becomes site w number pair sent k cause after → IsCalm (copy_of k pair) → IsCalm after
-becomes-calm becoming.stays calm = calm
-becomes-calm (becoming.acts role causes advances enters) calm =
-    λ watches. absurd (not-both ((entered-same enters).role ∙ role) watches)
-becomes-calm (becoming.sends role at among) calm = λ watches. absurd (not-both role watches)
-becomes-calm (becoming.passes role) calm = λ watches. absurd (not-both role watches)
-becomes-calm {pair = pair} {k = k} (becoming.applies {applied = applied} message role among era next put) calm =
+    → Becomes site w number pair sent k cause after
+    → (spec : ProcessSpec) × (slice_get site.processes number ≡ Some spec) → IsCalm (copy_of k pair) → IsCalm after
+becomes-calm becoming.stays known calm = calm
+becomes-calm (becoming.acts role causes advances enters free) known calm =
+    λ gets. absurd (acting-gets-none _ ((entered-same enters).role ∙ role) gets)
+becomes-calm (becoming.sends role at among) known calm = calm
+becomes-calm (becoming.passes role) known calm = λ gets. absurd (acting-gets-none _ role gets)
+becomes-calm (becoming.ends role) known calm = calm
+becomes-calm {pair = pair} {k = k} (becoming.applies {applied = applied} message role among era next put) known calm =
     λ _. put-rests (copy_of k pair).core applied message.image put
-becomes-calm (becoming.is_told taken role sent among era same) calm = calm
-becomes-calm becoming.is_freed calm = calm
-becomes-calm (becoming.hears request role) calm = calm
-becomes-calm (becoming.hears_early request role) calm = calm
-becomes-calm {pair = pair} {k = k} (becoming.stops processor) calm = λ watches.
-    calm (was-role ((copy_of k pair).processor == processor) (copy_of k pair).role Watching (λ same. cc) watches)
-becomes-calm (becoming.takes_over node processor takes) calm = λ watches. absurd (cc)
+becomes-calm (becoming.is_told taken role sent among era same) known calm = calm
+becomes-calm becoming.is_freed known calm = calm
+becomes-calm becoming.needs_less known calm = calm
+becomes-calm (becoming.hears request role) known calm = calm
+becomes-calm (becoming.hears_early request role) known calm = calm
+becomes-calm {pair = pair} {k = k} (becoming.stops processor) known calm = λ gets.
+    calm (was-getting ((copy_of k pair).processor == processor) (copy_of k pair).role gets)
+becomes-calm (becoming.takes_over node processor takes) known calm = λ gets. absurd (cc)
+becomes-calm {site = site} {number = number} {pair = pair} (becoming.is_blank processor here era) known calm =
+    λ gets. begun-rests site number (slice_get site.processes number) known.0 known.1 pair.first.core
+becomes-calm (becoming.renews processor there) known calm = calm
 
 pub change-calm : {site : Site} (w next : World) (cause : Cause) (sendings : List Sending)
-    → Change site w cause sendings next → WatchersAreCalm w → WatchersAreCalm next
-change-calm w next cause sendings change all number after k now =
+    → Change site w cause sendings next → IsSeated site w → WatchersAreCalm w → WatchersAreCalm next
+change-calm w next cause sendings change seated all number after k now =
     let was = change-was w next cause sendings change number after now in
-    becomes-calm (was.copies k) (all number was.before k was.there)
+    let seat = seated.pairs number was.before was.there in
+    becomes-calm (was.copies k) (seat.0, seat.1) (all number was.before k was.there)
 
 both-start : (site : Site) (number : ℕ) (spec : ProcessSpec) (k : Which)
     → Rests (copy_of k (pair_at_boot site number spec)).core.state
@@ -130,4 +145,4 @@ begins-resting site number pair k there =
     number pair there k
 
 pub calm-begins : (site : Site) → WatchersAreCalm (boot site)
-calm-begins site number pair k there watches = begins-resting site number pair k there
+calm-begins site number pair k there gets = begins-resting site number pair k there

@@ -5,7 +5,7 @@ use Rattle.tal_tree.specs.declared.site.TerminalSpec.{TerminalSpec}
 use Rattle.plain_semantics.specs.Machine.{next_request}
 use Rattle.world_semantics.specs.Messages.{Sending, Cause}
 use Rattle.world_semantics.specs.Rules.{Change, by_own, by_checkpoint, by_request, by_early_request, by_enter, by_print}
-use Rattle.world_semantics.specs.Rules.{by_stop, by_mark}
+use Rattle.world_semantics.specs.Rules.{by_stop, by_mark, by_reload}
 use Rattle.world_semantics.specs.World.{Terminal, World, boot}
 use Rattle.world_semantics.proofs.Lists.{set-all, mapped}
 use Rattle.letter_laws.specs.Known.{TerminalsEnterTheirs}
@@ -17,7 +17,7 @@ EntersTheirs site number terminal =
 pub change-entered : {site : Site} (w next : World) (cause : Cause) (sendings : List Sending)
     → Change site w cause sendings next → TerminalsEnterTheirs site w
     → TerminalsEnterTheirs site next
-change-entered w next cause sendings (by_own number k pair there role causes advances enters) all = all
+change-entered w next cause sendings (by_own number k pair there role causes advances enters free) all = all
 change-entered w next cause sendings (by_checkpoint number pair there passes) all = all
 change-entered w next cause sendings (by_request request k pair among there role) all = all
 change-entered w next cause sendings (by_early_request request k pair among there role) all = all
@@ -29,8 +29,9 @@ change-entered {site = site} w next cause sendings
 change-entered {site = site} w next cause sendings (by_print number terminal reply there odd among opens same) all =
     set-all (EntersTheirs site) w.terminals number (record terminal { printed = terminal.printed + 1 }) all
     (all number terminal there)
-change-entered w next cause sendings (by_stop processor runs) all = all
+change-entered w next cause sendings (by_stop processor runs whole) all = all
 change-entered w next cause sendings (by_mark node processor down runs unmarked) all = all
+change-entered w next cause sendings (by_reload processor down marked counted less) all = all
 
 -- at the beginning no terminal has entered anything
 pub begins-even : (site : Site) (number : ℕ) (terminal : Terminal)

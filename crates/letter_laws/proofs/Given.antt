@@ -4,13 +4,10 @@ use Rattle.std.proofs.Common.{sym, subst, ◌∙◌}
 use Rattle.std.specs.List.{cons_option}
 use Rattle.gd_words.specs.Members.{IsAmong}
 use Rattle.tal_tree.specs.declared.site.Site.{Site}
-use Rattle.world_semantics.specs.Messages.{Message, Sending, sent_at, Cause}
-use Rattle.world_semantics.specs.Rules.{Change}
+use Rattle.world_semantics.specs.Messages.{Message, Sending, sent_at}
 use Rattle.world_semantics.specs.World.{World}
-use Rattle.world_semantics.proofs.Growing.{change-grows}
 use Rattle.world_semantics.proofs.Lists.{some-same}
 use Rattle.world_semantics.proofs.Members.{among-map}
-use Rattle.letters.specs.Idle.{OneStops}
 use Rattle.letters.specs.Routes.{Letter, receiver_of, letter_of, letters_of}
 
 -- where a member of what a list gives comes from
@@ -76,10 +73,3 @@ message-of node messages sending among =
 pub only : {A : Type 0} (x y : A) → IsAmong x (y ∷ []) → x ≡ y
 only x y (inl same) = same
 only x y (inr none) = absurd none
-
--- where at most one processor has stopped, at most one had before
-pub one-before : {site : Site} (w next : World) (cause : Cause) (sendings : List Sending)
-    → Change site w cause sendings next → OneStops next → OneStops w
-one-before w next cause sendings change one a b down other =
-    one a b ((change-grows w next cause sendings change).stopped a down)
-    ((change-grows w next cause sendings change).stopped b other)

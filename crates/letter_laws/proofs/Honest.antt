@@ -1,31 +1,35 @@
 -- Posts are honest, however many processors stop.
-use Rattle.std.proofs.Common.{◌<◌, ◌≤◌, inl, inr, ℕ, ◌+◌, List, [], ◌∷◌, ◌++◌, length, sym, subst, arith, length-append}
+use Rattle.std.proofs.Common.{◌<◌, ◌≤◌, inl, inr, ℕ, ◌+◌, Bool, not, List, [], ◌∷◌, ◌++◌, length, sym, subst, arith}
+use Rattle.std.proofs.Common.{length-append}
 use Rattle.gd_words.specs.Members.{IsAmong}
 use Rattle.gd_words.proofs.Among.{among-left, among-right, among-either}
 use Rattle.tal_tree.specs.declared.site.Site.{Site}
 use Rattle.schedule.specs.declared.event.Event.{Event}
 use Rattle.world_semantics.specs.Follows.{stays}
 use Rattle.world_semantics.specs.Messages.{Message, Sending, Cause, Running, Entering, Handing, Stopping, NotingDown}
+use Rattle.world_semantics.specs.Messages.{Reloading}
 use Rattle.world_semantics.specs.Rules.{Change}
 use Rattle.world_semantics.specs.World.{World}
 use Rattle.world_semantics.proofs.Fair.{fair-of, run-fair}
 use Rattle.world_semantics.proofs.Members.{among-filter}
 use Rattle.world_semantics.proofs.Roles.{roles-begin}
 use Rattle.world_semantics.proofs.Sendings.{run-sends}
+use Rattle.world_semantics.proofs.Steady.{seats-begin, steady-begins}
 use Rattle.awaited_requests.specs.takeover_laws.specs.Fit.{IsFit}
 use Rattle.awaited_requests.specs.takeover_laws.proofs.Beginning.{beginning-keeps}
 use Rattle.awaited_requests.specs.takeover_laws.proofs.Changing.{acts_by}
 use Rattle.awaited_requests.specs.takeover_laws.proofs.Kept.{IsGood, change-good}
 use Rattle.computed_changes.specs.Laws.{IsSent}
 use Rattle.computed_changes.proofs.Reached.{run-sent}
-use Rattle.letters.proofs.Owed.{rest-there}
+use Rattle.letters.proofs.Owed.{filter-among, rest-there}
 use Rattle.letters.specs.Again.{sent_again}
 use Rattle.letters.specs.Posts.{Post, post_at_boot, with_letters, after_change, without_those_between, post_after_down}
 use Rattle.letters.specs.Posts.{NotesLetters, no_mark, one_mark, PlaysEvent, plays_run, plays_no_run, plays_enter}
 use Rattle.letters.specs.Posts.{plays_no_enter, plays_nothing, plays_hand, plays_drop, plays_again, plays_mark}
 use Rattle.letters.specs.Posts.{plays_loss, plays_repeat, plays_no_tick, plays_tick, plays_tick_stop, plays_fail}
 use Rattle.letters.specs.Posts.{plays_drive}
-use Rattle.letters.specs.Posts.{plays_no_fail, HasPlayed, played_none, played_more}
+use Rattle.letters.specs.Posts.{plays_no_fail, plays_reload, plays_no_reload, after_reloading, is_from_or_to}
+use Rattle.letters.specs.Posts.{HasPlayed, played_none, played_more}
 use Rattle.letters.specs.Routes.{Letter, letters_of}
 use Rattle.letter_laws.specs.Known.{IsHonest, AwaitedWereSent}
 use Rattle.letter_laws.proofs.Again.{IsAgain, by_copy, by_terminal, by_keeping, again-is}
@@ -83,7 +87,7 @@ module _ (site : Site) (fit : IsFit site) where
           subst (IsSent next) (sym from.message) (were from.sending from.among))
       | inr old ↦ sent-stays post.world next cause sendings change letter.message (honest.letters letter old)
     ];
-    calm = change-calm post.world next cause sendings change honest.calm;
+    calm = change-calm post.world next cause sendings change good.seated honest.calm;
     entered = change-entered post.world next cause sendings change honest.entered;
     awaited = change-awaited site fit.regular events post.world good honest.calm honest.awaited next cause sendings
         change;
@@ -143,6 +147,26 @@ module _ (site : Site) (fit : IsFit site) where
       (letters-honest events post next post.owed cause [] [] good honest honest.owed change
       (λ sending none. absurd none)) honest.owed
 
+  -- a processor is loaded again
+  pub honest-reload : (events : ℕ) (post : Post) (next : World) (processor : ℕ) → IsGood site events post.world
+      → IsHonest site post → Change site post.world (Reloading processor) [] next
+      → IsHonest site (after_reloading processor next post)
+  honest-reload events post next processor good honest change =
+      let all = honest-stop events post next (Reloading processor) good honest change in
+      record {
+        reached = all.reached;
+        owed = λ letter among. (let both = among-filter letter stays_there post.owed among in
+            filter-among letter stays_there post.sent (honest.owed letter both.0) both.1);
+        letters = λ letter among. all.letters letter (among-filter letter stays_there post.sent among).0;
+        calm = all.calm;
+        entered = all.entered;
+        awaited = all.awaited;
+        files = all.files;
+      }
+    where
+      stays_there : Letter → Bool
+      stays_there letter = not (is_from_or_to processor letter)
+
   pub honest-begins : IsHonest site (post_at_boot site)
   honest-begins = record {
     reached = ([], stays);
@@ -177,6 +201,7 @@ module _ (site : Site) (fit : IsFit site) where
   acts-most (Handing node message) = omega arith
   acts-most (Stopping processor) = omega arith
   acts-most (NotingDown node processor) = omega arith
+  acts-most (Reloading processor) = omega arith
 
   change-sound : (most : ℕ) (post : Post) (next : World) (owed : List Letter) (cause : Cause) (sendings : List Sending)
       → most < 4294967295 → IsSound most post
@@ -204,6 +229,19 @@ module _ (site : Site) (fit : IsFit site) where
         good = change-good site fit sound.events post.world next (Stopping processor) [] (omega (arith, few, low))
             sound.good change;
         honest = honest-stop sound.events post next (Stopping processor) sound.good sound.honest change;
+      }
+
+  reload-sound : (most : ℕ) (post : Post) (next : World) (processor : ℕ) → most < 4294967295 → IsSound most post
+      → Change site post.world (Reloading processor) [] next
+      → IsSound most (after_reloading processor next post)
+  reload-sound most post next processor low sound change =
+      let few = sound.few in
+      record {
+        events = sound.events + 0;
+        few = omega (arith, few);
+        good = change-good site fit sound.events post.world next (Reloading processor) [] (omega (arith, few, low))
+            sound.good change;
+        honest = honest-reload sound.events post next processor sound.good sound.honest change;
       }
 
   mark-sound : (most : ℕ) (post : Post) (next : World) (node processor : ℕ) (sendings : List Sending)
@@ -270,12 +308,21 @@ module _ (site : Site) (fit : IsFit site) where
   plays-sound most post next low sound (plays_fail {processor = processor} {next = w} change) =
       sound-more most (most + 1) _ (omega arith) (stop-sound most post w processor low sound change)
   plays-sound most post next low sound (plays_no_fail idle) = sound-more most (most + 1) post (omega arith) sound
+  plays-sound most post next low sound (plays_reload {processor = processor} {next = w} change) =
+      sound-more most (most + 1) _ (omega arith) (reload-sound most post w processor low sound change)
+  plays-sound most post next low sound (plays_no_reload idle) = sound-more most (most + 1) post (omega arith) sound
 
   begins-sound : IsSound 0 (post_at_boot site)
   begins-sound = record {
     events = 0;
     few = omega arith;
-    good = record { roles = roles-begin site; stopped = λ mark none. absurd none; invariant = beginning-keeps site };
+    good = record {
+      roles = roles-begin site;
+      stopped = λ mark none. absurd none;
+      steady = steady-begins site;
+      seated = seats-begin site;
+      invariant = beginning-keeps site;
+    };
     honest = honest-begins;
   }
 

@@ -1,6 +1,9 @@
 -- Worked examples: a site of one disc whose terminal awaits a reply, as it is and as it can't be.
 use Rattle.std.specs.Prelude.{true, false, [], ◌∷◌, None}
 use Rattle.checkpoint_image.specs.declared.message.ImageMessage.{ImageMessage}
+use Rattle.world_semantics.specs.declared.role.Role.TheVariants.{Acting}
+use Rattle.world_semantics.specs.declared.which.Which.TheVariants.{Second}
+use Rattle.world_semantics.specs.Rules.{blank_copy}
 use Rattle.world_semantics.specs.World.{World, boot}
 use Rattle.letters.specs.Posts.{Post}
 use Rattle.process_histories.specs.Served.{disc_site}
@@ -24,6 +27,21 @@ sent_to_second = record { world = entered_and_sent; owed = []; sent = letter_to 
 
 abbrev pub sent_after_stop : Post
 sent_after_stop = record sent_to_second { world = record entered_and_sent { stopped = true ∷ false ∷ [] } }
+
+-- the request was sent to the first copy, which is blank, while the second one acts
+abbrev pub sent_to_blank : Post
+sent_to_blank = record {
+  world = record entered_and_sent {
+    processes =
+        record disc_pair {
+          first = blank_copy 0 1 disc_pair.first.core;
+          second = record disc_pair.second { role = Acting };
+          led = Second;
+        } ∷ [];
+  };
+  owed = [];
+  sent = letter_to 0 ∷ [];
+}
 
 -- the request waits at the second copy, while the first one's processor runs
 abbrev pub waits_at_second : Post

@@ -8,7 +8,7 @@ ghost use Rattle.process_histories.specs.Served.{disc_site};
 ghost use Rattle.world_semantics.specs.World.{World, boot};
 ghost use Rattle.awaited_requests.specs.Examples.{entered, entered_with, letter_to};
 ghost use Rattle.letter_laws.specs.Examples.{entered_and_sent, another_sent, entered_too_much, sent_to_second};
-ghost use Rattle.letter_laws.specs.Examples.{sent_after_stop, waits_at_second, has_named};
+ghost use Rattle.letter_laws.specs.Examples.{sent_after_stop, sent_to_blank, waits_at_second, has_named};
 ghost use Rattle.letter_laws.specs.Known.{TerminalsEnterTheirs, AwaitedWereSent, CheckpointsNameFiles, HasAsker};
 ghost use Rattle.letter_laws.specs.Known.{AreEarly};
 
@@ -26,12 +26,13 @@ pub fn a_terminal_enters_what_it_has()
 {}
 
 /// A request to a copy that watches came early after the other copy's processor stopped, and not before; and so did one
-/// that waits there.
+/// that waits there. None may come to a blank copy while the other one's processor runs.
 pub fn early_requests_are_told_apart()
     ensures first { AreEarly disc_site (entered_with (letter_to 0 ∷ [])) }
     ensures second { AreEarly disc_site sent_to_second → ⊥ }
     ensures stopped { AreEarly disc_site sent_after_stop }
     ensures waits { AreEarly disc_site waits_at_second → ⊥ }
+    ensures blank { AreEarly disc_site sent_to_blank → ⊥ }
 {}
 
 /// Where there is no process, no request of a file has its asker.

@@ -8,16 +8,16 @@ ghost use Rattle.awaited_requests.specs.takeover_laws.specs.Fit.{IsFit};
 ghost use Rattle.letters.specs.Posts.{Post, HasPlayed};
 ghost use Rattle.letters.specs.Routes.{Letter};
 
-/// Of a fit site each letter that was ever sent carries a message that was sent in the world: a request or a reply
-/// among those of the world, and a checkpoint, or that it was taken, among those of the process that it names. So what
-/// is computed for it is permitted where it is handed over, however late or often.
+/// Of a fit site each letter that was sent and may come carries a message that was sent in the world: a request or a
+/// reply among those of the world, and a checkpoint, or that it was taken, among those of the process that it names. So
+/// what is computed for it is permitted where it is handed over, however late or often.
 pub fn letters_were_sent()
     ensures { (site : Site) (events : List Event) (post : Post) (letter : Letter) → IsFit site
         → length events < 4294967296 → HasPlayed site events post
         → IsAmong letter post.sent → IsSent post.world letter.message }
 {}
 
-/// Of a fit site each checkpoint that a letter ever carried fits each copy of its process, wherever it comes: it names
+/// Of a fit site each checkpoint that such a letter carries fits each copy of its process, wherever it comes: it names
 /// files that are there, and its receive table can be that of the process. So nothing else than what is computed is
 /// permitted there.
 pub fn checkpoints_that_come_fit()

@@ -1,6 +1,6 @@
 //! Letters that were sent: that each letter carries a message that was sent in the world of copies, that what is
 //! awaited was sent, that a checkpoint which comes fits its process, and that a request comes early to a copy that
-//! watches.
+//! watches or is blank.
 //!
 //! Below stand `takeover_laws` with the invariant of runs, `letters` with what is sent between nodes,
 //! `computed_changes` with what a message does that comes, and `awaited_requests` with the seats of copies. A machine

@@ -1,5 +1,6 @@
 -- What is owed was sent.
-use Rattle.std.proofs.Common.{◌≡◌, inl, inr, ℕ, List, ◌∷◌, ◌++◌, refl}
+use Rattle.std.proofs.Common.{◌≡◌, inl, inr, ℕ, List, ◌∷◌, refl, Bool, [], ap, cond, false, not, sym, true, ◌∙◌}
+use Rattle.std.specs.List.{filter}
 use Rattle.world_semantics.specs.gd_words.specs.Members.{IsAmong}
 use Rattle.world_semantics.specs.gd_words.proofs.Among.{among-left, among-right, among-either}
 use Rattle.world_semantics.specs.tal_tree.specs.declared.site.Site.{Site}
@@ -9,8 +10,9 @@ use Rattle.letters.specs.Posts.{Post, with_letters, without_those_between, IsTak
 use Rattle.letters.specs.Posts.{NotesLetters, no_mark, one_mark, PlaysEvent, plays_run, plays_no_run, plays_enter}
 use Rattle.letters.specs.Posts.{plays_no_enter, plays_nothing, plays_hand, plays_drop, plays_again, plays_mark}
 use Rattle.letters.specs.Posts.{plays_loss, plays_repeat, plays_no_tick, plays_tick, plays_tick_stop, plays_fail}
-use Rattle.letters.specs.Posts.{plays_drive}
-use Rattle.letters.specs.Posts.{plays_no_fail, HasPlayed, played_none, played_more}
+use Rattle.letters.specs.Posts.{plays_drive, plays_no_fail, HasPlayed, played_none, played_more, is_from_or_to}
+use Rattle.letters.specs.Posts.{plays_no_reload}
+use Rattle.letters.specs.Posts.{plays_reload}
 use Rattle.letters.specs.Routes.{Letter}
 
 -- all that is owed was sent
@@ -33,6 +35,17 @@ pub rest-there : {letter : Letter} {letters rest : List Letter} (other : Letter)
 rest-there other takes_first among = inr among
 rest-there other (takes_later later) (inl same) = inl same
 rest-there other (takes_later later) (inr among) = inr (rest-there other later among)
+
+-- what passes a test stays
+pub filter-among : {A : Type 0} (x : A) (test : A → Bool) (xs : List A) → IsAmong x xs → test x ≡ true
+    → IsAmong x (filter test xs)
+filter-among x test [] i t = absurd i
+filter-among x test (y ∷ xs) (inl same) t = let is : test y ≡ true = ap test (sym same) ∙ t in rw is (inl same)
+filter-among x test (y ∷ xs) (inr i) t = by (test y) (filter-among x test xs i t)
+  where
+    by : (b : Bool) → IsAmong x (filter test xs) → IsAmong x (cond b (y ∷ filter test xs) (filter test xs))
+    by true j = inr j
+    by false j = j
 
 marks-sent : {site : Site} {node : ℕ} {post next : Post} → OwedWasSent post → NotesLetters site node post next
     → OwedWasSent next
@@ -65,6 +78,10 @@ plays-sent all (plays_tick_stop processor running other change marks) =
     marks-sent (λ letter among. all letter among) marks
 plays-sent all (plays_fail change) = all
 plays-sent all (plays_no_fail idle) = all
+plays-sent {post = post} all (plays_reload {processor = x} change) = λ letter among.
+    (let both = among-filter letter (λ l. not (is_from_or_to x l)) post.owed among in
+    filter-among letter (λ l. not (is_from_or_to x l)) post.sent (all letter both.0) both.1)
+plays-sent all (plays_no_reload idle) = all
 
 pub played-sent : {site : Site} {events : List Event} {post : Post} → HasPlayed site events post → OwedWasSent post
 played-sent played_none = λ letter among. absurd among

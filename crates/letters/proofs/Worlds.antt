@@ -9,8 +9,8 @@ use Rattle.world_semantics.specs.World.{World}
 use Rattle.letters.specs.Posts.{Post, NotesLetters, no_mark, one_mark, PlaysEvent, plays_run, plays_no_run, plays_enter}
 use Rattle.letters.specs.Posts.{plays_no_enter, plays_nothing, plays_hand, plays_drop, plays_again, plays_mark}
 use Rattle.letters.specs.Posts.{plays_loss, plays_repeat, plays_no_tick, plays_tick, plays_tick_stop, plays_fail}
-use Rattle.letters.specs.Posts.{plays_drive}
-use Rattle.letters.specs.Posts.{plays_no_fail, HasPlayed, played_none, played_more}
+use Rattle.letters.specs.Posts.{plays_drive, plays_no_fail, HasPlayed, played_none, played_more, plays_no_reload}
+use Rattle.letters.specs.Posts.{plays_reload}
 
 -- what an event permits in a world leads to another one
 abbrev pub Permits : Site → World → Event → World → Type 0
@@ -42,6 +42,8 @@ plays-permits (plays_tick_stop processor running other change marks) =
     let made = marks-made marks in (made.0, follows.ticks_stop processor running other change made.1)
 plays-permits (plays_fail change) = ([], follows.fails change)
 plays-permits (plays_no_fail idle) = ([], follows.cannot_fail idle)
+plays-permits (plays_reload change) = ([], follows.reloads change)
+plays-permits (plays_no_reload idle) = ([], follows.cannot_reload idle)
 
 pub leads-on : {site : Site} {w between end : World} {events : List Event} {event : Event} {sendings : List Sending}
     → Leads site w events between

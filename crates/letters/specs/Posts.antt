@@ -1,21 +1,22 @@
 -- Posts: a world with its letters. What each event of a schedule does to both together, said once for machines of whole
 -- messages and of packets.
-use Rattle.std.specs.Prelude.{◌≡◌, ◌≢◌, ℕ, Bool, true, not, List, [], ◌∷◌, ◌++◌}
+use Rattle.std.specs.Prelude.{◌≡◌, ◌≢◌, ℕ, Bool, true, not, List, [], ◌∷◌, ◌++◌, Some, false, slice_get, ◌==◌, ◌||◌}
 use Rattle.std.specs.List.{filter}
 use Rattle.world_semantics.specs.gd_words.specs.Members.{IsAmong}
 use Rattle.world_semantics.specs.tal_tree.specs.declared.site.Site.{Site}
 use Rattle.schedule.specs.declared.event.DriveEvent.{DriveEvent}
 use Rattle.schedule.specs.declared.event.Event.{Event}
 use Rattle.schedule.specs.declared.event.Event.TheVariants.{Run, Enter, Deliver, Lose, Repeat, Tick, Fail, Drive}
+use Rattle.schedule.specs.declared.event.Event.TheVariants.{Reload}
 use Rattle.world_semantics.specs.World.{World, boot, is_running}
-use Rattle.world_semantics.specs.Messages.{Sending, Running, Entering, Handing, Stopping, NotingDown}
+use Rattle.world_semantics.specs.Messages.{Sending, Running, Entering, Handing, Stopping, NotingDown, Reloading}
 use Rattle.world_semantics.specs.Rules.{Change}
 use Rattle.world_semantics.specs.Follows.{IsIdleFor}
 use Rattle.letters.specs.Routes.{Letter, is_between, letters_of}
 use Rattle.letters.specs.Again.{sent_again}
 
--- a world, the letters that are owed: sent and not yet handed over, the oldest first, and all letters that were ever
--- sent, in whatever order
+-- a world, the letters that are owed: sent and not yet handed over, the oldest first, and all letters that were sent
+-- and may come, in whatever order: those from a processor and to it go when it is loaded again
 pub record Post : Type 0 where
   pub world : World
   pub owed : List Letter
@@ -43,6 +44,21 @@ post_after_down site node processor sendings next post =
     with_letters (letters_of site next (sendings ++ sent_again site post.world next node processor))
     (record post { world = next; owed = without_those_between node processor post.owed })
 
+-- whether a letter is from a node or to it
+abbrev pub is_from_or_to : ℕ → Letter → Bool
+is_from_or_to node letter = letter.sender == node || letter.receiver == node
+
+abbrev pub without_those_of : ℕ → List Letter → List Letter
+without_those_of node letters = filter (λ letter. not (is_from_or_to node letter)) letters
+
+-- the post after a processor was loaded again: what was sent from it or to it before is never handed over any more
+abbrev pub after_reloading : ℕ → World → Post → Post
+after_reloading processor next post = record {
+  world = next;
+  owed = without_those_of processor post.owed;
+  sent = without_those_of processor post.sent;
+}
+
 -- a letter and the others of a list, in their order
 pub data IsTaken (letter : Letter) : List Letter → List Letter → Type 0 where
   takes_first : {rest : List Letter} → IsTaken letter (letter ∷ rest) rest
@@ -60,7 +76,8 @@ pub data NotesLetters (site : Site) (node : ℕ) : Post → Post → Type 0 wher
 -- what an event does to a post. A process runs or a terminal enters where it can. A delivery does nothing; or hands
 -- over a letter that is owed at its receiver, or drops it there where it changes nothing; or hands over once more one
 -- that was ever sent; or makes one mark. A loss or a repeat does nothing: what is lost stays owed. The tick of a node
--- that runs stops at most one other processor and then makes marks. And a processor stops, where it can
+-- that runs stops at most one other processor and then makes marks. A processor stops if it hasn't stopped. And a
+-- processor is loaded again, where it can
 pub data PlaysEvent (site : Site) (post : Post) : Event → Post → Type 0 where
   plays_run : {number : ℕ} {sendings : List Sending} {next : World}
       → Change site post.world (Running number) sendings next
@@ -98,8 +115,12 @@ pub data PlaysEvent (site : Site) (post : Post) : Event → Post → Type 0 wher
       → PlaysEvent site post (Tick node) next
   plays_fail : {processor : ℕ} {next : World} → Change site post.world (Stopping processor) [] next
       → PlaysEvent site post (Fail processor) (record post { world = next })
-  plays_no_fail : {processor : ℕ} → IsIdleFor site post.world (Stopping processor)
+  plays_no_fail : {processor : ℕ} → slice_get post.world.stopped processor ≢ Some false
       → PlaysEvent site post (Fail processor) post
+  plays_reload : {processor : ℕ} {next : World} → Change site post.world (Reloading processor) [] next
+      → PlaysEvent site post (Reload processor) (after_reloading processor next post)
+  plays_no_reload : {processor : ℕ} → IsIdleFor site post.world (Reloading processor)
+      → PlaysEvent site post (Reload processor) post
   plays_drive : {event : DriveEvent} → PlaysEvent site post (Drive event) post
 
 -- events, one after the other, lead from the beginning to a post

@@ -1,21 +1,21 @@
--- The routes of nodes, and letters. That a node sends to the first copy of a process until it has marked that one's
--- processor is Bartlett's: the system keeps a table of where each process is. That a route is read off the marks is our
--- own form of it.
-use Rattle.std.specs.Prelude.{ℕ, ◌==◌, ◌&&◌, ◌||◌, Bool, if◌then◌else◌, List, filter_map, slice_get, Option, Some, None}
+-- The routes of nodes, and letters. That a node sends to one copy of a process until it has marked that one's processor
+-- is Bartlett's: the system keeps a table of where each process is. That a route is read off the marks is our own form
+-- of it.
+use Rattle.std.specs.Prelude.{ℕ, ◌==◌, ◌&&◌, ◌||◌, Bool, if◌then◌else◌, List, filter_map, slice_get, Option, Some}
 use Rattle.std.specs.Option.{option_map, option_and_then}
 use Rattle.world_semantics.specs.tal_tree.specs.declared.site.Site.{Site}
-use Rattle.world_semantics.specs.tal_tree.specs.declared.site.OpenerSpec.{OpenerSpec}
 use Rattle.world_semantics.specs.tal_tree.specs.declared.site.Who.{Who}
 use Rattle.world_semantics.specs.tal_tree.specs.declared.site.Who.TheVariants as who
 use Rattle.world_semantics.specs.plain_semantics.specs.Openers.{openers_of}
-use Rattle.world_semantics.specs.World.{Pair, Down, World, terminal_node, has_noted}
+use Rattle.world_semantics.specs.World.{Pair, Down, World, terminal_node, has_noted, copy_of, other_of}
 use Rattle.world_semantics.specs.Messages.{Message, Asking, Replying, Checkpointing, Taking, Sending}
 
--- the processor to which a node sends what is for a process: its first-named one, or the other one once the node has
--- marked that
+-- the processor to which a node sends what is for a process: that of the copy that leads, or the other one's once the
+-- node has marked that
 abbrev pub route_of : List Down → ℕ → Pair → ℕ
 route_of marks node pair =
-    if has_noted marks node pair.first.processor then pair.second.processor else pair.first.processor
+    if has_noted marks node (copy_of pair.led pair).processor then (copy_of (other_of pair.led) pair).processor
+    else (copy_of pair.led pair).processor
 
 -- the route of a node to the process of a number, if it is there
 abbrev pub route_to : World → ℕ → ℕ → Option ℕ

@@ -1,6 +1,6 @@
 -- Each checkpoint is within the layout, and so is what tells that it was taken.
 use Rattle.std.proofs.Common.{◌≡◌, ◌≤◌, ◌<◌, ◌^◌, inr, ℕ, zero, suc, ◌-◌, ℤ, List, [], ◌∷◌, map, drop, reverse, length}
-use Rattle.std.proofs.Common.{All, Option, Some, None, slice_get, refl, sym, ap, subst, arith}
+use Rattle.std.proofs.Common.{All, Bool, true, false, Option, Some, None, slice_get, refl, sym, ap, subst, arith}
 use Rattle.std.proofs.lemmas.Bool.{le-leb}
 use Rattle.std.proofs.lemmas.List.{length-drop}
 use Rattle.std.specs.List.{slice_index_or}
@@ -22,11 +22,12 @@ use Rattle.checkpoint_image.specs.declared.receive.OpenerBlock.{OpenerBlock}
 use Rattle.process_semantics.specs.Image.{listed_items, listed_files, image_of}
 use Rattle.process_semantics.specs.Process.{ProcessState, Runs, Serves}
 use Rattle.process_images.specs.Short.{IsWithinProcess}
+use Rattle.process_images.proofs.Everything.{whole-listed}
 use Rattle.process_images.proofs.Lengths.{image-short}
 use Rattle.whole_states.specs.Listing.{MayList}
 use Rattle.whole_states.specs.Processes.{IsWholeProcess}
 use Rattle.whole_states.proofs.Named.{frames-listed, file-there}
-use Rattle.world_semantics.specs.Core.{Core, Deed, next_on, carried}
+use Rattle.world_semantics.specs.Core.{Core, Deed, next_on, carried_by, files_for, items_for}
 use Rattle.world_semantics.specs.Follows.{IsRun}
 use Rattle.world_semantics.specs.Messages.{Checkpointing, Taking}
 use Rattle.world_semantics.specs.World.{Pair, World}
@@ -48,6 +49,7 @@ use Rattle.message_layout.specs.Messages.{Carrying, Changing}
 use Rattle.letters_layout.specs.Fitting.{IsSmall}
 use Rattle.message_layout.specs.Layout.{Fits}
 use Rattle.letters_layout.proofs.Changes.{HasFewKept, change-within}
+use Rattle.letters_layout.proofs.Eras.{checkpoint-era, taken-era}
 use Rattle.letters_layout.proofs.Numbered.{WasMade, run-known}
 use Rattle.letters_layout.proofs.Requests.{few-of}
 
@@ -87,13 +89,39 @@ map-count : (next : ℕ → ℕ) (files : List ℕ)
 map-count next [] = refl
 map-count next (file ∷ files) = ap suc (map-count next files)
 
--- a process lists at its checkpoint only what it may
+-- a process lists at its checkpoint only what it may, and so it does where it sends everything
 listed-may : (s : ProcessState) → IsWholeProcess s → MayList s (listed_items s) (listed_files s)
 listed-may (Runs program s) is = frames-listed program is.0 s.frames is.1.frames
 listed-may (Serves sectors s) is = (refl, refl)
 
+carried-may : (everything : Bool) (s : ProcessState) → IsWholeProcess s
+    → MayList s (items_for everything s) (files_for everything s)
+carried-may true s is = whole-listed s
+carried-may false s is = listed-may s is
+
+-- of few files that it may list, each once
+files-few : (s : ProcessState) (items files : List ℕ) → IsWithinProcess s → MayList s items files
+    → (length files ≤ 8) × ((file : ℕ) → IsAmong file files → file < 8)
+files-few (Runs program s) items files limits listed =
+    let most = limits.1.files in
+    let few = distinct-few files (length program.files) listed.distinct_files
+    (λ k among. file-there k (listed.files_there k among)) in (
+      omega (arith, few, most),
+      λ file among. let less = file-there file (listed.files_there file among) in
+          omega (arith, less, most),
+    )
+files-few (Serves sectors s) items files limits listed =
+    subst (λ (named : List ℕ). (length named ≤ 8) × ((file : ℕ) → IsAmong file named → file < 8)) (sym listed.1)
+    (omega arith, λ file among. absurd among)
+
 module _ (site : Site) (fit : IsFit site) (small : IsSmall site) (n before number : ℕ) (limit : n < 4294967296)
-    (less : before < n) (core : Core) (made : WasMade site before number core) where
+    (less : before < n) (core : Core) (made : WasMade site before number core) (everything : Bool) where
+  abbrev items : List ℕ
+  items = items_for everything core.state
+
+  abbrev files : List ℕ
+  files = files_for everything core.state
+
   whole : IsWholeProcess core.state
   whole = done-whole (fit.regular number made.spec made.there) made.done
       (record { count = let few = made.few in omega (arith, few, limit, less); short = made.short })
@@ -106,25 +134,14 @@ module _ (site : Site) (fit : IsFit site) (small : IsSmall site) (n before numbe
           small.programs number made.spec program made.there (same-pair made.spec.what program same)
       by (Serves sectors s) same = tt
 
-  body : length (image_of (listed_items core.state) core.state) ≤ 32767
-  body = image-short core.state (listed_items core.state) (listed_files core.state) whole within
-      (listed-may core.state whole)
+  may : MayList core.state items files
+  may = carried-may everything core.state whole
 
-  files-few : (length (listed_files core.state) ≤ 8) × ((file : ℕ) → IsAmong file (listed_files core.state) → file < 8)
-  files-few = by core.state whole within
-    where
-      by : (s : ProcessState) → IsWholeProcess s → IsWithinProcess s
-          → (length (listed_files s) ≤ 8) × ((file : ℕ) → IsAmong file (listed_files s) → file < 8)
-      by (Runs program s) is limits =
-          let listed = frames-listed program is.0 s.frames is.1.frames in
-          let most = limits.1.files in
-          let few = distinct-few (listed_files (Runs program s)) (length program.files) listed.distinct_files
-          (λ k among. file-there k (listed.files_there k among)) in (
-            omega (arith, few, most),
-            λ file among. let less = file-there file (listed.files_there file among) in
-                omega (arith, less, most),
-          )
-      by (Serves sectors s) is limits = (omega arith, λ file among. absurd among)
+  body : length (image_of items core.state) ≤ 32767
+  body = image-short core.state items files whole within may
+
+  named-few : (length files ≤ 8) × ((file : ℕ) → IsAmong file files → file < 8)
+  named-few = files-few core.state items files within may
 
   next-few : (file : ℕ) → next_on core file < 2 ^ 32
   next-few file = by (slice_get core.next file) refl
@@ -190,14 +207,14 @@ module _ (site : Site) (fit : IsFit site) (small : IsSmall site) (n before numbe
   number-there : number < length site.processes
   number-there = slice_get_within site.processes number made.spec made.there
 
-  image-lies : (message : ImageMessage) → message.process ≡ number → message.era ≤ 1 → message.number ≤ n
-      → message.image ≡ carried core
+  image-lies : (message : ImageMessage) → message.process ≡ number → message.era ≤ 509 → message.number ≤ n
+      → message.image ≡ carried_by everything core
       → IsWithinLayout message
   image-lies message same era count is = record {
     short = record {
       body = subst (λ (i : Image). length i.body ≤ 32767) (sym is) body;
       files = subst (λ (i : Image). length i.files ≤ 32767) (sym is)
-          (let l = map-count (next_on core) (listed_files core.state) in let few = files-few.0 in
+          (let l = map-count (next_on core) files in let few = named-few.0 in
           omega (arith, l, few));
       openers = subst (λ (i : Image). length i.receive.openers ≤ 32767) (sym is)
           (let l = openers-same made.done in let few = small.openers number in omega (arith, l, few));
@@ -210,14 +227,14 @@ module _ (site : Site) (fit : IsFit site) (small : IsSmall site) (n before numbe
     era = omega (arith, era);
     number = omega (arith, count, limit);
     files = subst (λ (i : Image). All IsFile i.files) (sym is)
-        (named-all IsFile (next_on core) (listed_files core.state)
-        (λ file among. record { file = let l = files-few.1 file among in omega (arith, l); next = next-few file }));
+        (named-all IsFile (next_on core) files
+        (λ file among. record { file = let l = named-few.1 file among in omega (arith, l); next = next-few file }));
     openers = subst (λ (i : Image). All IsOpener i.receive.openers) (sym is)
         (at-each IsOpener core.receive.openers (λ place block there.
         record { taken = taken-few place block there; replies = kept-short place block there }));
   }
 
-  image-few : (message : ImageMessage) → message.image ≡ carried core → HasFewKept message
+  image-few : (message : ImageMessage) → message.image ≡ carried_by everything core → HasFewKept message
   image-few message is = record {
     openers = subst (λ (i : Image). length i.receive.openers < 4096) (sym is)
         (let l = openers-same made.done in let few = small.openers number in omega (arith, l, few));
@@ -237,7 +254,8 @@ module _ (site : Site) (fit : IsFit site) (small : IsSmall site) (events : List 
   checkpoint-fits message (pair, there, among) =
       let one = (run-known site fit events w few run message.process pair there).checkpoints message among in record {
         within = image-lies site fit small (length events) one.before message.process few one.less one.core one.made
-            message refl one.era one.count one.same;
+            one.everything message refl (checkpoint-era run message.process pair there message among) one.count
+            one.same;
         known = le-leb (suc message.process) (length site.processes) (there-spec message.process pair there);
       }
 
@@ -247,20 +265,19 @@ module _ (site : Site) (fit : IsFit site) (small : IsSmall site) (events : List 
       let one = (run-known site fit events w few run message.process pair there).checkpoints message among in
       let whole = checkpoint-fits message (pair, there, among) in record {
         within = change-within before message whole.within
-            (image-few site fit small (length events) one.before message.process few one.less one.core one.made message
-            one.same);
+            (image-few site fit small (length events) one.before message.process few one.less one.core one.made
+            one.everything message one.same);
         known = whole.known;
       }
 
   pub taken-fits : (taken : TakenMessage) → IsSent w (Taking taken) → Fits site (Carrying (Taking taken))
   taken-fits taken (pair, there, among) =
-      let one = (run-known site fit events w few run taken.process pair there).takens taken among in
+      let c = (run-known site fit events w few run taken.process pair there).takens taken among in
       let low = there-spec taken.process pair there in record {
         within = record {
           process = let most = small.processes in omega (arith, low, most);
-          era = let e = one.0 in
-              omega (arith, e);
-          number = let c = one.1 in omega (arith, c, few);
+          era = let e = taken-era run taken.process pair there taken among in omega (arith, e);
+          number = omega (arith, c, few);
         };
         known = le-leb (suc taken.process) (length site.processes) low;
       }

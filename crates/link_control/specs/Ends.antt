@@ -1,7 +1,8 @@
 -- One end of a channel: what it has, and what each call makes of it. That messages go in numbered packets, acknowledged
 -- and sent again over two buses, is Bartlett's; one outstanding piece at a time, and when it is sent again, are our
 -- own.
-use Rattle.std.specs.Prelude.{◌≡◌, ℕ, ◌+◌, ◌*◌, ◌<◌, ◌==◌, ◌&&◌, not, nat_lt, nat_le, ℤ, Bool, true, false, List, []}
+use Rattle.std.specs.Prelude.{◌≡◌, ℕ, ◌+◌, ◌*◌, ◌<◌, ◌==◌, ◌&&◌, ◌||◌, not, nat_lt, nat_le, ℤ, Bool, true, false, List}
+use Rattle.std.specs.Prelude.{[]}
 use Rattle.std.specs.Prelude.{◌∷◌, ◌++◌, length, Option, Some, None, if◌then◌else◌}
 use Rattle.std.specs.Option.{option_map}
 use Rattle.gd_words.specs.Ranges.{HasNext}
@@ -196,6 +197,43 @@ sent_by_tick e =
 abbrev pub after_down : End → End
 after_down e =
     record e { sending = idle_after e.sending.numbered; receiving = nothing_in_part e.receiving.kept; down = true }
+
+-- Reloads
+
+-- whether a packet that comes bears the incarnations that this end knows, of its sender and of its receiver
+abbrev pub is_current : Packet → End → Bool
+is_current packet e =
+    (packet.incarnation.sender == e.incarnation.receiver) && (packet.incarnation.receiver == e.incarnation.sender)
+
+-- whether a packet bears the incarnations that the packets of this end bear
+abbrev pub is_own : Packet → End → Bool
+is_own packet e =
+    (packet.incarnation.sender == e.incarnation.sender) && (packet.incarnation.receiver == e.incarnation.receiver)
+
+-- the incarnation of a node after the node x was loaded again
+abbrev pub incarnation_after : ℕ → ℕ → ℕ → ℕ
+incarnation_after x node incarnation = if node == x then incarnation + 1 else incarnation
+
+-- the node x was loaded again, and an end of it or with it is a new one: nothing has gone over it, and it bears the
+-- next incarnation of x
+abbrev pub next_end : ℕ → End → End
+next_end x e =
+    new_end e.here e.there (record {
+      sender = incarnation_after x e.here e.incarnation.sender;
+      receiver = incarnation_after x e.there e.incarnation.receiver;
+    })
+
+-- whether an end is one of the node x, or with it
+abbrev pub is_of : ℕ → End → Bool
+is_of x e = (e.here == x) || (e.there == x)
+
+-- an end after the node x was loaded again
+abbrev pub end_after_reload : ℕ → End → End
+end_after_reload x e = if is_of x e then next_end x e else e
+
+-- the node x can be loaded again as far as an end knows: incarnations end at 127
+abbrev pub HasIncarnationLeft : ℕ → End → Type 0
+HasIncarnationLeft x e = (e.here ≡ x → e.incarnation.sender < 127) × (e.there ≡ x → e.incarnation.receiver < 127)
 
 -- the packet that tells the other node that this one is alive; none goes to a node that is marked down
 abbrev pub alive_of : End → Option Packet

@@ -5,7 +5,9 @@ ghost use Rattle.packet_words.specs.declared.packet.PacketKind.TheVariants as ki
 ghost use Rattle.link_control.specs.Ends.{End, new_end, after_push, sent_by_push, after_packet, sent_by_packet};
 ghost use Rattle.link_control.specs.Ends.{handed_by_packet, after_tick, sent_by_tick, after_down, alive_of, is_empty};
 ghost use Rattle.link_control.specs.Ends.{HasNumberForPush, HasNumbersLeft, packet_outstanding, packet_of, is_kept};
-ghost use Rattle.link_control.specs.Ends.{kept, message_of_piece};
+ghost use Rattle.link_control.specs.Ends.{kept, message_of_piece, HasIncarnationLeft, end_after_reload};
+ghost use Rattle.link_control.specs.Ends.{incarnation_after};
+ghost use Rattle.link_control.specs.Ends.{is_current, is_of, is_own, next_end};
 
 use crate::sender::Sender;
 use gd_words::{List, NoMemory};
@@ -198,6 +200,51 @@ impl Channel {
         self.sender.numbered() < u32::MAX && self.kept < u32::MAX
     }
 
+    /// Whether a packet that comes bears the present incarnations of its sender and its receiver.
+    pub fn is_current(&self, packet: &Packet) -> bool
+        ensures { result ≡ is_current packet.now self.now }
+    {
+        packet.incarnation.sender == self.incarnation.receiver
+            && packet.incarnation.receiver == self.incarnation.sender
+    }
+
+    /// Whether a packet bears the incarnations that the packets of this end bear.
+    pub fn is_own(&self, packet: &Packet) -> bool
+        ensures { result ≡ is_own packet.now self.now }
+    {
+        packet.incarnation.sender == self.incarnation.sender
+            && packet.incarnation.receiver == self.incarnation.receiver
+    }
+
+    /// A node was loaded again. An end of it or with it is a new one then.
+    pub fn on_reload(&mut self, alloc: Global, node: u8)
+        requires { HasIncarnationLeft node self.old }
+        ensures { self.new ≡ end_after_reload node self.old }
+    {
+        if self.is_of(node) {
+            *self = self.next(alloc, node);
+        }
+    }
+
+    /// Whether this is an end of a node, or with it.
+    fn is_of(&self, node: u8) -> bool
+        ensures { result ≡ is_of node self.now }
+    {
+        self.from == node || self.to == node
+    }
+
+    /// The new end that bears the next incarnation of a node.
+    fn next(&self, alloc: Global, node: u8) -> Channel
+        requires { HasIncarnationLeft node self.now }
+        ensures { result ≡ next_end node self.now }
+    {
+        let incarnation = Incarnation {
+            sender: incarnation_after(node, self.from, self.incarnation.sender),
+            receiver: incarnation_after(node, self.to, self.incarnation.receiver),
+        };
+        Channel::new(alloc, self.from, self.to, incarnation)
+    }
+
     fn packet_of(&self, kind: PacketKind) -> Packet
         ensures { result ≡ packet_of self.now kind }
     {
@@ -242,5 +289,17 @@ impl Channel {
         } else {
             Ok(None)
         }
+    }
+}
+
+/// The incarnation of a node after `loaded` was loaded again.
+fn incarnation_after(loaded: u8, node: u8, incarnation: u8) -> u8
+    requires { node ≡ loaded → incarnation < 127 }
+    ensures { result ≡ incarnation_after loaded node incarnation }
+{
+    if node == loaded {
+        incarnation + 1
+    } else {
+        incarnation
     }
 }

@@ -19,10 +19,11 @@ use Rattle.world_semantics.specs.Messages.{Message, Asking, Replying, Checkpoint
 use Rattle.world_semantics.specs.Messages.{Running}
 use Rattle.world_semantics.specs.Own.{Around, around, Causes, by_inner, by_take, by_ask, by_answer, by_device, by_write}
 use Rattle.world_semantics.specs.Own.{by_reply, asked_on}
-use Rattle.world_semantics.specs.Passes.{Passes, by_send, by_pass_again, by_pass, by_apply, by_acknowledge}
+use Rattle.world_semantics.specs.Passes.{Passes, by_send, by_pass_again, by_pass, by_end, by_apply, by_apply_behind}
+use Rattle.world_semantics.specs.Passes.{by_acknowledge}
 use Rattle.world_semantics.specs.Passes.{checkpoint_of, taken_of}
 use Rattle.world_semantics.specs.Rules.{Change, by_own, by_checkpoint, by_request, by_early_request, by_enter, by_print}
-use Rattle.world_semantics.specs.Rules.{by_stop, by_mark, after_own}
+use Rattle.world_semantics.specs.Rules.{by_stop, by_mark, by_reload, after_own}
 use Rattle.world_semantics.specs.World.{Copy, Down, Pair, World, copy_of}
 use Rattle.world_semantics.proofs.Lists.{some-same}
 use Rattle.served_requests.specs.letter_laws.specs.takeover_laws.specs.Fit.{IsFit}
@@ -109,13 +110,17 @@ module _ (site : Site) (fit : IsFit site) (events : List Event) (w : World) (few
 
   passes-none : {number : ℕ} {marks : List Down} {kept after : List Act} {pair next : Pair} {cause : Cause}
       {sendings : List Sending} → Passes number marks kept pair cause sendings next after → Tells sendings → ⊥
-  passes-none {number = number} {pair = pair} (by_send k role at unsent unmarked) among =
+  passes-none {number = number} {pair = pair} (by_send k role may unsent unmarked) among =
       not-answered reply (Checkpointing (checkpoint_of number (copy_of k pair))) refl
       (sent-one (copy_of k pair).processor node (Replying reply)
       (Checkpointing (checkpoint_of number (copy_of k pair)) ∷ []) among).among
   passes-none (by_pass_again k role at may less) among = absurd among
   passes-none (by_pass k role at may most) among = absurd among
-  passes-none {pair = pair} (by_apply k message applied role known era number put) among =
+  passes-none (by_end k role sent away may) among = absurd among
+  passes-none {pair = pair} (by_apply_behind k message applied role known era number put at) among =
+      not-answered reply (Taking (taken_of message)) refl
+      (sent-one (copy_of k pair).processor node (Replying reply) (Taking (taken_of message) ∷ []) among).among
+  passes-none {pair = pair} (by_apply k message applied role known era number put at) among =
       not-answered reply (Taking (taken_of message)) refl
       (sent-one (copy_of k pair).processor node (Replying reply) (Taking (taken_of message) ∷ []) among).among
   passes-none (by_acknowledge k taken role sent known era same) among = absurd among
@@ -123,7 +128,7 @@ module _ (site : Site) (fit : IsFit site) (events : List Event) (w : World) (few
   -- a run tells replies by answering alone
   pub told-ended : (next : World) (number : ℕ) (cause : Cause) (sendings : List Sending)
       → Change site w cause sendings next → cause ≡ Running number → Tells sendings → IsEnded next
-  told-ended next number cause sendings (by_own one k pair there role causes advances enters) is among =
+  told-ended next number cause sendings (by_own one k pair there role causes advances enters free) is among =
       own-ended one k pair there role causes advances enters among
   told-ended next number cause sendings (by_checkpoint one pair there passes) is among =
       absurd (passes-none passes among)
@@ -131,5 +136,6 @@ module _ (site : Site) (fit : IsFit site) (events : List Event) (w : World) (few
   told-ended next number cause sendings (by_early_request asked k pair known there role) is among = absurd among
   told-ended next number cause sendings (by_enter one terminal opener there even asked opens) is among = absurd (cc)
   told-ended next number cause sendings (by_print one terminal told there odd known opens same) is among = absurd among
-  told-ended next number cause sendings (by_stop processor runs) is among = absurd among
+  told-ended next number cause sendings (by_stop processor runs whole) is among = absurd among
   told-ended next number cause sendings (by_mark marking processor down runs unmarked) is among = absurd (cc)
+  told-ended next number cause sendings (by_reload processor gone noted there less) is among = absurd among

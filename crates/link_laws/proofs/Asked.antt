@@ -17,7 +17,7 @@ use Rattle.plain_semantics.specs.declared.slot.Opener.{Opener}
 use Rattle.plain_semantics.specs.Machine.{next_request}
 use Rattle.plain_semantics.specs.Openers.{openers_of, opener_of}
 use Rattle.world_semantics.specs.declared.role.Role.{Role}
-use Rattle.world_semantics.specs.declared.role.Role.TheVariants.{Acting, Watching, Gone}
+use Rattle.world_semantics.specs.declared.role.Role.TheVariants.{Acting, Watching, Blank, Gone}
 use Rattle.world_semantics.specs.declared.which.Which.{Which}
 use Rattle.world_semantics.specs.Core.{Core, Deed, Advances, goes, takes, asks, gets, answers, acts, core_asked}
 use Rattle.world_semantics.specs.Core.{next_on}
@@ -26,10 +26,12 @@ use Rattle.world_semantics.specs.Kept.{Enters}
 use Rattle.world_semantics.specs.Messages.{Message, Asking, Replying, Checkpointing, Taking, Sending, sent_at, Cause}
 use Rattle.world_semantics.specs.Own.{Around, around, Causes, by_inner, by_take, by_ask, by_answer, by_device, by_write}
 use Rattle.world_semantics.specs.Own.{by_reply, request_to, asked_on}
-use Rattle.world_semantics.specs.Passes.{Passes, by_send, by_pass_again, by_pass, by_apply, by_acknowledge}
+use Rattle.world_semantics.specs.Passes.{Passes, by_send, by_pass_again, by_pass, by_end, by_apply, by_apply_behind}
+use Rattle.world_semantics.specs.Passes.{by_acknowledge}
 use Rattle.world_semantics.specs.Passes.{checkpoint_of, taken_of}
 use Rattle.world_semantics.specs.Rules.{Change, by_own, by_checkpoint, by_request, by_early_request, by_enter, by_print}
-use Rattle.world_semantics.specs.Rules.{by_stop, by_mark, after_own, entered_request, taker, takeover_sendings}
+use Rattle.world_semantics.specs.Rules.{by_stop, by_mark, by_reload, after_own, entered_request, taker}
+use Rattle.world_semantics.specs.Rules.{takeover_sendings}
 use Rattle.world_semantics.specs.Rules.{told_at_down}
 use Rattle.world_semantics.specs.World.{Copy, Down, Pair, Terminal, World, copy_of, terminal_node}
 use Rattle.world_semantics.proofs.Members.{among-filter, among-flat_map, among-map}
@@ -157,7 +159,11 @@ module _ (site : Site) (fit : IsFit site) (events : List Event) (w : World) (few
       (Checkpointing (checkpoint_of number (copy_of k pair)) ∷ []) among).among
   passes-none (by_pass_again k role at may less) among = absurd among
   passes-none (by_pass k role at may most) among = absurd among
-  passes-none {pair = pair} (by_apply k message applied role known era number put) among =
+  passes-none (by_end k role sent away may) among = absurd among
+  passes-none {pair = pair} (by_apply_behind k message applied role known era number put at) among =
+      not-asked request (Taking (taken_of message)) refl
+      (sent-one (copy_of k pair).processor node (Asking request) (Taking (taken_of message) ∷ []) among).among
+  passes-none {pair = pair} (by_apply k message applied role known era number put at) among =
       not-asked request (Taking (taken_of message)) refl
       (sent-one (copy_of k pair).processor node (Asking request) (Taking (taken_of message) ∷ []) among).among
   passes-none (by_acknowledge k taken role sent known era same) among = absurd among
@@ -210,7 +216,7 @@ module _ (site : Site) (fit : IsFit site) (events : List Event) (w : World) (few
 
   pub sent-linked : (next : World) (cause : Cause) (sendings : List Sending) → Change site w cause sendings next
       → Asks sendings → IsLinked next
-  sent-linked next cause sendings (by_own number k pair there role causes advances enters) among =
+  sent-linked next cause sendings (by_own number k pair there role causes advances enters free) among =
       own-linked number k pair there role causes advances enters among
   sent-linked next cause sendings (by_checkpoint number pair there passes) among = absurd (passes-none passes among)
   sent-linked next cause sendings (by_request asked k pair known there role) among =
@@ -221,7 +227,8 @@ module _ (site : Site) (fit : IsFit site) (events : List Event) (w : World) (few
   sent-linked next cause sendings (by_enter {words = words} number terminal opener there even asked opens) among =
       enter-linked next words number terminal opener there even asked opens refl refl among
   sent-linked next cause sendings (by_print number terminal reply there odd known opens same) among = absurd among
-  sent-linked next cause sendings (by_stop processor runs) among = absurd among
+  sent-linked next cause sendings (by_stop processor runs whole) among = absurd among
+  sent-linked next cause sendings (by_reload processor gone noted there less) among = absurd among
   sent-linked next cause sendings (by_mark marking processor down runs unmarked) among =
       let of = among-flat_map (told_at_down marking processor) w.processes _ among in
       absurd (told-none marking processor of.item of.within)
@@ -283,6 +290,7 @@ module _ (site : Site) (before next : World) (node processor : ℕ) (request : R
       by true among = again-among before node processor request requests among
       by false among = absurd among
   acting-among Watching at requests among = absurd among
+  acting-among Blank at requests among = absurd among
   acting-among Gone at requests among = absurd among
 
   -- a reply that is told again is no request
@@ -299,6 +307,7 @@ module _ (site : Site) (before next : World) (node processor : ℕ) (request : R
           no-request request (kept_from before node processor number copy.core.receive 0 (openers_of site number)) among
       by false among = among
   telling-none Watching at number copy among = among
+  telling-none Blank at number copy among = among
   telling-none Gone at number copy among = among
 
   none-told : (n : ℕ) (pairs : List Pair) → IsAmong request (of_copies (λ number copy. []) n pairs) → ⊥

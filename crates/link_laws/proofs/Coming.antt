@@ -12,9 +12,10 @@ use Rattle.world_semantics.specs.Follows.{IsRun}
 use Rattle.world_semantics.specs.Messages.{Message, Asking, Sending, Cause, Handing}
 use Rattle.world_semantics.specs.Own.{Around, Causes, by_inner, by_take, by_ask, by_answer, by_device, by_write}
 use Rattle.world_semantics.specs.Own.{by_reply}
-use Rattle.world_semantics.specs.Passes.{Passes, by_send, by_pass_again, by_pass, by_apply, by_acknowledge}
+use Rattle.world_semantics.specs.Passes.{Passes, by_send, by_pass_again, by_pass, by_end, by_apply, by_apply_behind}
+use Rattle.world_semantics.specs.Passes.{by_acknowledge}
 use Rattle.world_semantics.specs.Rules.{Change, by_own, by_checkpoint, by_request, by_early_request, by_enter, by_print}
-use Rattle.world_semantics.specs.Rules.{by_stop, by_mark}
+use Rattle.world_semantics.specs.Rules.{by_stop, by_mark, by_reload}
 use Rattle.world_semantics.specs.World.{Copy, Down, Pair, World, copy_of, with_copy, with_pair}
 use Rattle.world_semantics.proofs.Fair.{fair-of, run-fair}
 use Rattle.world_semantics.proofs.Waiting.{waits-all}
@@ -47,7 +48,9 @@ passes-none : {number at : ℕ} {marks : List Down} {kept after : List Act} {pai
 passes-none (by_send k role at unsent unmarked) same = cc
 passes-none (by_pass_again k role at may less) same = cc
 passes-none (by_pass k role at may most) same = cc
-passes-none (by_apply k message applied role among era is put) same = cc
+passes-none (by_end k role sent away may) same = cc
+passes-none (by_apply_behind k message applied role among era is put at) same = cc
+passes-none (by_apply k message applied role among era is put at) same = cc
 passes-none (by_acknowledge k taken role sent among era is) same = cc
 
 -- in the other direction
@@ -132,8 +135,8 @@ module _ (site : Site) (w : World) (node : ℕ) where
       → cause ≡ Handing at (Asking request) → IsAmong one (needs_at site w node).waiting
       → (one.process ≡ request.process → one.opener ≡ request.opener → request.number ≤ one.number)
       → IsAmong one (needs_at site next node).waiting
-  handed-stays events run next cause sendings (by_own number k pair there role causes advances enters) at request one
-      is waited unless = absurd (own-none causes is)
+  handed-stays events run next cause sendings (by_own number k pair there role causes advances enters free) at request
+      one is waited unless = absurd (own-none causes is)
   handed-stays events run next cause sendings (by_checkpoint number pair there passes) at request one is waited unless =
       absurd (passes-none passes is)
   handed-stays events run next cause sendings (by_request asked k pair known there role) at request one is waited
@@ -155,15 +158,19 @@ module _ (site : Site) (w : World) (node : ℕ) where
       is waited unless = absurd (cc)
   handed-stays events run next cause sendings (by_print number terminal told there odd known opens same) at request one
       is waited unless = absurd (cc)
-  handed-stays events run next cause sendings (by_stop processor runs) at request one is waited unless = absurd (cc)
+  handed-stays events run next cause sendings (by_stop processor runs whole) at request one is waited unless =
+      absurd (cc)
   handed-stays events run next cause sendings (by_mark marking processor down runs unmarked) at request one is waited
+      unless = absurd (cc)
+  handed-stays events run next cause sendings (by_reload processor gone noted there less) at request one is waited
       unless = absurd (cc)
 
   pub handed-were : (next : World) (cause : Cause) (sendings : List Sending) → Change site w cause sendings next
       → (at : ℕ) (request one : Request) → cause ≡ Handing at (Asking request)
       → IsAmong one (needs_at site next node).waiting
       → (one ≡ request) ⊎ IsAmong one (needs_at site w node).waiting
-  handed-were next cause sendings (by_own number k pair there role causes advances enters) at request one is waited =
+  handed-were next cause sendings (by_own number k pair there role causes advances enters free) at request one is
+      waited =
       absurd (own-none causes is)
   handed-were next cause sendings (by_checkpoint number pair there passes) at request one is waited =
       absurd (passes-none passes is)
@@ -179,5 +186,6 @@ module _ (site : Site) (w : World) (node : ℕ) where
       absurd (cc)
   handed-were next cause sendings (by_print number terminal told there odd known opens same) at request one is waited =
       absurd (cc)
-  handed-were next cause sendings (by_stop processor runs) at request one is waited = absurd (cc)
+  handed-were next cause sendings (by_stop processor runs whole) at request one is waited = absurd (cc)
   handed-were next cause sendings (by_mark marking processor down runs unmarked) at request one is waited = absurd (cc)
+  handed-were next cause sendings (by_reload processor gone noted there less) at request one is waited = absurd (cc)

@@ -12,7 +12,7 @@ use Rattle.process_semantics.specs.declared.point.Point.TheVariants as point
 use Rattle.process_semantics.specs.Process as process
 use Rattle.disc_device.specs.Sectors.{Stored}
 use Rattle.world_semantics.specs.declared.role.Role.{Role}
-use Rattle.world_semantics.specs.declared.role.Role.TheVariants.{Acting, Watching, Gone}
+use Rattle.world_semantics.specs.declared.role.Role.TheVariants.{Acting, Watching, Blank, Gone}
 use Rattle.world_semantics.specs.declared.which.Which.{Which}
 use Rattle.world_semantics.specs.declared.which.Which.TheVariants.{First, Second}
 use Rattle.world_semantics.specs.Core.{Core}
@@ -21,7 +21,7 @@ use Rattle.world_semantics.specs.Kept.{Enters, holds_on, repeats, begins, keeps}
 use Rattle.world_semantics.specs.Own.{Around}
 use Rattle.world_semantics.specs.Rules.{after_own}
 use Rattle.world_semantics.specs.World.{Copy, Pair, Terminal, World, copy_of, other_of, terminal_node, with_copy}
-use Rattle.world_semantics.proofs.Reached.{run-marks, run-roles}
+use Rattle.world_semantics.proofs.Reached.{run-kept}
 use Rattle.served_requests.specs.letter_laws.specs.takeover_laws.specs.Fit.{IsFit}
 use Rattle.served_requests.specs.letter_laws.specs.takeover_laws.proofs.Kept.{IsGood, run-keeps}
 use Rattle.letters.specs.Again as again
@@ -33,11 +33,15 @@ use Rattle.link_laws.proofs.Lists.{AreInPlaceOf, behind, copy-put, in-front, sam
 -- a world that a run reaches is good
 pub run-good : (site : Site) → IsFit site → (events : List Event) (w : World) → length events < 4294967296
     → IsRun site events w → IsGood site (length events) w
-run-good site fit events w few run = record {
-  roles = run-roles run;
-  stopped = run-marks run;
-  invariant = run-keeps site fit events w few run;
-}
+run-good site fit events w few run =
+    let kept = run-kept fit.seats run in
+    record {
+      roles = kept.roles;
+      stopped = kept.marks;
+      steady = kept.steady;
+      seated = kept.seated;
+      invariant = run-keeps site fit events w few run;
+    }
 
 -- What is for a copy that acts on a node
 
@@ -49,6 +53,7 @@ module _ {A : Type 0} where
       by true = none
       by false = refl
   acts-none node Watching at items none = refl
+  acts-none node Blank at items none = refl
   acts-none node Gone at items none = refl
 
   pub acts-there : (node : ℕ) (role : Role) (at : ℕ) (items those : List A) → role ≡ Acting → at ≡ node → items ≡ those

@@ -21,9 +21,10 @@ use Rattle.world_semantics.specs.Kept.{Enters}
 use Rattle.world_semantics.specs.Messages.{Message, Replying, Sending, Cause, Handing}
 use Rattle.world_semantics.specs.Own.{Around, around, Causes, by_inner, by_take, by_ask, by_answer, by_device, by_write}
 use Rattle.world_semantics.specs.Own.{by_reply, request_to}
-use Rattle.world_semantics.specs.Passes.{Passes, by_send, by_pass_again, by_pass, by_apply, by_acknowledge}
+use Rattle.world_semantics.specs.Passes.{Passes, by_send, by_pass_again, by_pass, by_end, by_apply, by_apply_behind}
+use Rattle.world_semantics.specs.Passes.{by_acknowledge}
 use Rattle.world_semantics.specs.Rules.{Change, by_own, by_checkpoint, by_request, by_early_request, by_enter, by_print}
-use Rattle.world_semantics.specs.Rules.{by_stop, by_mark, after_own}
+use Rattle.world_semantics.specs.Rules.{by_stop, by_mark, by_reload, after_own}
 use Rattle.world_semantics.specs.World.{Copy, Down, Pair, Terminal, World, copy_of, terminal_node}
 use Rattle.world_semantics.proofs.Runs.{holds-on}
 use Rattle.letters.specs.Again as again
@@ -50,7 +51,9 @@ passes-none : {number at : ℕ} {marks : List Down} {kept after : List Act} {pai
 passes-none (by_send k role at unsent unmarked) same = cc
 passes-none (by_pass_again k role at may less) same = cc
 passes-none (by_pass k role at may most) same = cc
-passes-none (by_apply k message applied role among era is put) same = cc
+passes-none (by_end k role sent away may) same = cc
+passes-none (by_apply_behind k message applied role among era is put at) same = cc
+passes-none (by_apply k message applied role among era is put at) same = cc
 passes-none (by_acknowledge k taken role sent among era is) same = cc
 
 module _ (site : Site) (fit : IsFit site) (events : List Event) (w : World) (few : length events < 4294967296)
@@ -170,7 +173,7 @@ module _ (site : Site) (fit : IsFit site) (events : List Event) (w : World) (few
 
   pub handed-over : (next : World) (cause : Cause) (sendings : List Sending) → Change site w cause sendings next
       → (node : ℕ) (reply : Reply) → cause ≡ Handing node (Replying reply) → IsOver next node reply
-  handed-over next cause sendings (by_own number k pair there role causes advances enters) node reply is =
+  handed-over next cause sendings (by_own number k pair there role causes advances enters free) node reply is =
       own-over number k pair there role causes advances enters node reply is
   handed-over next cause sendings (by_checkpoint number pair there passes) node reply is =
       absurd (passes-none passes is)
@@ -180,5 +183,6 @@ module _ (site : Site) (fit : IsFit site) (events : List Event) (w : World) (few
   handed-over next cause sendings (by_print number terminal one there odd known opens same) node reply is =
       over-as next terminal_node node one reply is
       (print-over next number terminal one there odd opens same refl refl)
-  handed-over next cause sendings (by_stop processor runs) node reply is = absurd (cc)
+  handed-over next cause sendings (by_stop processor runs whole) node reply is = absurd (cc)
   handed-over next cause sendings (by_mark marking processor down runs unmarked) node reply is = absurd (cc)
+  handed-over next cause sendings (by_reload processor gone noted there less) node reply is = absurd (cc)

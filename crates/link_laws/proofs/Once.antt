@@ -8,7 +8,7 @@ use Rattle.gd_words.proofs.Among.{among-either}
 use Rattle.tal_tree.specs.declared.site.Site.{Site}
 use Rattle.schedule.specs.declared.event.Event.{Event}
 use Rattle.world_semantics.specs.declared.role.Role.{Role}
-use Rattle.world_semantics.specs.declared.role.Role.TheVariants.{Acting, Watching, Gone}
+use Rattle.world_semantics.specs.declared.role.Role.TheVariants.{Acting, Watching, Blank, Gone}
 use Rattle.world_semantics.specs.declared.which.Which.TheVariants.{First, Second}
 use Rattle.world_semantics.specs.Follows.{IsRun}
 use Rattle.world_semantics.specs.Laws.{waiting_of}
@@ -71,6 +71,7 @@ there-apart node role at items apart = by role
     by : (role : Role) → StandApart (if_there node role at items)
     by Acting = where_it (at == node)
     by Watching = where_it (at == node)
+    by Blank = where_it (at == node)
     by Gone = tt
 
 -- Copies

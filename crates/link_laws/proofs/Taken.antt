@@ -13,7 +13,7 @@ use Rattle.checkpoint_image.specs.declared.receive.ReceiveBlock.{ReceiveBlock}
 use Rattle.checkpoint_image.specs.Receive.{Chosen, chosen, chosen_after, chosen_by, is_next, standing}
 use Rattle.plain_semantics.specs.Openers.{openers_of}
 use Rattle.world_semantics.specs.declared.role.Role.{Role}
-use Rattle.world_semantics.specs.declared.role.Role.TheVariants.{Acting, Watching, Gone}
+use Rattle.world_semantics.specs.declared.role.Role.TheVariants.{Acting, Watching, Blank, Gone}
 use Rattle.world_semantics.specs.declared.which.Which.{Which}
 use Rattle.world_semantics.specs.declared.which.Which.TheVariants.{First, Second}
 use Rattle.world_semantics.specs.Core.{Core, Deed, Advances, goes, takes, asks, gets, answers, acts, core_taken}
@@ -22,10 +22,12 @@ use Rattle.world_semantics.specs.Kept.{Enters, own_acts}
 use Rattle.world_semantics.specs.Messages.{Message, Sending, Cause, Running}
 use Rattle.world_semantics.specs.Own.{Around, around, Causes, by_inner, by_take, by_ask, by_answer, by_device, by_write}
 use Rattle.world_semantics.specs.Own.{by_reply}
-use Rattle.world_semantics.specs.Passes.{Passes, by_send, by_pass_again, by_pass, by_apply, by_acknowledge}
-use Rattle.world_semantics.specs.Passes.{after_sending, checkpoint_of, copy_at_checkpoint, kept_at_checkpoint}
+use Rattle.world_semantics.specs.Passes.{Passes, by_send, by_pass_again, by_pass, by_end, by_apply, by_apply_behind}
+use Rattle.world_semantics.specs.Passes.{by_acknowledge}
+use Rattle.world_semantics.specs.Passes.{after_sending, after_sent, checkpoint_of, copy_at_checkpoint}
+use Rattle.world_semantics.specs.Passes.{kept_at_checkpoint}
 use Rattle.world_semantics.specs.Rules.{Change, by_own, by_checkpoint, by_request, by_early_request, by_enter, by_print}
-use Rattle.world_semantics.specs.Rules.{by_stop, by_mark, after_own}
+use Rattle.world_semantics.specs.Rules.{by_stop, by_mark, by_reload, after_own}
 use Rattle.world_semantics.specs.World.{Copy, Pair, World, copy_of, other_of, with_copy}
 use Rattle.world_semantics.proofs.Fair.{fair-of, run-fair}
 use Rattle.world_semantics.proofs.Lists.{set-there, some-same}
@@ -85,6 +87,7 @@ there-is node role at items request = by role
     by : (other : Role) → IsAmong request (if_there node other at items) → IsThere node role at items request
     by Acting among = where_it (at == node) refl among
     by Watching among = where_it (at == node) refl among
+    by Blank among = where_it (at == node) refl among
     by Gone among = absurd among
 
 -- so what waits at a copy that acts on a node waits there
@@ -108,6 +111,7 @@ there-among node role at items those request among now = by role among
     by : (role : Role) → IsAmong request (if_there node role at items) → IsAmong request (if_there node role at those)
     by Acting among = where_it (at == node) among
     by Watching among = where_it (at == node) among
+    by Blank among = where_it (at == node) among
     by Gone among = absurd among
 
 -- Changes
@@ -237,7 +241,7 @@ module _ (site : Site) (events : List Event) (w : World) (run : IsRun site event
         → slice_get w.processes number ≡ Some pair
         → Passes number w.marks w.kept pair cause sendings next kept → cause ≡ Running one → Waits w
         → IsKept (record w { processes = slice_set w.processes number next; kept = kept })
-    passes-kept {number = number} {pair = pair} {kept = kept} there (by_send k role at unsent unmarked) is waits =
+    passes-kept {number = number} {pair = pair} {kept = kept} there (by_send k role may unsent unmarked) is waits =
         one-kept number k pair (record pair { checkpoints = checkpoint_of number (copy_of k pair) ∷ pair.checkpoints })
         (after_sending (copy_of k pair)) kept there
         (others-stay k pair (checkpoint_of number (copy_of k pair) ∷ pair.checkpoints)) refl refl refl waits
@@ -251,13 +255,16 @@ module _ (site : Site) (events : List Event) (w : World) (run : IsRun site event
           held = [];
         } in
         one-kept number k pair pair copy kept there refl refl refl refl waits
-    passes-kept there (by_apply k message applied role known era number put) is waits = absurd (cc)
+    passes-kept {number = number} {pair = pair} {kept = kept} there (by_end k role sent away may) is waits =
+        one-kept number k pair pair (after_sent (copy_of k pair)) kept there refl refl refl refl waits
+    passes-kept there (by_apply_behind k message applied role known era number put at) is waits = absurd (cc)
+    passes-kept there (by_apply k message applied role known era number put at) is waits = absurd (cc)
     passes-kept {number = number} {pair = pair} {kept = kept} there (by_acknowledge k taken role sent known era same) is
         waits = absurd (cc)
 
     pub run-keeps-waiting : (next : World) (number : ℕ) (cause : Cause) (sendings : List Sending)
         → Change site w cause sendings next → cause ≡ Running number → Waits w → IsKept next
-    run-keeps-waiting next number cause sendings (by_own one k pair there role causes advances enters) is waits =
+    run-keeps-waiting next number cause sendings (by_own one k pair there role causes advances enters free) is waits =
         own-kept one k pair there role causes advances enters waits
     run-keeps-waiting next number cause sendings (by_checkpoint one pair there passes) is waits =
         passes-kept there passes is waits
@@ -267,5 +274,6 @@ module _ (site : Site) (events : List Event) (w : World) (run : IsRun site event
         absurd (cc)
     run-keeps-waiting next number cause sendings (by_print one terminal told there odd known opens same) is waits =
         absurd (cc)
-    run-keeps-waiting next number cause sendings (by_stop processor runs) is waits = absurd (cc)
+    run-keeps-waiting next number cause sendings (by_stop processor runs whole) is waits = absurd (cc)
     run-keeps-waiting next number cause sendings (by_mark marking processor down runs unmarked) is waits = absurd (cc)
+    run-keeps-waiting next number cause sendings (by_reload processor gone noted there less) is waits = absurd (cc)

@@ -7,7 +7,7 @@ ghost use Rattle.tal_tree.specs.declared.site.Site.{Site};
 ghost use Rattle.schedule.specs.declared.event.Event.{Event};
 ghost use Rattle.world_semantics.specs.Follows.{IsRun};
 ghost use Rattle.world_semantics.specs.Messages.{Asking, Cause, Handing, NotingDown, Replying, Running, Sending};
-ghost use Rattle.world_semantics.specs.Messages.{Stopping};
+ghost use Rattle.world_semantics.specs.Messages.{Reloading, Stopping};
 ghost use Rattle.world_semantics.specs.Rules.{Change};
 ghost use Rattle.world_semantics.specs.World.{World, terminal_node};
 ghost use Rattle.computed_changes.specs.Laws.{HasCopiesApart};
@@ -88,5 +88,12 @@ pub fn a_mark_ends_the_links_of_what_is_dropped()
 pub fn a_stop_ends_all_links_of_its_processor()
     ensures { (site : Site) (w next : World) (processor : ℕ) (sendings : List Sending)
         → Change site w (Stopping processor) sendings next → processor ≢ terminal_node
+        → needs_at site next processor ≡ nothing }
+{}
+
+/// A processor that is loaded again has no links.
+pub fn a_processor_begins_without_links()
+    ensures { (site : Site) (w next : World) (processor : ℕ) (sendings : List Sending)
+        → Change site w (Reloading processor) sendings next → processor ≢ terminal_node
         → needs_at site next processor ≡ nothing }
 {}

@@ -11,8 +11,8 @@ pub mod guards;
 pub mod laws;
 
 pub use laws::{
-    a_mark_ends_the_links_of_what_is_dropped, a_reply_ends_the_links_of_its_request,
-    a_request_that_comes_leaves_the_links_of_others, a_request_that_is_sent_is_linked,
-    a_request_that_waits_has_one_link, a_request_that_waits_keeps_its_link_as_it_is_taken,
-    a_stop_ends_all_links_of_its_processor,
+    a_mark_ends_the_links_of_what_is_dropped, a_processor_begins_without_links,
+    a_reply_ends_the_links_of_its_request, a_request_that_comes_leaves_the_links_of_others,
+    a_request_that_is_sent_is_linked, a_request_that_waits_has_one_link,
+    a_request_that_waits_keeps_its_link_as_it_is_taken, a_stop_ends_all_links_of_its_processor,
 };

@@ -81,9 +81,18 @@ waiting_at_mark s = record s { world = record s.world { processes = map having_s
 abbrev pub marking : List Bool → List ℕ → World → World
 marking stopped nodes w = record w { stopped = stopped; marks = map (λ node. record { node = node; down = 1 }) nodes }
 
--- wires on which these letters are owed, and nothing is on the bus
+-- wires on which these letters are owed of nine that were sent, and nothing is on the bus
 abbrev pub owing : List Sent → Wires
-owing owed = record { count = 9; bus = []; owed = owed }
+owing owed = record { count = 9; bus = []; owed = owed; before = 0 ∷ 0 ∷ 0 ∷ [] }
+
+-- a state whose processors were loaded last after so many letters were sent
+abbrev pub loaded_after : List ℕ → MachineState → MachineState
+loaded_after before s = record s { wires = record s.wires { before = before } }
+
+-- a letter between two nodes, by the number of its sending
+abbrev pub numbered : ℕ → ℕ → ℕ → Message → Sent
+numbered number sender receiver message =
+    record { number = number; letter = record { sender = sender; receiver = receiver; message = message } }
 
 -- a process whose copies are in these processors, in these roles
 abbrev pub placed : ℕ → Role → ℕ → Role → Pair → Pair

@@ -1,7 +1,8 @@
 ghost use Rattle.std.specs.Prelude.{◌≡◌, ◌∷◌, [], ℕ};
 ghost use Rattle.machine_states.specs.disc_device.specs.mirror.specs.declared.state.DriveState.{DriveState};
 ghost use Rattle.machine_states.specs.disc_device.specs.mirror.specs.declared.state.DriveState.TheVariants.{Failed};
-ghost use Rattle.machine_states.specs.disc_device.specs.mirror.specs.declared.state.DriveState.TheVariants.{Reviving, Working};
+ghost use Rattle.machine_states.specs.disc_device.specs.mirror.specs.declared.state.DriveState.TheVariants.{Reviving};
+ghost use Rattle.machine_states.specs.disc_device.specs.mirror.specs.declared.state.DriveState.TheVariants.{Working};
 ghost use Rattle.machine_states.specs.Drives.{Loses, Rests, Turns, turned};
 ghost use Rattle.machine_states.specs.States.{DiscLoss, Makes, Skips, Would};
 ghost use Rattle.schedule.specs.declared.event.DriveChange.{DriveChange};

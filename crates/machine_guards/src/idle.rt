@@ -1,6 +1,6 @@
 ghost use Rattle.std.specs.Prelude.{◌≡◌, ◌∷◌, [], ℕ, true, false};
 ghost use Rattle.schedule.specs.declared.event.Event.TheVariants.{Deliver, Enter, Fail};
-ghost use Rattle.world_semantics.specs.declared.role.Role.TheVariants.{Acting, Gone, Watching};
+ghost use Rattle.world_semantics.specs.declared.role.Role.TheVariants.{Acting, Blank, Gone, Watching};
 ghost use Rattle.world_semantics.specs.Messages.{Message};
 ghost use Rattle.world_semantics.specs.World.{Pair, World};
 ghost use Rattle.message_wires.specs.Examples.{end_of};
@@ -22,8 +22,7 @@ pub fn who_can_go_on_is_told()
         (end_of discs_at_boot (Enter 0 ∷ Enter 1 ∷ Deliver false 1 ∷ [])).world ≡ false }
 {}
 
-/// A copy waits at a checkpoint that acts and has sent its checkpoint, whichever of the two and of whichever process it
-/// is.
+/// A copy waits for what it has sent to be taken that acts, whichever of the two and of whichever process it is.
 pub fn who_waits_at_a_mark_is_told()
     ensures first { (pair other : Pair) → none_waits (standing Acting true Watching false pair ∷ other ∷ []) ≡ false }
     ensures second { (pair other : Pair) → none_waits (standing Gone true Acting true pair ∷ other ∷ []) ≡ false }
@@ -31,6 +30,7 @@ pub fn who_waits_at_a_mark_is_told()
         (standing Acting false Watching true pair ∷ standing Acting true Watching true pair ∷ []) ≡ false }
     ensures none { (pair : Pair) → none_waits
         (standing Acting false Watching true pair ∷ standing Gone true Acting false pair ∷ []) ≡ true }
+    ensures blank { (pair : Pair) → none_waits (standing Blank true Acting false pair ∷ []) ≡ true }
 {}
 
 /// What is owed counts between nodes that run: not to or from a processor that has stopped, and to a node from itself.

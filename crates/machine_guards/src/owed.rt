@@ -1,4 +1,4 @@
-ghost use Rattle.std.specs.Prelude.{◌≡◌, ◌∷◌, [], pos, false};
+ghost use Rattle.std.specs.Prelude.{◌≡◌, ◌∷◌, [], pos, false, replicate};
 ghost use Rattle.schedule.specs.declared.event.Event.TheVariants.{Deliver, Enter, Fail, Lose, Repeat, Run, Tick};
 ghost use Rattle.tal_tree.specs.declared.site.Site.{Site};
 ghost use Rattle.machine_states.specs.States.{Skips};
@@ -12,12 +12,14 @@ ghost use Rattle.machine_guards.specs.States.{between, discs_at_boot, owing, sen
 
 /// At the beginning nothing was sent. What is sent is numbered from 0 in its order, on the bus and among what is owed.
 pub fn what_is_sent_is_numbered()
-    ensures boot { (site : Site) → (machine_at_boot site).wires ≡ record { count = 0; bus = []; owed = [] } }
+    ensures boot { (site : Site) → (machine_at_boot site).wires
+        ≡ record { count = 0; bus = []; owed = []; before = replicate site.processors 0 } }
     ensures posted { (one other : Letter) → wires_after_posts (one ∷ other ∷ [])
-        (record { count = 0; bus = []; owed = [] }) ≡ record {
+        (record { count = 0; bus = []; owed = []; before = [] }) ≡ record {
           count = 2;
           bus = record { number = 0; letter = one } ∷ record { number = 1; letter = other } ∷ [];
           owed = record { number = 0; letter = one } ∷ record { number = 1; letter = other } ∷ [];
+          before = [];
         } }
 {}
 

@@ -16,7 +16,8 @@ pub record State (Wires : Type 0) : Type 0 where
   pub wires : Wires
   pub drives : List (List DriveState)
 
--- what an event isn't done for: it would stop a second processor, this one; or it would lose a disc, this process
+-- what an event isn't done for: it would stop a processor, this one, in a world that isn't whole; or it would lose a
+-- disc, this process
 pub data Harm : Type 0 where
   SecondStop : (processor : ℕ) → Harm
   DiscLoss : (process : ℕ) → Harm

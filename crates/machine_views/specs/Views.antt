@@ -83,6 +83,7 @@ copy_view process copy = record {
   era = copy.era;
   number = copy.number;
   sent = copy.sent;
+  renewal = copy.renewal;
   awaited = awaited_by copy.core;
   point = point copy.core.state;
   next = next_number_of copy.core.state;
@@ -119,6 +120,7 @@ sector_views process pair = each_at (sector_view process) 0 pair.sectors
 abbrev pub view_of : World → View
 view_of w = record {
   stopped = stopped_in w.stopped;
+  reloads = w.reloads;
   down = marks_in w.marks;
   copies = each_at copy_views 0 w.processes;
   terminals = map terminal_view w.terminals;

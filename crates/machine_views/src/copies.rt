@@ -65,6 +65,7 @@ fn view_of(alloc: Global, process: u8, copy: &NodeCopy) -> Result<CopyView, NoMe
         era: control.era(),
         number: control.number(),
         sent: control.sent(),
+        renewal: control.renewal(),
         awaited: awaited(control),
         point: control.point(),
         next: control.behaviour().next_number(),

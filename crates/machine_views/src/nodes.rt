@@ -27,6 +27,15 @@ pub(crate) fn stopped(alloc: Global, machine: &Machine) -> Result<List<u8>, NoMe
     Ok(processors)
 }
 
+/// How often each processor was loaded again.
+pub(crate) fn reloads(alloc: Global, machine: &Machine) -> Result<List<u8>, NoMemory>
+    ensures { IfOk result (λ times. times ≡ machine.now.state.world.reloads) }
+{
+    let mut times = List::new(alloc);
+    times.extend_from_slice(machine.reloads())?;
+    Ok(times)
+}
+
 /// The marks that stand.
 pub(crate) fn down(alloc: Global, marks: &Downs) -> Result<List<DownView>, NoMemory>
     ensures { IfOk result (λ down. down ≡ marks_in marks.now) }

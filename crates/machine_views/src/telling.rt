@@ -2,7 +2,7 @@ ghost use Rattle.std.specs.Prelude.{◌≡◌, IfOk};
 ghost use Rattle.machine_views.specs.Views.{view_of};
 
 use crate::copies::copies;
-use crate::nodes::{down, stopped, terminals};
+use crate::nodes::{down, reloads, stopped, terminals};
 use crate::sectors::sectors;
 use crate::views::View;
 use gd_words::NoMemory;
@@ -15,12 +15,14 @@ pub fn view(alloc: Global, machine: &Machine) -> Result<View, NoMemory>
 {
     let processes = machine.processes();
     let stopped = stopped(alloc, machine)?;
+    let reloads = reloads(alloc, machine)?;
     let down = down(alloc, machine.marks())?;
     let copies = copies(alloc, processes)?;
     let terminals = terminals(alloc, machine.terminals())?;
     let sectors = sectors(alloc, processes)?;
     Ok(View {
         stopped,
+        reloads,
         down,
         copies,
         terminals,

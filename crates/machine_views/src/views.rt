@@ -3,12 +3,13 @@ use gd_words::{List, Request, Sector};
 use process_semantics::Point;
 use world_semantics::Role;
 
-/// What a machine tells of itself: the processors that have stopped, the marks, both copies of each process, the
-/// terminals in deck order, and the sectors of all discs. The processors rise, and marks, copies and sectors rise by
-/// their first two fields.
+/// What a machine tells of itself: the processors that have stopped, how often each was loaded again, the marks, both
+/// copies of each process, the terminals in deck order, and the sectors of all discs. The processors rise, and marks,
+/// copies and sectors rise by their first two fields.
 #[derive(Drop)]
 pub struct View {
     pub stopped: List<u8>,
+    pub reloads: List<u8>,
     pub down: List<DownView>,
     pub copies: List<CopyView>,
     pub terminals: List<TerminalView>,
@@ -23,10 +24,10 @@ pub struct DownView {
 }
 
 /// A copy of a process in its processor. `number` is that of the last checkpoint sent or applied in its era, and `sent`
-/// says whether that of the CHECKPOINT at which it stands was sent. `awaited` is the request whose reply it awaits.
-/// `next` is the number of what its program does next, in the program's text: at a checkpoint that of the CHECKPOINT
-/// itself. `state` is the image of its process with everything that may be listed: at a checkpoint that of the state
-/// after it. `files` has the number of the next request on each file.
+/// says whether one was sent where it stands. `renewal` says whether it has to send everything that it has. `awaited`
+/// is the request whose reply it awaits. `next` is the number of what its program does next, in the program's text: at
+/// a checkpoint that of the CHECKPOINT itself. `state` is the image of its process with everything that may be listed:
+/// at a checkpoint that of the state after it. `files` has the number of the next request on each file.
 #[derive(Drop)]
 pub struct CopyView {
     pub process: u8,
@@ -35,6 +36,7 @@ pub struct CopyView {
     pub era: u32,
     pub number: u32,
     pub sent: bool,
+    pub renewal: bool,
     pub awaited: Option<Awaited>,
     pub point: Point,
     pub next: u16,

@@ -1,5 +1,5 @@
 -- Worked runs of the adder over whole messages: what is on the bus after each event, and what is owed at the end.
-use Rattle.std.specs.Prelude.{ℕ, pos, List, [], ◌∷◌, ◌++◌, map}
+use Rattle.std.specs.Prelude.{ℕ, pos, false, List, [], ◌∷◌, ◌++◌, map}
 use Rattle.schedule.specs.declared.event.Event.{Event}
 use Rattle.schedule.specs.declared.event.Event.TheVariants as event
 use Rattle.computed_changes.specs.world_semantics.specs.Examples.{adder_for, delivery, run}
@@ -85,3 +85,40 @@ buses_of_takeover =
     (told ∷ []) ∷ [] ∷ [] ∷ (answers 0 ∷ []) ∷ (answers 0 ∷ []) ∷ (answers 0 ∷ []) ∷ (answers 0 ∷ asks 1 ∷ [])
     ∷ (asks 1 ∷ [])
     ∷ (asks 1 ∷ answers 1 ∷ []) ∷ (answers 1 ∷ answers 1 ∷ []) ∷ (answers 1 ∷ []) ∷ [] ∷ []
+
+-- The reload: the request is on the bus when the adder's first processor stops. Both nodes that run mark it: the second
+-- copy takes over, and the node of the terminals sends the request to it. Then the first processor is loaded again
+abbrev pub until_reload : List Event
+until_reload = event.Enter 0 ∷ event.Fail 0 ∷ event.Tick 1 ∷ event.Tick 16 ∷ event.Reload 0 ∷ []
+
+abbrev pub buses_to_reload : List (List Sight)
+buses_to_reload =
+    (asks 0 ∷ []) ∷ (asks 0 ∷ []) ∷ (asks 0 ∷ []) ∷ (asks 0 ∷ asks 1 ∷ []) ∷ (asks 0 ∷ asks 1 ∷ []) ∷ []
+
+-- what the second copy sends to the first one, and that it was taken
+abbrev pub everything : Sight
+everything = record { sender = 1; receiver = 0; sort = Checkpoint }
+
+abbrev pub everything_told : Sight
+everything_told = record { sender = 0; receiver = 1; sort = Taken }
+
+-- the old request is dropped, and the first copy gets everything
+abbrev pub renewal : List Event
+renewal = delivery ∷ run ∷ event.Deliver false 1 ∷ event.Deliver false 1 ∷ run ∷ []
+
+abbrev pub buses_of_renewal : List (List Sight)
+buses_of_renewal =
+    (asks 1 ∷ []) ∷ (asks 1 ∷ everything ∷ []) ∷ (asks 1 ∷ everything_told ∷ []) ∷ (asks 1 ∷ []) ∷ (asks 1 ∷ []) ∷ []
+
+-- then the second processor stops. The first copy takes over in its turn, is asked, and answers, and its reply is
+-- printed
+abbrev pub second_takeover : List Event
+second_takeover =
+    event.Fail 1 ∷ event.Tick 0 ∷ event.Tick 16 ∷ run ∷ run ∷ run ∷ event.Deliver false 1 ∷ run ∷ run ∷ run ∷ run
+    ∷ run ∷ event.Deliver false 1 ∷ []
+
+abbrev pub adder_reloaded : MachineState
+adder_reloaded = end_of adder_at_boot until_reload
+
+abbrev pub adder_renewed : MachineState
+adder_renewed = end_of adder_reloaded renewal

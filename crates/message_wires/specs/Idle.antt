@@ -4,7 +4,7 @@ use Rattle.std.specs.Prelude.{Some, None, is_none}
 use Rattle.std.specs.List.{list_all}
 use Rattle.tal_tree.specs.declared.site.Site.{Site}
 use Rattle.computed_changes.specs.world_semantics.specs.declared.role.Role.{Role}
-use Rattle.computed_changes.specs.world_semantics.specs.declared.role.Role.TheVariants.{Acting, Watching, Gone}
+use Rattle.computed_changes.specs.world_semantics.specs.declared.role.Role.TheVariants.{Acting, Watching, Blank, Gone}
 use Rattle.computed_changes.specs.world_semantics.specs.World.{Copy, Pair, World, terminal_node, is_running, has_noted}
 use Rattle.computed_changes.specs.world_semantics.specs.Running.{run_done}
 use Rattle.computed_changes.specs.Entered.{enter_done}
@@ -24,16 +24,17 @@ none_enters site w = all_from (λ terminal. is_none (enter_done site terminal w)
 abbrev pub none_runs : Site → World → Bool
 none_runs site w = all_from (λ number. is_none (run_done site number w)) 0 (length w.processes)
 
--- whether a copy of this role acts and waits at a checkpoint, its checkpoint sent
+-- whether a copy of this role acts and waits for what it has sent to be taken
 abbrev pub waits_as : Role → Bool → Bool
 waits_as Acting sent = sent
 waits_as Watching sent = false
+waits_as Blank sent = false
 waits_as Gone sent = false
 
 abbrev pub waits_at_mark : Copy → Bool
 waits_at_mark copy = waits_as copy.role copy.sent
 
--- no copy that acts waits at a checkpoint
+-- no copy that acts does
 abbrev pub none_waits : List Pair → Bool
 none_waits processes = list_all (λ pair. not (waits_at_mark pair.first) && not (waits_at_mark pair.second)) processes
 

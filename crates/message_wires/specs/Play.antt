@@ -4,18 +4,19 @@ use Rattle.std.specs.Prelude.{slice_get, Option, Some, None}
 use Rattle.std.specs.List.{list_any}
 use Rattle.tal_tree.specs.declared.site.Site.{Site}
 use Rattle.schedule.specs.declared.event.Event.{Event}
-use Rattle.schedule.specs.declared.event.Event.TheVariants.{Run, Enter, Deliver, Lose, Repeat, Tick, Fail, Drive}
+use Rattle.schedule.specs.declared.event.Event.TheVariants.{Run, Enter, Deliver, Lose, Repeat, Tick, Fail, Reload}
+use Rattle.schedule.specs.declared.event.Event.TheVariants.{Drive}
 use Rattle.computed_changes.specs.world_semantics.specs.World.{boot, is_running, has_noted}
 use Rattle.computed_changes.specs.world_semantics.specs.Running.{Done, run_done}
 use Rattle.computed_changes.specs.Entered.{enter_done}
 use Rattle.computed_changes.specs.Handed.{handed_done}
-use Rattle.computed_changes.specs.Stopped.{stop_done, down_done}
+use Rattle.computed_changes.specs.Stopped.{stop_done, down_done, reload_done}
 use Rattle.letters.specs.Routes.{Letter, letters_of}
 use Rattle.letters.specs.Again.{sent_again}
 use Rattle.machine_states.specs.Drives.{drives_at_boot}
 use Rattle.machine_states.specs.States.{State, Played, Makes, Skips, Would, SecondStop, drive_played}
 use Rattle.message_wires.specs.Wires.{Sent, Wires, wires_at_boot, wires_after_posts, paid, paid_between, without_packet}
-use Rattle.message_wires.specs.Wires.{repeated_packet, wires_again}
+use Rattle.message_wires.specs.Wires.{repeated_packet, wires_again, is_present, wires_after_reload}
 
 -- a state of the machine over whole messages
 abbrev pub MachineState : Type 0
@@ -23,7 +24,12 @@ MachineState = State Wires
 
 abbrev pub machine_at_boot : Site → MachineState
 machine_at_boot site =
-    record { site = site; world = boot site; wires = wires_at_boot; drives = drives_at_boot site }
+    record {
+      site = site;
+      world = boot site;
+      wires = wires_at_boot site.processors;
+      drives = drives_at_boot site;
+    }
 
 -- Changes of the world
 
@@ -49,13 +55,14 @@ state_after_handing packet s =
     after_any (record s { wires = paid packet.number s.wires })
     (handed_done s.site packet.letter.receiver packet.letter.message s.world)
 
--- whether a letter comes in at its receiver: that runs, and hasn't marked the sender
+-- whether a letter comes in at its receiver, if it isn't old: that runs, and hasn't marked the sender
 abbrev pub comes_in : MachineState → Letter → Bool
 comes_in s letter =
     is_running s.world.stopped letter.receiver && not (has_noted s.world.marks letter.receiver letter.sender)
 
 abbrev pub state_after_receiving : Sent → MachineState → MachineState
-state_after_receiving packet s = if comes_in s packet.letter then state_after_handing packet s else s
+state_after_receiving packet s =
+    if is_present s.wires.before packet && comes_in s packet.letter then state_after_handing packet s else s
 
 -- a packet is taken off the bus, and what it carries comes in or is dropped
 abbrev pub deliver_played : ℕ → MachineState → Option Sent → Played Wires
@@ -75,11 +82,21 @@ repeat_played s (Some packet) = Makes (record s { wires = repeated_packet packet
 abbrev pub has_stopped : List Bool → Bool
 has_stopped stopped = list_any (λ one. one) stopped
 
--- a second processor doesn't stop
-abbrev pub fail_played : ℕ → MachineState → Option Done → Played Wires
+abbrev pub stop_played : ℕ → MachineState → Option Done → Played Wires
+stop_played processor s None = Would (SecondStop processor)
+stop_played processor s (Some done) = Makes (after_done s done)
+
+-- a processor that hasn't stopped stops, but not in a world that isn't whole
+abbrev pub fail_played : ℕ → MachineState → Option Bool → Played Wires
+fail_played processor s (Some false) = stop_played processor s (stop_done processor s.world)
+fail_played processor s (Some true) = Skips
 fail_played processor s None = Skips
-fail_played processor s (Some done) =
-    if has_stopped s.world.stopped then Would (SecondStop processor) else Makes (after_done s done)
+
+-- a processor is loaded again: nothing is sent then, and what was sent from it or to it before comes no more
+abbrev pub reload_played : ℕ → MachineState → Option Done → Played Wires
+reload_played processor s None = Skips
+reload_played processor s (Some done) =
+    Makes (record s { world = done.world; wires = wires_after_reload processor s.wires })
 
 -- the state after a node marked a processor: what was owed between both is so no more, and what the mark sends and
 -- sends again is posted
@@ -126,5 +143,6 @@ play s (Deliver y k) = deliver_played k s (packet_at s y k)
 play s (Lose y k) = lose_played k s (packet_at s y k)
 play s (Repeat y k) = repeat_played s (packet_at s y k)
 play s (Tick node) = tick_played node s
-play s (Fail processor) = fail_played processor s (stop_done processor s.world)
+play s (Fail processor) = fail_played processor s (slice_get s.world.stopped processor)
+play s (Reload processor) = reload_played processor s (reload_done s.site processor s.world)
 play s (Drive event) = drive_played event s

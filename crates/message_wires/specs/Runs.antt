@@ -22,6 +22,6 @@ pub data IsPlayed (site : Site) : List Event → MachineState → Type 0 where
 abbrev pub letters_in : List Sent → List Letter
 letters_in all = map (λ sent. sent.letter) all
 
--- the post of a state, where these letters were ever sent
+-- the post of a state, where these letters were sent and may come
 abbrev pub post_of : MachineState → List Letter → Post
 post_of s sent = record { world = s.world; owed = letters_in s.wires.owed; sent = sent }

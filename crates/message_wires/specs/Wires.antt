@@ -2,8 +2,11 @@
 -- owed. That a message stays with its sender until it was handed over, and is put on the bus again, is Bartlett's retry
 -- by the message system; the form for whole messages is our own.
 use Rattle.std.specs.Prelude.{ℕ, ◌+◌, ◌==◌, ◌&&◌, Bool, not, if◌then◌else◌, nat_lt, List, [], ◌∷◌, ◌++◌, length}
+use Rattle.std.specs.Prelude.{nat_le, replicate, slice_get, slice_set}
+use Rattle.std.specs.Option.{unwrap_or}
 use Rattle.std.specs.List.{filter, list_any, remove}
 use Rattle.computed_changes.specs.world_semantics.specs.World.{is_running}
+use Rattle.letters.specs.Posts.{is_from_or_to}
 use Rattle.letters.specs.Routes.{Letter, is_between}
 
 -- a letter that was sent, with the number of its sending: a message that is sent again is a new sending
@@ -11,16 +14,17 @@ pub record Sent : Type 0 where
   pub number : ℕ
   pub letter : Letter
 
--- how many letters were sent; the packets on the bus, in order; and the letters that are owed, the oldest first: those
--- that weren't handed over
+-- how many letters were sent; the packets on the bus, in order; the letters that are owed, the oldest first: those
+-- that weren't handed over; and of each processor how many letters were sent before it was loaded last
 pub record Wires : Type 0 where
   pub count : ℕ
   pub bus : List Sent
   pub owed : List Sent
+  pub before : List ℕ
 
--- at the beginning nothing was sent
-abbrev pub wires_at_boot : Wires
-wires_at_boot = record { count = 0; bus = []; owed = [] }
+-- at the beginning nothing was sent, with so many processors
+abbrev pub wires_at_boot : ℕ → Wires
+wires_at_boot processors = record { count = 0; bus = []; owed = []; before = replicate processors 0 }
 
 -- a bus has room for 4,096 packets
 abbrev pub has_room : List Sent → Bool
@@ -36,6 +40,7 @@ wires_after_post letter wires = record {
   count = wires.count + 1;
   bus = put_on (record { number = wires.count; letter = letter }) wires.bus;
   owed = wires.owed ++ record { number = wires.count; letter = letter } ∷ [];
+  before = wires.before;
 }
 
 abbrev pub wires_after_posts : List Letter → Wires → Wires
@@ -58,6 +63,24 @@ paid number wires = record wires { owed = without_number number wires.owed }
 abbrev pub paid_between : ℕ → ℕ → Wires → Wires
 paid_between one other wires =
     record wires { owed = filter (λ sent. not (is_between one other sent.letter)) wires.owed }
+
+-- how many letters were sent before a node was loaded last
+abbrev pub sent_before : List ℕ → ℕ → ℕ
+sent_before before node = unwrap_or (slice_get before node) 0
+
+-- whether a letter was sent since its sender and its receiver were loaded last
+abbrev pub is_present : List ℕ → Sent → Bool
+is_present before one =
+    nat_le (sent_before before one.letter.sender) one.number
+    && nat_le (sent_before before one.letter.receiver) one.number
+
+-- a processor is loaded again: what is from it or to it is owed no more, and what of that is on the bus counts as old
+abbrev pub wires_after_reload : ℕ → Wires → Wires
+wires_after_reload processor wires =
+    record wires {
+      owed = filter (λ sent. not (is_from_or_to processor sent.letter)) wires.owed;
+      before = slice_set wires.before processor wires.count;
+    }
 
 -- the packet at a position is taken off the bus
 abbrev pub without_packet : ℕ → Wires → Wires

@@ -4,6 +4,7 @@ ghost use Rattle.schedule.specs.declared.event.Event.TheVariants as event;
 ghost use Rattle.tal_tree.specs.declared.act.Act.TheVariants as act;
 ghost use Rattle.tal_tree.specs.declared.act.Shown.TheVariants.{Reply};
 ghost use Rattle.computed_changes.specs.world_semantics.specs.Examples.{delivery, reply, run};
+ghost use Rattle.computed_changes.specs.world_semantics.specs.declared.role.Role.TheVariants.{Watching};
 ghost use Rattle.machine_states.specs.States.{Skips, Would, SecondStop};
 ghost use Rattle.message_wires.specs.Idle.{is_idle};
 ghost use Rattle.message_wires.specs.Play.{play};
@@ -11,6 +12,8 @@ ghost use Rattle.message_wires.specs.Tiers.{after_rounds, before_stop, in_hand, 
 ghost use Rattle.message_wires.specs.Examples.{adder_at_boot, after_checkpoint, answers, asks, buses_from};
 ghost use Rattle.message_wires.specs.Examples.{buses_of_takeover, buses_to_checkpoint, checkpoint, end_of, sight, told};
 ghost use Rattle.message_wires.specs.Examples.{until_dropped, up_to_checkpoint};
+ghost use Rattle.message_wires.specs.Examples.{adder_reloaded, adder_renewed, buses_of_renewal, buses_to_reload};
+ghost use Rattle.message_wires.specs.Examples.{renewal, second_takeover, until_reload};
 
 /// A takeover of the adder, event for event with the packets on the bus: the reply that the marked node sent is
 /// dropped, and the reply is printed once.
@@ -76,4 +79,32 @@ pub fn a_stopped_processor_does_nothing()
         ≡ (asks 0 ∷ []) ∷ (asks 0 ∷ []) ∷ [] ∷ [] ∷ (asks 1 ∷ []) ∷ [] }
     ensures ticks { play (end_of adder_at_boot (event.Fail 0 ∷ [])) (event.Tick 0) ≡ Skips }
     ensures stops { play (end_of adder_at_boot (event.Fail 0 ∷ [])) (event.Fail 1) ≡ Would (SecondStop 1) }
+{}
+
+/// A packet that is on the bus when its receiver is loaded again is dropped where it comes, and nothing waits there.
+/// The other copy sends everything, and is told that it was taken.
+pub fn an_old_packet_is_dropped()
+    ensures before { buses_from adder_at_boot until_reload ≡ buses_to_reload }
+    ensures after { buses_from adder_reloaded renewal ≡ buses_of_renewal }
+    ensures waits { map (λ pair. pair.first.waiting) adder_renewed.world.processes ≡ [] ∷ [] }
+    ensures roles { map (λ pair. pair.first.role) adder_renewed.world.processes ≡ Watching ∷ [] }
+    ensures owed { map sight adder_renewed.wires.owed ≡ asks 1 ∷ [] }
+{}
+
+/// Until the copy that was loaded again has everything no other processor stops: the run would end there. Then one may,
+/// and the copy takes over in its turn: the reply is printed once.
+pub fn an_adder_is_taken_over_after_a_reload()
+    ensures blank { play adder_reloaded (event.Fail 1) ≡ Would (SecondStop 1) }
+    ensures on_its_way { play (end_of adder_reloaded (delivery ∷ run ∷ [])) (event.Fail 1) ≡ Would (SecondStop 1) }
+    ensures stops { (end_of adder_renewed (event.Fail 1 ∷ [])).world.stopped ≡ false ∷ true ∷ [] }
+    ensures shown { (end_of adder_renewed second_takeover).world.shown ≡ reply 0 (pos 5) ∷ [] }
+    ensures owed { (end_of adder_renewed second_takeover).wires.owed ≡ [] }
+{}
+
+/// A processor that runs isn't loaded again, nor is one that a node which runs hasn't marked yet.
+pub fn only_a_marked_processor_is_loaded_again()
+    ensures runs { play adder_at_boot (event.Reload 0) ≡ Skips }
+    ensures unmarked { play (end_of adder_at_boot (event.Fail 0 ∷ event.Tick 1 ∷ [])) (event.Reload 0) ≡ Skips }
+    ensures again { play adder_reloaded (event.Reload 0) ≡ Skips }
+    ensures nowhere { play adder_at_boot (event.Reload 2) ≡ Skips }
 {}

@@ -1,65 +1,111 @@
--- What is played leaves the site as it was, and stops one processor at most.
-use Rattle.std.proofs.Common.{◌≡◌, ℕ, zero, suc, ◌+◌, Bool, true, false, if◌then◌else◌, List, [], ◌∷◌, length}
-use Rattle.std.proofs.Common.{replicate, Option, Some, None, slice_get, slice_set, refl, sym, subst, ◌∙◌}
+-- What is played leaves the site as it was, stops a processor only where none has stopped, and starts those alone that
+-- are loaded again.
+use Rattle.std.proofs.Common.{◌≡◌, ℕ, zero, suc, ◌+◌, ◌&&◌, Bool, true, false, not, if◌then◌else◌, List, [], ◌∷◌}
+use Rattle.std.proofs.Common.{◌++◌, ap}
+use Rattle.std.proofs.Common.{length, nat_lt, replicate, Option, Some, None, slice_get, slice_set, refl, sym, subst}
+use Rattle.std.proofs.Common.{◌∙◌}
+use Rattle.std.proofs.lemmas.List.{length-replicate, length-set}
+use Rattle.std.specs.List.{list_any}
 use Rattle.tal_tree.specs.declared.site.Site.{Site}
 use Rattle.schedule.specs.declared.event.Event.{Event}
-use Rattle.schedule.specs.declared.event.Event.TheVariants.{Run, Enter, Deliver, Lose, Repeat, Tick, Fail, Drive}
+use Rattle.schedule.specs.declared.event.Event.TheVariants.{Run, Enter, Deliver, Lose, Repeat, Tick, Fail, Reload}
+use Rattle.schedule.specs.declared.event.Event.TheVariants.{Drive}
 use Rattle.world_semantics.specs.Running.{Done, run_done}
-use Rattle.world_semantics.specs.World.{boot, is_running}
+use Rattle.world_semantics.specs.World.{World, boot, is_noted_by_all, is_pair_of, is_running, is_whole}
 use Rattle.world_semantics.proofs.Lists.{Changed, is_new, is_same, changed}
+use Rattle.world_semantics.proofs.Roles.{both-true}
+use Rattle.world_semantics.specs.Rules.{most_reloads}
 use Rattle.computed_changes.specs.Entered.{enter_done}
-use Rattle.computed_changes.specs.Stopped.{down_done, stopped_world, stop_where, stop_done}
+use Rattle.computed_changes.specs.Stopped.{down_done, stop_if, reload_if, reload_counted, reload_where}
+use Rattle.computed_changes.specs.Stopped.{reload_done}
 use Rattle.letters.specs.Idle.{OneStops}
 use Rattle.machine_states.specs.States.{Played, Makes, Skips, Would, SecondStop, DiscLoss, Harm}
-use Rattle.message_wires.specs.Wires.{Sent, Wires, paid, without_packet}
-use Rattle.message_wires.specs.Play.{MachineState, after_done, made_by, after_any, state_after_handing, comes_in}
+use Rattle.message_wires.specs.Wires.{Sent, Wires, is_present, paid, paid_between, without_packet, wires_after_post}
+use Rattle.message_wires.specs.Wires.{wires_after_posts}
+use Rattle.letters.specs.Again.{sent_again}
+use Rattle.letters.specs.Routes.{Letter, letters_of}
+use Rattle.message_wires.specs.Play.{MachineState, made_by, after_any, state_after_handing, comes_in, reload_played}
 use Rattle.message_wires.specs.Play.{deliver_played, lose_played, repeat_played, has_stopped, fail_played, noted_by}
-use Rattle.message_wires.specs.Play.{notes_from, state_after_tick, tick_played, packet_at, play}
+use Rattle.message_wires.specs.Play.{notes_from, state_after_tick, stop_played, tick_played, packet_at, play}
 use Rattle.message_wires.specs.Runs.{IsPlayed, played_none, played_more, skipped}
 use Rattle.message_wires_laws.proofs.Stopping.{StopsNone, run-none, enter-none, handed-none, mark-none}
 use Rattle.machine_states.proofs.Turning.{drive-cases}
 
--- what an event makes of a state: no processor stops; or the first one that stops does
+-- what is sent leaves when processors were loaded
+posts-before : (letters : List Letter) (wires : Wires) → (wires_after_posts letters wires).before ≡ wires.before
+posts-before [] wires = refl
+posts-before (letter ∷ letters) wires = posts-before letters (wires_after_post letter wires)
+
+-- what an event makes of a state: no processor stops or starts; or one stops in a whole world; or one is loaded again
 pub data Goes (s : MachineState) : Played Wires → Type 0 where
   skips : Goes s Skips
   would_harm : (harm : Harm) → Goes s (Would harm)
-  stops_none : {next : MachineState} → next.site ≡ s.site → next.world.stopped ≡ s.world.stopped → Goes s (Makes next)
-  stops_one : {next : MachineState} (processor : ℕ) → next.site ≡ s.site → has_stopped s.world.stopped ≡ false
-      → next.world.stopped ≡ slice_set s.world.stopped processor true
+  stops_none : {next : MachineState} → next.site ≡ s.site → next.world.stopped ≡ s.world.stopped
+      → next.wires.before ≡ s.wires.before
+      → Goes s (Makes next)
+  stops_one : {next : MachineState} (processor : ℕ) → next.site ≡ s.site → is_whole s.world ≡ true
+      → next.world.stopped ≡ slice_set s.world.stopped processor true → next.wires.before ≡ s.wires.before
+      → Goes s (Makes next)
+  starts_one : {next : MachineState} (processor : ℕ) → next.site ≡ s.site
+      → next.world.stopped ≡ slice_set s.world.stopped processor false
+      → next.wires.before ≡ slice_set s.wires.before processor s.wires.count
       → Goes s (Makes next)
 
 made-goes : (s : MachineState) (done : Option Done) → StopsNone s.world done → Goes s (made_by s done)
 made-goes s None none = skips
-made-goes s (Some done) none = stops_none refl none
+made-goes s (Some done) none =
+    stops_none refl none (posts-before (letters_of s.site done.world done.sendings) s.wires)
 
 deliver-goes : (k : ℕ) (s : MachineState) (packet : Option Sent) → Goes s (deliver_played k s packet)
 deliver-goes k s None = skips
-deliver-goes k s (Some packet) = by (comes_in (record s { wires = without_packet k s.wires }) packet.letter)
+deliver-goes k s (Some packet) =
+    by (is_present s.wires.before packet && comes_in (record s { wires = without_packet k s.wires }) packet.letter)
   where
-    any : (wires : Wires) (done : Option Done) → StopsNone s.world done
-        → Goes s (Makes (after_any (record s { wires = wires }) done))
-    any wires None none = stops_none refl refl
-    any wires (Some done) none = stops_none refl none
+    any : (done : Option Done) → StopsNone s.world done
+        → Goes s (Makes (after_any (record s { wires = paid packet.number (without_packet k s.wires) }) done))
+    any None none = stops_none refl refl refl
+    any (Some done) none =
+        stops_none refl none
+        (posts-before (letters_of s.site done.world done.sendings) (paid packet.number (without_packet k s.wires)))
 
     by : (test : Bool) → Goes s (Makes (if test then state_after_handing packet
         (record s { wires = without_packet k s.wires }) else record s { wires = without_packet k s.wires }))
-    by true = any (paid packet.number (without_packet k s.wires)) _
-        (handed-none s.site s.world packet.letter.receiver packet.letter.message)
-    by false = stops_none refl refl
+    by true = any _ (handed-none s.site s.world packet.letter.receiver packet.letter.message)
+    by false = stops_none refl refl refl
 
-fail-goes : (processor : ℕ) (s : MachineState) → Goes s (fail_played processor s (stop_done processor s.world))
-fail-goes processor s = by (slice_get s.world.stopped processor)
+fail-goes : (processor : ℕ) (s : MachineState)
+    → Goes s (fail_played processor s (slice_get s.world.stopped processor))
+fail-goes processor s = by (slice_get s.world.stopped processor) refl
   where
-    first : (test : Bool) → has_stopped s.world.stopped ≡ test
-        → Goes s (if test then Would (SecondStop processor) else Makes
-        (after_done s (record { world = stopped_world processor s.world; sendings = [] })))
-    first true e = would_harm (SecondStop processor)
-    first false e = stops_one processor refl e refl
+    first : (whole : Bool) → is_whole s.world ≡ whole
+        → Goes s (stop_played processor s (stop_if processor s.world whole))
+    first true e = stops_one processor refl e refl refl
+    first false e = would_harm (SecondStop processor)
 
-    by : (stopped : Option Bool) → Goes s (fail_played processor s (stop_where processor s.world stopped))
+    by : (stopped : Option Bool) → slice_get s.world.stopped processor ≡ stopped
+        → Goes s (fail_played processor s stopped)
+    by None e = skips
+    by (Some true) e = skips
+    by (Some false) e = rw e (first (is_whole s.world) refl)
+
+reload-goes : (processor : ℕ) (s : MachineState)
+    → Goes s (reload_played processor s (reload_done s.site processor s.world))
+reload-goes processor s = by (slice_get s.world.stopped processor)
+  where
+    may : (times : ℕ) (test : Bool)
+        → Goes s (reload_played processor s (reload_if s.site processor times s.world test))
+    may times true = starts_one processor refl refl refl
+    may times false = skips
+
+    counted : (times : Option ℕ)
+        → Goes s (reload_played processor s (reload_counted s.site processor s.world times))
+    counted None = skips
+    counted (Some times) = may times (is_noted_by_all s.world processor && nat_lt times most_reloads)
+
+    by : (stopped : Option Bool) → Goes s (reload_played processor s (reload_where s.site processor s.world stopped))
     by None = skips
-    by (Some true) = skips
-    by (Some false) = first (has_stopped s.world.stopped) refl
+    by (Some true) = counted (slice_get s.world.reloads processor)
+    by (Some false) = skips
 
 pub marks-none : (node processor more : ℕ) (s : MachineState)
     → ((notes_from node processor more s).site ≡ s.site)
@@ -77,12 +123,29 @@ marks-none node processor (suc more) s =
     by None none rest = rest s
     by (Some done) none rest = let later = rest (noted_by node processor s (Some done)) in (later.0, later.1 ∙ none)
 
+marks-before : (node processor more : ℕ) (s : MachineState)
+    → (notes_from node processor more s).wires.before ≡ s.wires.before
+marks-before node processor zero s = refl
+marks-before node processor (suc more) s =
+    by (down_done node processor s.world) (marks-before node (processor + 1) more)
+  where
+    by : (done : Option Done)
+        → ((s : MachineState) → (notes_from node (processor + 1) more s).wires.before ≡ s.wires.before)
+        → (notes_from node (processor + 1) more (noted_by node processor s done)).wires.before ≡ s.wires.before
+    by None rest = rest s
+    by (Some done) rest =
+        rest (noted_by node processor s (Some done))
+        ∙ posts-before (letters_of s.site done.world
+        (done.sendings ++ sent_again s.site s.world done.world node processor)) (paid_between node processor s.wires)
+
 tick-goes : (node : ℕ) (s : MachineState) → Goes s (tick_played node s)
 tick-goes node s = by (is_running s.world.stopped node)
   where
     by : (test : Bool) → Goes s (if test then Makes
         (state_after_tick node (notes_from node 0 (length s.world.stopped) s)) else Skips)
-    by true = let marked = marks-none node 0 (length s.world.stopped) s in stops_none marked.0 marked.1
+    by true =
+        let marked = marks-none node 0 (length s.world.stopped) s in
+        stops_none marked.0 marked.1 (marks-before node 0 (length s.world.stopped) s)
     by false = skips
 
 pub play-goes : (s : MachineState) (event : Event) → Goes s (play s event)
@@ -93,16 +156,17 @@ play-goes s (Lose y k) = by (packet_at s y k)
   where
     by : (packet : Option Sent) → Goes s (lose_played k s packet)
     by None = skips
-    by (Some packet) = stops_none refl refl
+    by (Some packet) = stops_none refl refl refl
 play-goes s (Repeat y k) = by (packet_at s y k)
   where
     by : (packet : Option Sent) → Goes s (repeat_played s packet)
     by None = skips
-    by (Some packet) = stops_none refl refl
+    by (Some packet) = stops_none refl refl refl
 play-goes s (Tick node) = tick-goes node s
 play-goes s (Fail processor) = fail-goes processor s
+play-goes s (Reload processor) = reload-goes processor s
 play-goes s (Drive event) =
-    drive-cases event s (Goes s) (λ drives. stops_none refl refl) skips (λ process. would_harm (DiscLoss process))
+    drive-cases event s (Goes s) (λ drives. stops_none refl refl refl) skips (λ process. would_harm (DiscLoss process))
 
 -- Runs
 
@@ -119,11 +183,12 @@ played-site {site = site} (played_more {s = s} {next = next} event before e) =
     by : (played : Played Wires) → Goes s played → s.site ≡ site → OfSite played
     by Skips skips was = tt
     by (Would _) (would_harm harm) was = tt
-    by (Makes made) (stops_none same none) was = same ∙ was
-    by (Makes made) (stops_one processor same first one) was = same ∙ was
+    by (Makes made) (stops_none same none before) was = same ∙ was
+    by (Makes made) (stops_one processor same whole one before) was = same ∙ was
+    by (Makes made) (starts_one processor same one before) was = same ∙ was
 played-site (skipped event before e) = played-site before
 
-none-stopped : (stopped : List Bool) (k : ℕ) → has_stopped stopped ≡ false → slice_get stopped k ≡ Some true → ⊥
+pub none-stopped : (stopped : List Bool) (k : ℕ) → has_stopped stopped ≡ false → slice_get stopped k ≡ Some true → ⊥
 none-stopped [] k none at = cc
 none-stopped (true ∷ stopped) k none at = cc
 none-stopped (false ∷ stopped) zero none at = cc
@@ -137,7 +202,26 @@ first-stopped stopped processor one none at = of (changed stopped processor true
     of (is_new here is) = here
     of (is_same other was) = absurd (none-stopped stopped one none was)
 
-none-at-boot : (processors : ℕ) → has_stopped (replicate processors false) ≡ false
+still-stopped : (stopped : List Bool) (processor one : ℕ)
+    → slice_get (slice_set stopped processor false) one ≡ Some true
+    → slice_get stopped one ≡ Some true
+still-stopped stopped processor one at = of (changed stopped processor false one true at)
+  where
+    of : Changed stopped processor false one true → slice_get stopped one ≡ Some true
+    of (is_new here is) = absurd (cc)
+    of (is_same other was) = was
+
+-- none has stopped in a whole world
+pub whole-runs : (w : World) → is_whole w ≡ true → has_stopped w.stopped ≡ false
+whole-runs w whole =
+    not-true (has_stopped w.stopped) (both-true (not (list_any (λ stopped. stopped) w.stopped))
+    (not (list_any (λ pair. not (is_pair_of pair.first.role pair.second.role)) w.processes)) whole).0
+  where
+    not-true : (b : Bool) → not b ≡ true → b ≡ false
+    not-true true e = absurd (cc)
+    not-true false e = refl
+
+pub none-at-boot : (processors : ℕ) → has_stopped (replicate processors false) ≡ false
 none-at-boot zero = refl
 none-at-boot (suc processors) = none-at-boot processors
 
@@ -155,8 +239,36 @@ played-one (played_more {s = s} {next = next} event before e) =
     by : (played : Played Wires) → Goes s played → OneStops s.world → IsOne played
     by Skips skips was = tt
     by (Would _) (would_harm harm) was = tt
-    by (Makes made) (stops_none same none) was = rw none was
-    by (Makes made) (stops_one processor same first one) was =
+    by (Makes made) (stops_none same none before) was = rw none was
+    by (Makes made) (stops_one processor same whole one before) was =
+        let first = whole-runs s.world whole in
         rw one (λ a b at there. sym (first-stopped s.world.stopped processor a first at)
         ∙ first-stopped s.world.stopped processor b first there)
+    by (Makes made) (starts_one processor same one before) was =
+        rw one (λ a b at there. was a b (still-stopped s.world.stopped processor a at)
+        (still-stopped s.world.stopped processor b there))
 played-one (skipped event before e) = played-one before
+
+-- that a processor was loaded again is noted of each one
+pub played-before : {site : Site} {events : List Event} {s : MachineState} → IsPlayed site events s
+    → length s.wires.before ≡ length s.world.stopped
+played-before {site = site} played_none =
+    length-replicate site.processors 0 ∙ sym (length-replicate site.processors false)
+played-before (played_more {s = s} {next = next} event before e) =
+    subst AreNoted e (by (play s event) (play-goes s event) (played-before before))
+  where
+    AreNoted : Played Wires → Type 0
+    AreNoted (Makes next) = length next.wires.before ≡ length next.world.stopped
+    AreNoted Skips = Unit {0}
+    AreNoted (Would harm) = Unit {0}
+
+    by : (played : Played Wires) → Goes s played → length s.wires.before ≡ length s.world.stopped → AreNoted played
+    by Skips skips was = tt
+    by (Would _) (would_harm harm) was = tt
+    by (Makes made) (stops_none same none loads) was = ap length loads ∙ was ∙ sym (ap length none)
+    by (Makes made) (stops_one processor same whole one loads) was =
+        ap length loads ∙ was ∙ sym (length-set s.world.stopped processor true) ∙ sym (ap length one)
+    by (Makes made) (starts_one processor same one loads) was =
+        ap length loads ∙ length-set s.wires.before processor s.wires.count ∙ was
+        ∙ sym (length-set s.world.stopped processor false) ∙ sym (ap length one)
+played-before (skipped event before e) = played-before before

@@ -9,7 +9,7 @@ use Rattle.gd_words.specs.Members.{IsAmong}
 use Rattle.gd_words.proofs.Among.{among-at}
 use Rattle.tal_tree.specs.declared.site.Site.{Site}
 use Rattle.world_semantics.specs.declared.role.Role.{Role}
-use Rattle.world_semantics.specs.declared.role.Role.TheVariants.{Acting, Watching, Gone}
+use Rattle.world_semantics.specs.declared.role.Role.TheVariants.{Acting, Watching, Blank, Gone}
 use Rattle.world_semantics.specs.declared.which.Which.{Which}
 use Rattle.world_semantics.specs.declared.which.Which.TheVariants.{First, Second}
 use Rattle.world_semantics.specs.Follows.{IsIdleFor}
@@ -83,6 +83,7 @@ acting-rests : (role : Role) (sent : Bool) → role ≡ Acting → not (waits_as
 acting-rests Acting true acts rests = absurd (cc)
 acting-rests Acting false acts rests = refl
 acting-rests Watching sent acts rests = absurd (cc)
+acting-rests Blank sent acts rests = absurd (cc)
 acting-rests Gone sent acts rests = absurd (cc)
 
 copy-rests : (k : Which) (pair : Pair) → (copy_of k pair).role ≡ Acting
@@ -96,6 +97,7 @@ copy-rests Second pair acts rest =
 rests-acting : (role : Role) (sent : Bool) → (role ≡ Acting → sent ≡ false) → not (waits_as role sent) ≡ true
 rests-acting Acting sent rests = ap not (rests refl)
 rests-acting Watching sent rests = refl
+rests-acting Blank sent rests = refl
 rests-acting Gone sent rests = refl
 
 not-both : (a b : Bool) → a ≡ true → b ≡ true → not (a && b) ≡ true → ⊥

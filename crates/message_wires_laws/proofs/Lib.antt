@@ -1,3 +1,4 @@
+pub mod Calm
 pub mod Going
 pub mod Idle
 pub mod Marks
@@ -7,3 +8,4 @@ pub mod Runs
 pub mod Stopping
 pub mod Ticks
 pub mod Tidy
+pub mod Whole

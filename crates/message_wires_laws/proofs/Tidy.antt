@@ -1,35 +1,46 @@
 -- What is on the wires stays tidy.
-use Rattle.std.proofs.Common.{◌≡◌, ◌<◌, ◌⊎◌, inl, inr, ℕ, zero, suc, Bool, true, false, not, if◌then◌else◌, List, []}
-use Rattle.std.proofs.Common.{◌∷◌, ◌++◌, refl, ap, sym, ◌∙◌, subst, arith}
+use Rattle.std.proofs.Common.{◌≡◌, ◌<◌, ◌≤◌, ◌⊎◌, inl, inr, ℕ, zero, suc, ◌==◌, ◌||◌, nat_le, Bool, true, false, not}
+use Rattle.std.proofs.Common.{if◌then◌else◌, List, [], ◌∷◌, ◌++◌, length, slice_set, refl, ap, sym, ◌∙◌, subst, arith}
 use Rattle.std.specs.List.{filter, remove}
-use Rattle.std.proofs.lemmas.Bool.{eqb-true}
+use Rattle.std.specs.Cmp.Derive.{both_true}
+use Rattle.std.proofs.lemmas.Bool.{eqb-true, leb-true, le-leb}
 use Rattle.std.proofs.lemmas.List.{map-append, append-nil, append_assoc}
 use Rattle.gd_words.specs.Members.{IsAmong}
 use Rattle.gd_words.proofs.Among.{among-either}
 use Rattle.world_semantics.proofs.Members.{among-filter}
-use Rattle.letters.specs.Routes.{Letter, is_between}
-use Rattle.letters.specs.Posts.{without_those_between, IsTaken, takes_first, takes_later}
+use Rattle.world_semantics.proofs.Roles.{both-true}
+use Rattle.letters.specs.Routes.{Letter}
+use Rattle.letters.specs.Posts.{IsTaken, is_from_or_to, takes_first, takes_later, without_those_of}
+use Rattle.letters.proofs.Owed.{filter-among}
 use Rattle.message_wires.specs.Wires.{Sent, Wires, has_room, put_on, wires_after_post, wires_after_posts, is_of}
 use Rattle.message_wires.specs.Wires.{without_number, paid, paid_between, without_packet, repeated_packet, is_due}
-use Rattle.message_wires.specs.Wires.{put_again, wires_again}
+use Rattle.message_wires.specs.Wires.{put_again, wires_again, is_present, sent_before, wires_after_reload}
 use Rattle.message_wires.specs.Runs.{letters_in}
 use Rattle.message_wires_laws.specs.Carried.{IsOn, AreTidy}
 
 -- wires with fewer things on them
-pub fewer-tidy : {wires next : Wires} {sent : List Letter} → next.count ≡ wires.count
+pub fewer-tidy : {wires next : Wires} {sent : List Letter} → next.count ≡ wires.count → next.before ≡ wires.before
     → ((one : Sent) → IsOn one next → IsOn one wires) → AreTidy wires sent
     → AreTidy next sent
-fewer-tidy same from tidy = record {
+fewer-tidy {sent = sent} same loads from tidy = record {
   given = λ one on. subst (λ n. one.number < n) (sym same) (tidy.given one (from one on));
   alike = λ one other on there e. tidy.alike one other (from one on) (from other there) e;
-  known = λ one on. tidy.known one (from one on);
+  loaded = λ node.
+      (let was = tidy.loaded node in
+      let before = ap (λ b. sent_before b node) loads in
+      omega (arith, was, before, same));
+  known = λ one on present. tidy.known one (from one on) (ap (λ b. is_present b one) (sym loads) ∙ present);
 }
 
 -- more letters were sent
 pub more-tidy : {wires : Wires} {sent more : List Letter}
     → ((letter : Letter) → IsAmong letter sent → IsAmong letter more) → AreTidy wires sent → AreTidy wires more
-more-tidy up tidy =
-    record { given = tidy.given; alike = tidy.alike; known = λ one on. up one.letter (tidy.known one on) }
+more-tidy up tidy = record {
+  given = tidy.given;
+  alike = tidy.alike;
+  loaded = tidy.loaded;
+  known = λ one on present. up one.letter (tidy.known one on present);
+}
 
 -- Buses
 
@@ -50,20 +61,24 @@ among-remove one (packet ∷ bus) zero among = inr among
 among-remove one (packet ∷ bus) (suc k) (inl same) = inl same
 among-remove one (packet ∷ bus) (suc k) (inr among) = inr (among-remove one bus k among)
 
+pub without-on : (k : ℕ) (wires : Wires) (one : Sent) → IsOn one (without_packet k wires) → IsOn one wires
+without-on k wires one (inl there) = inl (among-remove one wires.bus k there)
+without-on k wires one (inr owed) = inr owed
+
 pub without-tidy : (k : ℕ) {wires : Wires} {sent : List Letter} → AreTidy wires sent
     → AreTidy (without_packet k wires) sent
-without-tidy k {wires = wires} tidy =
-    fewer-tidy refl (λ one on. elim on [ inl there ↦ inl (among-remove one wires.bus k there) | inr owed ↦ inr owed ])
-    tidy
+without-tidy k {wires = wires} tidy = fewer-tidy refl refl (without-on k wires) tidy
+
+pub repeated-on : (packet : Sent) (wires : Wires) → IsAmong packet wires.bus → (one : Sent)
+    → IsOn one (repeated_packet packet wires) → IsOn one wires
+repeated-on packet wires among one (inl there) =
+    elim (on-bus packet one wires.bus there)
+    [ inl before ↦ inl before | inr same ↦ inl (subst (λ (x : Sent). IsAmong x wires.bus) (sym same) among) ]
+repeated-on packet wires among one (inr owed) = inr owed
 
 pub repeated-tidy : (packet : Sent) {wires : Wires} {sent : List Letter} → IsAmong packet wires.bus
     → AreTidy wires sent → AreTidy (repeated_packet packet wires) sent
-repeated-tidy packet {wires = wires} among tidy =
-    fewer-tidy refl (λ one on. elim on [
-      | inl there ↦ elim (on-bus packet one wires.bus there)
-          [ inl before ↦ inl before | inr same ↦ inl (subst (λ (x : Sent). IsAmong x wires.bus) (sym same) among) ]
-      | inr owed ↦ inr owed
-    ]) tidy
+repeated-tidy packet {wires = wires} among tidy = fewer-tidy refl refl (repeated-on packet wires among) tidy
 
 -- Putting again
 
@@ -84,14 +99,14 @@ again-from stopped node (first ∷ rest) bus one among =
       | inr later ↦ inr (inr later)
     ]
 
+pub again-on : (stopped : List Bool) (node : ℕ) (wires : Wires) (one : Sent)
+    → IsOn one (wires_again stopped node wires) → IsOn one wires
+again-on stopped node wires one (inl there) = again-from stopped node wires.owed wires.bus one there
+again-on stopped node wires one (inr owed) = inr owed
+
 pub again-tidy : (stopped : List Bool) (node : ℕ) {wires : Wires} {sent : List Letter} → AreTidy wires sent
     → AreTidy (wires_again stopped node wires) sent
-again-tidy stopped node {wires = wires} tidy =
-    fewer-tidy refl (λ one on. elim on [
-      | inl there ↦ again-from stopped node wires.owed wires.bus one there
-      | inr owed
-          ↦ inr owed
-    ]) tidy
+again-tidy stopped node {wires = wires} tidy = fewer-tidy refl refl (again-on stopped node wires) tidy
 
 -- Paying
 
@@ -106,23 +121,22 @@ among-without number (first ∷ rest) one among = by (is_of number first) (among
     by false up (inl same) = inl same
     by false up (inr among) = inr (up among)
 
+pub paid-on : (number : ℕ) (wires : Wires) (one : Sent) → IsOn one (paid number wires) → IsOn one wires
+paid-on number wires one (inl there) = inl there
+paid-on number wires one (inr owed) = inr (among-without number wires.owed one owed)
+
 pub paid-tidy : (number : ℕ) {wires : Wires} {sent : List Letter} → AreTidy wires sent
     → AreTidy (paid number wires) sent
-paid-tidy number {wires = wires} tidy =
-    fewer-tidy refl (λ one on. elim on [
-      | inl there ↦ inl there
-      | inr owed ↦ inr
-          (among-without number wires.owed one owed)
-    ]) tidy
+paid-tidy number {wires = wires} tidy = fewer-tidy refl refl (paid-on number wires) tidy
+
+pub between-on : (node processor : ℕ) (wires : Wires) (one : Sent) → IsOn one (paid_between node processor wires)
+    → IsOn one wires
+between-on node processor wires one (inl there) = inl there
+between-on node processor wires one (inr owed) = inr (among-filter one _ wires.owed owed).0
 
 pub between-tidy : (node processor : ℕ) {wires : Wires} {sent : List Letter} → AreTidy wires sent
     → AreTidy (paid_between node processor wires) sent
-between-tidy node processor {wires = wires} tidy =
-    fewer-tidy refl (λ one on. elim on [
-      | inl there ↦ inl there
-      | inr owed ↦ inr
-          (among-filter one _ wires.owed owed).0
-    ]) tidy
+between-tidy node processor {wires = wires} tidy = fewer-tidy refl refl (between-on node processor wires) tidy
 
 -- a letter of this number was owed, or nothing of this number was
 pub data Pays (number : ℕ) (owed : List Sent) : Type 0 where
@@ -149,23 +163,117 @@ pays number (first ∷ rest) = by (is_of number first) refl (pays number rest)
         (subst (λ (xs : List Sent). IsTaken first.letter (letters_in (first ∷ rest)) (letters_in xs)) whole takes_first)
     by false e rest_pays = later e rest_pays
 
--- what is owed between others
-pub between-letters : (node processor : ℕ) (owed : List Sent)
-    → letters_in (filter (λ (one : Sent). not (is_between node processor one.letter)) owed)
-    ≡ without_those_between node processor (letters_in owed)
-between-letters node processor [] = refl
-between-letters node processor (first ∷ rest) =
-    by (is_between node processor first.letter) refl (between-letters node processor rest)
+-- the letters of what is owed that aren't of a sort
+pub other-letters : (test : Letter → Bool) (owed : List Sent)
+    → letters_in (filter (λ (one : Sent). not (test one.letter)) owed)
+    ≡ filter (λ (letter : Letter). not (test letter)) (letters_in owed)
+other-letters test [] = refl
+other-letters test (first ∷ rest) = by (test first.letter) refl (other-letters test rest)
   where
     Same : List Sent → Type 0
-    Same owed = letters_in (filter (λ (one : Sent). not (is_between node processor one.letter)) owed)
-        ≡ without_those_between node processor (letters_in owed)
+    Same owed = letters_in (filter (λ (one : Sent). not (test one.letter)) owed)
+        ≡ filter (λ (letter : Letter). not (test letter)) (letters_in owed)
 
-    by : (test : Bool) → is_between node processor first.letter ≡ test → Same rest → Same (first ∷ rest)
+    by : (is : Bool) → test first.letter ≡ is → Same rest → Same (first ∷ rest)
     by true e same = rw e same
     by false e same = rw e (ap (λ (xs : List Letter). first.letter ∷ xs) same)
 
+-- Reloads
+
+-- that a processor was loaded now changes what is noted of that one alone
+set-before : (before : List ℕ) (processor count node : ℕ)
+    → (sent_before (slice_set before processor count) node ≡ count)
+    ⊎ (sent_before (slice_set before processor count) node ≡ sent_before before node)
+set-before [] processor count node = inr refl
+set-before (x ∷ before) zero count zero = inl refl
+set-before (x ∷ before) zero count (suc node) = inr refl
+set-before (x ∷ before) (suc processor) count zero = inr refl
+set-before (x ∷ before) (suc processor) count (suc node) = set-before before processor count node
+
+set-here : (before : List ℕ) (processor count : ℕ) → processor < length before
+    → sent_before (slice_set before processor count) processor ≡ count
+set-here [] processor count low = absurd (omega (arith, low))
+set-here (x ∷ before) zero count low = refl
+set-here (x ∷ before) (suc processor) count low = set-here before processor count (omega (arith, low))
+
+pub reloaded-on : (processor : ℕ) (wires : Wires) (one : Sent) → IsOn one (wires_after_reload processor wires)
+    → IsOn one wires
+reloaded-on processor wires one (inl there) = inl there
+reloaded-on processor wires one (inr owed) = inr (among-filter one _ wires.owed owed).0
+
+module _ (processor : ℕ) (wires : Wires) (low : processor < length wires.before) where
+  -- of which processor a letter is, by the tests of its two nodes
+  neither : (one two : Bool) → (one ≡ true → ⊥) → (two ≡ true → ⊥) → not (one || two) ≡ true
+  neither true two first second = absurd (first refl)
+  neither false true first second = absurd (second refl)
+  neither false false first second = refl
+
+  -- a letter that isn't old after the processor was loaded is of other nodes
+  of-others : (node number : ℕ) → number < wires.count
+      → sent_before (slice_set wires.before processor wires.count) node ≤ number
+      → (node == processor) ≡ true → ⊥
+  of-others node number given young here =
+      let last = set-here wires.before processor wires.count low in
+      let same = ap (sent_before (slice_set wires.before processor wires.count)) (eqb-true node processor here) in
+      omega (arith, given, young, last, same)
+
+  pub reloaded-tidy : {sent : List Letter} → AreTidy wires sent
+      → AreTidy (wires_after_reload processor wires) (without_those_of processor sent)
+  reloaded-tidy {sent = sent} tidy = record {
+    given = λ one on. tidy.given one (reloaded-on processor wires one on);
+    alike = λ one other on there e.
+        tidy.alike one other (reloaded-on processor wires one on) (reloaded-on processor wires other there) e;
+    loaded = λ node.
+        (let was = tidy.loaded node in
+        elim (set-before wires.before processor wires.count node)
+        [ inl now ↦ omega (arith, now) | inr before ↦ omega (arith, before, was) ]);
+    known = λ one on present. known one (reloaded-on processor wires one on) present;
+  }
+    where
+      rises : (node number : ℕ) → sent_before (slice_set wires.before processor wires.count) node ≤ number
+          → number < wires.count → nat_le (sent_before wires.before node) number ≡ true
+      rises node number young given = le-leb _ _
+          (elim (set-before wires.before processor wires.count node)
+          [ inl now ↦ absurd (omega (arith, now, young, given)) | inr before ↦ omega (arith, before, young) ])
+
+      known : (one : Sent) → IsOn one wires → is_present (slice_set wires.before processor wires.count) one ≡ true
+          → IsAmong one.letter (without_those_of processor sent)
+      known one on present =
+          let given = tidy.given one on in
+          let both = both-true (nat_le (sent_before (slice_set wires.before processor wires.count) one.letter.sender)
+          one.number) _ present in
+          let sends = leb-true _ _ both.0 in
+          let receives = leb-true _ _ both.1 in
+          filter-among one.letter (λ (letter : Letter). not (is_from_or_to processor letter)) sent
+          (tidy.known one on (both_true (rises one.letter.sender one.number sends given)
+          (rises one.letter.receiver one.number receives given)))
+          (neither (one.letter.sender == processor) (one.letter.receiver == processor)
+          (of-others one.letter.sender one.number given sends)
+          (of-others one.letter.receiver one.number given receives))
+
 -- Posting
+
+-- a letter with the number of its sending
+abbrev numbered : Letter → Wires → Sent
+numbered letter wires = record { number = wires.count; letter = letter }
+
+post-on : (letter : Letter) (wires : Wires) (one : Sent) → IsOn one (wires_after_post letter wires)
+    → IsOn one wires ⊎ (one ≡ numbered letter wires)
+post-on letter wires one (inl there) =
+    elim (on-bus (numbered letter wires) one wires.bus there) [ inl before ↦ inl (inl before) | inr same ↦ inr same ]
+post-on letter wires one (inr owed) = elim (among-either one wires.owed (numbered letter wires ∷ []) owed) [
+  | inl before ↦ inl (inr before)
+  | inr now ↦ elim now [ inl same ↦ inr same | inr none ↦ absurd none ]
+]
+
+pub posted-among : (letters : List Letter) (wires : Wires) (one : Sent) → IsOn one (wires_after_posts letters wires)
+    → IsOn one wires ⊎ IsAmong one.letter letters
+posted-among [] wires one on = inl on
+posted-among (letter ∷ letters) wires one on = elim (posted-among letters (wires_after_post letter wires) one on) [
+  | inl there ↦ elim (post-on letter wires one there)
+      [ inl before ↦ inl before | inr same ↦ inr (inl (ap (λ (x : Sent). x.letter) same)) ]
+  | inr among ↦ inr (inr among)
+]
 
 post-tidy : (letter : Letter) {wires : Wires} {sent : List Letter} → IsAmong letter sent → AreTidy wires sent
     → AreTidy (wires_after_post letter wires) sent
@@ -186,22 +294,15 @@ post-tidy letter {wires = wires} {sent = sent} among tidy = record {
       | inr other_new ↦ ap (λ (x : Sent). x.letter) (new ∙ sym other_new)
     ]
   ];
-  known = λ one on. elim (from one on) [
-    | inl before ↦ tidy.known one before
+  loaded = λ node. (let was = tidy.loaded node in omega (arith, was));
+  known = λ one on present. elim (from one on) [
+    | inl before ↦ tidy.known one before present
     | inr new ↦ subst (λ (x : Letter). IsAmong x sent) (sym (ap (λ (x : Sent). x.letter) new)) among
   ];
 }
   where
-    newest : Sent
-    newest = record { number = wires.count; letter = letter }
-
-    from : (one : Sent) → IsOn one (wires_after_post letter wires) → IsOn one wires ⊎ (one ≡ newest)
-    from one (inl there) =
-        elim (on-bus newest one wires.bus there) [ inl before ↦ inl (inl before) | inr same ↦ inr same ]
-    from one (inr owed) = elim (among-either one wires.owed (newest ∷ []) owed) [
-      | inl before ↦ inl (inr before)
-      | inr now ↦ elim now [ inl same ↦ inr same | inr none ↦ absurd none ]
-    ]
+    from : (one : Sent) → IsOn one (wires_after_post letter wires) → IsOn one wires ⊎ (one ≡ numbered letter wires)
+    from = post-on letter wires
 
 pub posted-tidy : (letters : List Letter) {wires : Wires} {sent : List Letter}
     → ((letter : Letter) → IsAmong letter letters → IsAmong letter sent) → AreTidy wires sent

@@ -1,11 +1,11 @@
 //! Laws of what is played.
-ghost use Rattle.std.specs.Prelude.{◌≡◌, ◌⊎◌, ◌↔◌, ℕ, ◌<◌, true, false, List, length, slice_get, Some};
+ghost use Rattle.std.specs.Prelude.{◌≡◌, ◌≢◌, ◌⊎◌, ◌↔◌, ℕ, ◌<◌, true, false, List, length, slice_get, Some};
 ghost use Rattle.gd_words.specs.Members.{IsAmong};
 ghost use Rattle.tal_tree.specs.declared.site.Site.{Site};
 ghost use Rattle.schedule.specs.declared.event.Event.{Event};
-ghost use Rattle.schedule.specs.declared.event.Event.TheVariants.{Tick};
+ghost use Rattle.schedule.specs.declared.event.Event.TheVariants.{Fail, Tick};
 ghost use Rattle.world_semantics.specs.Follows.{IsRun};
-ghost use Rattle.world_semantics.specs.World.{is_running, has_noted};
+ghost use Rattle.world_semantics.specs.World.{is_running, is_whole, has_noted};
 ghost use Rattle.computed_changes.specs.Laws.{HasCopiesApart, IsSent};
 ghost use Rattle.letter_laws.specs.takeover_laws.specs.Fit.{IsFit};
 ghost use Rattle.letters.specs.Idle.{IsIdle, OneStops};
@@ -15,17 +15,19 @@ ghost use Rattle.machine_states.specs.States.{Makes};
 ghost use Rattle.message_wires.specs.Idle.{is_idle};
 ghost use Rattle.message_wires.specs.Play.{MachineState, play};
 ghost use Rattle.message_wires.specs.Runs.{IsPlayed, post_of};
-ghost use Rattle.message_wires.specs.Wires.{Sent, has_room, is_on};
+ghost use Rattle.message_wires.specs.Wires.{Sent, has_room, is_on, is_present};
 ghost use Rattle.message_wires_laws.specs.Carried.{IsOn};
 
 /// What is played of a fit site, each of whose processes has its copies in two processors, is what its events do to a
-/// post: what is owed on the wires is owed by the post, and each packet on the bus carries a letter that was sent. It
-/// is a run of the world, and what is on the wires was sent in it.
+/// post: what is owed on the wires is owed by the post, and each packet on the bus that isn't older than the last load
+/// of one of its nodes carries a letter that may come. It is a run of the world, and what is on the wires, old packets
+/// too, was sent in it.
 pub fn what_is_played_follows()
     ensures letters { (site : Site) (events : List Event) (s : MachineState) → IsFit site → HasCopiesApart site
         → length events < 4294967296 → IsPlayed site events s
         → (sent : List Letter) × HasPlayed site events (post_of s sent)
-        × ((packet : Sent) → IsAmong packet s.wires.bus → IsAmong packet.letter sent) }
+        × ((packet : Sent) → IsAmong packet s.wires.bus → is_present s.wires.before packet ≡ true
+        → IsAmong packet.letter sent) }
     ensures run { (site : Site) (events : List Event) (s : MachineState) → IsFit site → HasCopiesApart site
         → length events < 4294967296 → IsPlayed site events s
         → IsRun site events s.world }
@@ -34,9 +36,16 @@ pub fn what_is_played_follows()
         → IsOn one s.wires → IsSent s.world one.letter.message }
 {}
 
-/// Whatever is played, no second processor stops.
+/// Whatever is played, no second processor stops while one has stopped: it would have to be loaded again before.
 pub fn a_second_processor_never_stops()
     ensures { (site : Site) (events : List Event) (s : MachineState) → IsPlayed site events s → OneStops s.world }
+{}
+
+/// A world that is whole stays so, whatever is played, until a processor stops.
+pub fn a_whole_world_stays_whole()
+    ensures { (s next : MachineState) (event : Event) → is_whole s.world ≡ true
+        → ((processor : ℕ) → event ≢ Fail processor) → play s event ≡ Makes next
+        → is_whole next.world ≡ true }
 {}
 
 /// After the tick of a node each letter that it sent, and that is owed to a node that runs, has a packet on the bus,

@@ -1,5 +1,6 @@
 -- What changes of the world leave of the needs of other nodes.
 use Rattle.std.proofs.Common.{◌≡◌, ◌≢◌, ℕ, ℤ, Bool, true, false, ◌==◌, List, length, Option, Some, None, option_map}
+use Rattle.std.proofs.Common.{[], ◌∷◌, ◌+◌, ◌&&◌, nat_lt, suc}
 use Rattle.std.proofs.Common.{slice_get, refl, sym, subst, ap, ◌∙◌, inl, inr, length-set}
 use Rattle.std.proofs.lemmas.Bool.{cases_eq, eqb-true, ne_eqb}
 use Rattle.std.proofs.lemmas.List.{length-map}
@@ -13,22 +14,26 @@ use Rattle.plain_semantics.specs.declared.slot.Opener.{Opener}
 use Rattle.plain_semantics.specs.Machine.{next_request}
 use Rattle.world_semantics.specs.declared.which.Which.{Which}
 use Rattle.world_semantics.specs.declared.which.Which.TheVariants.{First, Second}
-use Rattle.world_semantics.specs.World.{Copy, Pair, Terminal, World, copy_of, terminal_node}
+use Rattle.world_semantics.specs.Core.{Core}
+use Rattle.world_semantics.specs.World.{Copy, Pair, Terminal, World, copy_of, is_noted_by_all, is_whole, terminal_node}
 use Rattle.world_semantics.specs.Messages.{Message, Asking, Replying, Checkpointing, Taking}
 use Rattle.world_semantics.specs.Records.{records_of}
-use Rattle.world_semantics.specs.Rules.{pair_at_down, stopped_copy, stopped_pair}
+use Rattle.world_semantics.specs.Rules.{begun, most_reloads, pair_at_down, reloaded_at, reloaded_by, reloaded_from}
+use Rattle.world_semantics.specs.Rules.{stopped_copy, stopped_pair}
 use Rattle.world_semantics.specs.Running.{Done, Stepped, in_world, run_done, run_pair, step_of}
 use Rattle.world_semantics.proofs.Lists.{Changed, is_new, is_same, changed, mapped, some-same}
+use Rattle.world_semantics.proofs.Roles.{reload-all}
 use Rattle.computed_changes.specs.Entered.{enter_done, enter_at, enter_where, enter_to, entered_done}
 use Rattle.computed_changes.specs.Handed.{brought_to, handed_done, replied_done, step_on}
 use Rattle.computed_changes.specs.Replies.{awaits_at, printed_at, printed_done, printed_where}
 use Rattle.computed_changes.specs.Stopped.{down_done, mark_where, marked_where, may_note, stop_done, stop_where}
-use Rattle.computed_changes.specs.Stopped.{stopped_world, world_at_down}
+use Rattle.computed_changes.specs.Stopped.{reload_counted, reload_done, reload_if, reload_where, reloaded_world}
+use Rattle.computed_changes.specs.Stopped.{stop_if, stopped_world, world_at_down}
 use Rattle.packet_places.specs.Places.{KeepsItsOwn}
 use Rattle.packet_places.proofs.Copies.{AnyAt, IsDoneAt, enter-there, handed-there, keeps-same, marked-there}
 use Rattle.node_needs.specs.NodeNeeds.{needs_at}
 use Rattle.needs_laws.proofs.Homes.{AreHome, StepsHome, marked-home, on-home, run-home}
-use Rattle.needs_laws.proofs.Same.{IsLeft, needs-same}
+use Rattle.needs_laws.proofs.Same.{IsLeft, alike, needs-same}
 
 -- a change leaves all copies in their processors, and the terminals unless it is at their node
 record IsHome (node : ℕ) (w : World) (done : Done) : Type 0 where
@@ -57,7 +62,7 @@ elsewhere site w node x done differs at home =
         (λ same. differs (sym same ∙ here)),
         (λ same. differs (sym same ∙ home.homes k j before after there now ∙ here)),
       )
-      | inr away ↦ inl (at.copies k j before after there now away)
+      | inr away ↦ inl (alike (at.copies k j before after there now away))
     ]
 
 elsewhere-any : (site : Site) (w : World) (node x : ℕ) (made : Option Done) (done : Done) → made ≡ Some done
@@ -121,7 +126,8 @@ run-left site w number x pair there away step home =
         inr ((λ same. away j (old ∙ same)), (λ same. away j (sym next ∙ same)))
     by k j before after was (is_same other now) =
         let one : before ≡ after = some-same (sym was ∙ now) in
-        inl (subst (λ (p : Pair). KeepsItsOwn (copy_of j before) (copy_of j p)) one (keeps-same (copy_of j before)))
+        inl (alike
+        (subst (λ (p : Pair). KeepsItsOwn (copy_of j before) (copy_of j p)) one (keeps-same (copy_of j before))))
 
 pub run-elsewhere : (site : Site) (w : World) (number x : ℕ) (pair : Pair) (done : Done)
     → run_done site number w ≡ Some done → slice_get w.processes number ≡ Some pair
@@ -262,10 +268,6 @@ stop-left processor x copy differs = elim (cases_eq copy.processor processor) [
   | inr away ↦ inl (record {
     processor = refl;
     role = rw (ne_eqb copy.processor processor away) refl;
-    era = refl;
-    number = refl;
-    sent = refl;
-    acknowledged = refl;
     core = refl;
     waiting = refl;
   })
@@ -289,12 +291,89 @@ stopped-elsewhere site w processor x done made differs = by (slice_get w.stopped
         (subst (λ (p : Pair). IsLeft x (copy_of j p) (copy_of j (stopped_pair processor pair))) one
         (stop-left-of processor x pair j differs))
 
-    by : (found : Option Bool) → stop_where processor w found ≡ Some done
-        → needs_at site done.world x ≡ needs_at site w x
-    by None is = absurd (cc)
-    by (Some true) is = absurd (cc)
-    by (Some false) is =
+    where_it : (whole : Bool) → stop_if processor w whole ≡ Some done → needs_at site done.world x ≡ needs_at site w x
+    where_it false is = absurd (cc)
+    where_it true is =
         subst (λ (d : Done). needs_at site d.world x ≡ needs_at site w x) (some-same is)
         (needs-same site w (stopped_world processor w) x (length-map w.processes (stopped_pair processor))
         (λ k j before after there now. left k j before after there
         (mapped (stopped_pair processor) w.processes k after now)) (λ is. refl))
+
+    by : (found : Option Bool) → stop_where processor w found ≡ Some done
+        → needs_at site done.world x ≡ needs_at site w x
+    by None is = absurd (cc)
+    by (Some true) is = absurd (cc)
+    by (Some false) is = where_it (is_whole w) is
+
+-- Reloads
+
+module _ (processor x : ℕ) (differs : x ≢ processor) (core : Core) (pair : Pair) where
+  abbrev Left : Which → Bool → Bool → Type 0
+  Left j first second = IsLeft x (copy_of j pair) (copy_of j (reloaded_by core pair first second))
+
+  away : (at : ℕ) → (at == processor) ≡ true → (at ≢ x) × (at ≢ x)
+  away at is =
+      let here = eqb-true at processor is in
+      ((λ same. differs (sym same ∙ here)), (λ same. differs (sym same ∙ here)))
+
+  reload-left : (first second : Bool) → (pair.first.processor == processor) ≡ first
+      → (pair.second.processor == processor) ≡ second
+      → (j : Which) → Left j first second
+  reload-left false false one two First =
+      inl (record { processor = refl; role = refl; core = refl; waiting = refl })
+  reload-left false false one two Second =
+      inl (record { processor = refl; role = refl; core = refl; waiting = refl })
+  reload-left true false one two First = inr (away pair.first.processor one)
+  reload-left true false one two Second =
+      inl (record { processor = refl; role = refl; core = refl; waiting = refl })
+  reload-left false true one two First =
+      inl (record { processor = refl; role = refl; core = refl; waiting = refl })
+  reload-left false true one two Second = inr (away pair.second.processor two)
+  reload-left true true one two First = inr (away pair.first.processor one)
+  reload-left true true one two Second = inr (away pair.second.processor two)
+
+reload-long : (site : Site) (processor from : ℕ) (pairs : List Pair)
+    → length (reloaded_from site processor from pairs) ≡ length pairs
+reload-long site processor from [] = refl
+reload-long site processor from (pair ∷ pairs) = ap suc (reload-long site processor (from + 1) pairs)
+
+reloaded-left : (site : Site) (w : World) (processor x times : ℕ) → x ≢ processor
+    → needs_at site (reloaded_world site processor times w) x ≡ needs_at site w x
+reloaded-left site w processor x times differs =
+    needs-same site w (reloaded_world site processor times w) x (reload-long site processor 0 w.processes)
+    (λ k j before after there now. reload-all Left site processor w.processes left k after now j before there)
+    (λ is. refl)
+  where
+    Left : ℕ → Pair → Type 0
+    Left k after = (j : Which) (before : Pair) → slice_get w.processes k ≡ Some before
+        → IsLeft x (copy_of j before) (copy_of j after)
+
+    left : (k : ℕ) (pair : Pair) → slice_get w.processes k ≡ Some pair
+        → Left k (reloaded_at site processor k (slice_get site.processes k) pair)
+    left k pair at j before there =
+        subst (λ (p : Pair). IsLeft x (copy_of j p)
+        (copy_of j (reloaded_at site processor k (slice_get site.processes k) pair))) (some-same (sym at ∙ there))
+        (reload-left processor x differs (begun site k (slice_get site.processes k) pair.first.core) pair
+        (pair.first.processor == processor) (pair.second.processor == processor) refl refl j)
+
+pub reloaded-elsewhere : (site : Site) (w : World) (processor x : ℕ) (done : Done)
+    → reload_done site processor w ≡ Some done → x ≢ processor → needs_at site done.world x ≡ needs_at site w x
+reloaded-elsewhere site w processor x done made differs = by (slice_get w.stopped processor) made
+  where
+    where_it : (times : ℕ) (free : Bool) → reload_if site processor times w free ≡ Some done
+        → needs_at site done.world x ≡ needs_at site w x
+    where_it times false is = absurd (cc)
+    where_it times true is =
+        subst (λ (d : Done). needs_at site d.world x ≡ needs_at site w x) (some-same is)
+        (reloaded-left site w processor x times differs)
+
+    counted : (times : Option ℕ) → reload_counted site processor w times ≡ Some done
+        → needs_at site done.world x ≡ needs_at site w x
+    counted None is = absurd (cc)
+    counted (Some times) is = where_it times (is_noted_by_all w processor && nat_lt times most_reloads) is
+
+    by : (found : Option Bool) → reload_where site processor w found ≡ Some done
+        → needs_at site done.world x ≡ needs_at site w x
+    by None is = absurd (cc)
+    by (Some false) is = absurd (cc)
+    by (Some true) is = counted (slice_get w.reloads processor) is

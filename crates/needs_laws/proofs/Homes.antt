@@ -1,4 +1,5 @@
 -- A step of a process leaves its copies in their processors.
+use Rattle.std.proofs.Common.{◌∙◌, nat_lt, not}
 use Rattle.std.proofs.Common.{◌≡◌, ℕ, Bool, true, false, List, Option, Some, None, option_and_then, option_map, refl}
 use Rattle.gd_words.specs.declared.message.Request.{Request}
 use Rattle.gd_words.specs.declared.message.Reply.{Reply}
@@ -9,17 +10,21 @@ use Rattle.process_semantics.specs.Process as process
 use Rattle.checkpoint_image.specs.declared.message.ImageMessage.{ImageMessage}
 use Rattle.checkpoint_image.specs.declared.message.TakenMessage.{TakenMessage}
 use Rattle.world_semantics.specs.declared.role.Role.{Role}
-use Rattle.world_semantics.specs.declared.role.Role.TheVariants.{Acting, Watching, Gone}
+use Rattle.world_semantics.specs.declared.role.Role.TheVariants.{Acting, Watching, Blank, Gone}
 use Rattle.world_semantics.specs.declared.which.Which.{Which}
 use Rattle.world_semantics.specs.declared.which.Which.TheVariants.{First, Second}
 use Rattle.world_semantics.specs.Core.{Core}
-use Rattle.world_semantics.specs.World.{Down, Pair, copy_of, may_pass, with_copy}
+use Rattle.world_semantics.specs.World.{Down, Pair, copy_of, has_noted, may_pass, other_of, with_copy}
 use Rattle.world_semantics.specs.Messages.{Message, Asking, Replying, Checkpointing, Taking}
 use Rattle.world_semantics.specs.Records.{Records}
-use Rattle.world_semantics.specs.Rules.{after_takeover, pair_after_down, pair_at_down, taker}
+use Rattle.world_semantics.specs.Kept.{own_acts}
+use Rattle.world_semantics.specs.Passes.{after_told}
+use Rattle.world_semantics.specs.Rules.{after_takeover, pair_after_down, pair_at_down, reloaded_by, renewals_ended}
+use Rattle.world_semantics.specs.Rules.{taker}
 use Rattle.world_semantics.specs.Running.{Own, Stepped, first_step, mark_step, own_of, own_step, passing_step}
-use Rattle.world_semantics.specs.Running.{sending_step, step_as, step_at, step_of, step_of_copy}
-use Rattle.computed_changes.specs.Checkpoints.{applied_step, core_as, is_of_last, taken_step}
+use Rattle.world_semantics.specs.Running.{ending_step, free_step, renewing_step, sending_step, step_as, step_at}
+use Rattle.world_semantics.specs.Running.{step_if, step_of, step_of_copy}
+use Rattle.computed_changes.specs.Checkpoints.{applied_step, applied_step_where, core_as, is_of_last, taken_step}
 use Rattle.computed_changes.specs.Checkpoints.{taken_step_where}
 use Rattle.computed_changes.specs.Fitting.{depths_of}
 use Rattle.computed_changes.specs.Handed.{copy_in, step_by, step_on}
@@ -67,19 +72,54 @@ module _ (site : Site) (number : ℕ) (pair : Pair) (marks : List Down) (records
   mark-home k false true = tt
   mark-home k false false = sent-home k
 
+  ended-home : (k j : Which)
+      → (copy_of j (ending_step number k pair records).pair).processor ≡ (copy_of j pair).processor
+  ended-home First First = refl
+  ended-home First Second = refl
+  ended-home Second First = refl
+  ended-home Second Second = refl
+
+  if-home : (test : Bool) (step : Stepped) → AreHome pair step.pair → StepsHome pair (step_if test step)
+  if-home true step home = home
+  if-home false step home = tt
+
+  everything-home : (k : Which) (noted : Bool) → StepsHome pair (step_if noted (sending_step number k pair records))
+  everything-home k noted = if-home noted (sending_step number k pair records) (sent-home k)
+
+  abbrev unmarked : Which → Bool
+  unmarked k = not (has_noted marks (copy_of k pair).processor (copy_of (other_of k) pair).processor)
+
+  renewed-home : (k : Which) (stands : Point) → StepsHome pair (renewing_step number k pair marks records stands)
+  renewed-home k point.Await = tt
+  renewed-home k point.AtCheckpoint = everything-home k (unmarked k)
+  renewed-home k point.Inner = everything-home k (unmarked k)
+  renewed-home k point.Take = everything-home k (unmarked k)
+  renewed-home k point.Ask = everything-home k (unmarked k)
+  renewed-home k point.Answer = everything-home k (unmarked k)
+  renewed-home k point.Device = everything-home k (unmarked k)
+  renewed-home k point.Ended = everything-home k (unmarked k)
+
+  free-home : (k : Which) (stands : Point) (sent renewal : Bool)
+      → StepsHome pair (free_step site number k pair marks records stands sent renewal)
+  free-home k stands true renewal =
+      if-home (may_pass marks k pair) (ending_step number k pair records) (ended-home k)
+  free-home k stands false true = renewed-home k stands
+  free-home k stands false false = own-any k (own_of site number k pair records stands)
+
   at-home : (k : Which) (stands : Point) → StepsHome pair (step_at site number k pair marks records stands)
   at-home k point.AtCheckpoint = mark-home k (may_pass marks k pair) (copy_of k pair).sent
-  at-home k point.Inner = own-any k (own_of site number k pair records point.Inner)
-  at-home k point.Take = own-any k (own_of site number k pair records point.Take)
-  at-home k point.Ask = own-any k (own_of site number k pair records point.Ask)
-  at-home k point.Await = own-any k (own_of site number k pair records point.Await)
-  at-home k point.Answer = own-any k (own_of site number k pair records point.Answer)
-  at-home k point.Device = own-any k (own_of site number k pair records point.Device)
-  at-home k point.Ended = own-any k (own_of site number k pair records point.Ended)
+  at-home k point.Inner = free-home k point.Inner (copy_of k pair).sent (copy_of k pair).renewal
+  at-home k point.Take = free-home k point.Take (copy_of k pair).sent (copy_of k pair).renewal
+  at-home k point.Ask = free-home k point.Ask (copy_of k pair).sent (copy_of k pair).renewal
+  at-home k point.Await = free-home k point.Await (copy_of k pair).sent (copy_of k pair).renewal
+  at-home k point.Answer = free-home k point.Answer (copy_of k pair).sent (copy_of k pair).renewal
+  at-home k point.Device = free-home k point.Device (copy_of k pair).sent (copy_of k pair).renewal
+  at-home k point.Ended = free-home k point.Ended (copy_of k pair).sent (copy_of k pair).renewal
 
   as-home : (k : Which) (role : Role) → StepsHome pair (step_as site number k pair marks records role)
   as-home k Acting = at-home k (process.point (copy_of k pair).core.state)
   as-home k Watching = tt
+  as-home k Blank = tt
   as-home k Gone = tt
 
   first-home : (one other : Option Stepped) → StepsHome pair one → StepsHome pair other
@@ -115,6 +155,7 @@ module _ (site : Site) (number : ℕ) (pair : Pair) (records : Records) where
       → StepsHome pair (request_step k pair records request role)
   request-home k request Acting = asked-home k request
   request-home k request Watching = early-home k request
+  request-home k request Blank = early-home k request
   request-home k request Gone = tt
 
   answered-home : (k : Which) (reply : Reply) (j : Which)
@@ -134,14 +175,25 @@ module _ (site : Site) (number : ℕ) (pair : Pair) (records : Records) where
   reply-home k reply Acting =
       got-home k reply (awaits site number (copy_of k pair).core reply (process.point (copy_of k pair).core.state))
   reply-home k reply Watching = tt
+  reply-home k reply Blank = tt
   reply-home k reply Gone = tt
+
+  applied-where : (k : Which) (message : ImageMessage) (core : Core) (behind : Bool) (j : Which)
+      → (copy_of j (applied_step_where number k pair records message core behind).pair).processor
+      ≡ (copy_of j pair).processor
+  applied-where First message core true First = refl
+  applied-where First message core true Second = refl
+  applied-where Second message core true First = refl
+  applied-where Second message core true Second = refl
+  applied-where First message core false First = refl
+  applied-where First message core false Second = refl
+  applied-where Second message core false First = refl
+  applied-where Second message core false Second = refl
 
   applied-home : (k : Which) (message : ImageMessage) (core : Core) (j : Which)
       → (copy_of j (applied_step number k pair records message core).pair).processor ≡ (copy_of j pair).processor
-  applied-home First message core First = refl
-  applied-home First message core Second = refl
-  applied-home Second message core First = refl
-  applied-home Second message core Second = refl
+  applied-home k message core =
+      applied-where k message core (nat_lt (copy_of (other_of k) pair).position (own_acts number records.kept))
 
   applied-any : (k : Which) (message : ImageMessage) (core : Option Core)
       → StepsHome pair (option_map (applied_step number k pair records message) core)
@@ -149,7 +201,7 @@ module _ (site : Site) (number : ℕ) (pair : Pair) (records : Records) where
   applied-any k message (Some core) = applied-home k message core
 
   acked-home : (k j : Which)
-      → (copy_of j (with_copy k (record (copy_of k pair) { acknowledged = true }) pair)).processor
+      → (copy_of j (with_copy k (after_told (copy_of k pair)) pair)).processor
       ≡ (copy_of j pair).processor
   acked-home First First = refl
   acked-home First Second = refl
@@ -165,6 +217,7 @@ module _ (site : Site) (number : ℕ) (pair : Pair) (records : Records) where
   taken-home k taken Acting =
       told-home k (is_of_last (copy_of k pair).sent (copy_of k pair).era (copy_of k pair).number taken)
   taken-home k taken Watching = tt
+  taken-home k taken Blank = tt
   taken-home k taken Gone = tt
 
   by-home : (message : Message) (k : Which) → StepsHome pair (step_by site number pair records message k)
@@ -193,9 +246,26 @@ taken_over-home First pair Second = refl
 taken_over-home Second pair First = refl
 taken_over-home Second pair Second = refl
 
+ended-renewals : (node processor : ℕ) (pair : Pair) → AreHome pair (renewals_ended node processor pair)
+ended-renewals node processor pair First = refl
+ended-renewals node processor pair Second = refl
+
 pub marked-home : (node processor : ℕ) (pair : Pair) → AreHome pair (pair_at_down node processor pair)
 marked-home node processor pair = by (taker node processor pair)
   where
-    by : (found : Option Which) → AreHome pair (pair_after_down found pair)
-    by None = λ j. refl
-    by (Some k) = taken_over-home k pair
+    by : (found : Option Which) → AreHome pair (renewals_ended node processor (pair_after_down found pair))
+    by None = ended-renewals node processor pair
+    by (Some k) = λ j.
+        ended-renewals node processor (after_takeover k pair) j ∙ taken_over-home k pair j
+
+-- Reloads
+
+pub reloaded-home : (core : Core) (pair : Pair) (first second : Bool)
+    → AreHome pair (reloaded_by core pair first second)
+reloaded-home core pair false false j = refl
+reloaded-home core pair true false First = refl
+reloaded-home core pair true false Second = refl
+reloaded-home core pair false true First = refl
+reloaded-home core pair false true Second = refl
+reloaded-home core pair true true First = refl
+reloaded-home core pair true true Second = refl

@@ -5,7 +5,7 @@ use Rattle.std.proofs.lemmas.Bool.{eqb-true, ne_eqb}
 use Rattle.gd_words.specs.declared.message.Request.{Request}
 use Rattle.tal_tree.specs.declared.site.Site.{Site}
 use Rattle.world_semantics.specs.declared.role.Role.{Role}
-use Rattle.world_semantics.specs.declared.role.Role.TheVariants.{Acting, Watching, Gone}
+use Rattle.world_semantics.specs.declared.role.Role.TheVariants.{Acting, Watching, Blank, Gone}
 use Rattle.world_semantics.specs.declared.which.Which.{Which}
 use Rattle.world_semantics.specs.declared.which.Which.TheVariants.{First, Second}
 use Rattle.world_semantics.specs.World.{Copy, Pair, Terminal, World, copy_of, terminal_node}
@@ -35,16 +35,28 @@ module _ {A : Type 0} (f : ℕ → Copy → List A) where
 there-away : {A : Type 0} (x : ℕ) (role : Role) (at : ℕ) (items : List A) → at ≢ x → if_there x role at items ≡ []
 there-away x Acting at items away = rw (ne_eqb at x away) refl
 there-away x Watching at items away = rw (ne_eqb at x away) refl
+there-away x Blank at items away = rw (ne_eqb at x away) refl
 there-away x Gone at items away = refl
 
 acts-away : {A : Type 0} (x : ℕ) (role : Role) (at : ℕ) (items : List A) → at ≢ x → if_acts_on x role at items ≡ []
 acts-away x Acting at items away = rw (ne_eqb at x away) refl
 acts-away x Watching at items away = refl
+acts-away x Blank at items away = refl
 acts-away x Gone at items away = refl
 
--- a copy keeps its own, or is away from a node before and after
+-- a copy needs what it needed
+pub record IsAlike (before after : Copy) : Type 0 where
+  pub processor : after.processor ≡ before.processor
+  pub role : after.role ≡ before.role
+  pub core : after.core ≡ before.core
+  pub waiting : after.waiting ≡ before.waiting
+
+pub alike : {before after : Copy} → KeepsItsOwn before after → IsAlike before after
+alike keeps = record { processor = keeps.processor; role = keeps.role; core = keeps.core; waiting = keeps.waiting }
+
+-- a copy needs what it needed, or is away from a node before and after
 abbrev pub IsLeft : ℕ → Copy → Copy → Type 0
-IsLeft x before after = KeepsItsOwn before after ⊎ ((before.processor ≢ x) × (after.processor ≢ x))
+IsLeft x before after = IsAlike before after ⊎ ((before.processor ≢ x) × (after.processor ≢ x))
 
 module _ (site : Site) (x : ℕ) (number : ℕ) (before after : Copy) where
   waiting-same : IsLeft x before after

@@ -12,7 +12,7 @@ use Rattle.alive_regroup.specs.Watching.{neighbour_after_alive}
 
 missed-still : (one : Neighbour) → is_missed (neighbour_after_alive one) ≡ is_missed one
 missed-still Absent = refl
-missed-still Down = refl
+missed-still (Down came) = refl
 missed-still (Up came missed.None report) = refl
 missed-still (Up came missed.One report) = refl
 missed-still (Up came missed.More report) = refl

@@ -1,15 +1,17 @@
-ghost use Rattle.std.specs.Prelude.{◌≡◌, ◌≤◌, ◌<◌, ◌==◌, ◌&&◌, ℕ, true, not, length, slice_get, IfSome, IfNone, IfOk, OnOk};
+ghost use Rattle.std.specs.Prelude.{◌≡◌, ◌≤◌, ◌<◌, ◌==◌, ◌&&◌, ℕ, true, not, length, map, slice_get};
+ghost use Rattle.std.specs.Prelude.{IfSome, IfNone, IfOk, OnOk, Some};
 ghost use Rattle.std.specs.Bool.{OnTrue};
 ghost use Rattle.std.specs.List.{list_all};
 ghost use Rattle.std.specs.Option.{option_copied};
 ghost use Rattle.alive_regroup.specs.Watching as watching;
 ghost use Rattle.alive_regroup.specs.Watching.{changed_at, is_held, misses_none, told_by_tick};
 ghost use Rattle.link_control.specs.Ends.{after_down, after_packet, after_push, after_tick, alive_of, handed_by_packet};
-ghost use Rattle.link_control.specs.Ends.{is_empty, sent_by_packet, sent_by_push, sent_by_tick};
+ghost use Rattle.link_control.specs.Ends.{End, HasIncarnationLeft, end_after_reload, is_empty, sent_by_packet};
+ghost use Rattle.link_control.specs.Ends.{sent_by_push, sent_by_tick};
 ghost use Rattle.packet_wires.specs.Idle.{holds_nothing};
 ghost use Rattle.packet_wires.specs.Lines.{first_held, line_pulled};
-ghost use Rattle.packet_wires.specs.Nodes.{node_at_boot};
-ghost use Rattle.event_parts.specs.Numbers.{HasNumbersWith, NodeCanPush};
+ghost use Rattle.packet_wires.specs.Nodes.{node_after_reload, node_at_boot};
+ghost use Rattle.event_parts.specs.Numbers.{HasNumbersWith, NodeCanPush, NodeCanReload};
 ghost use Rattle.node.specs.Calls.{IsQuiet, told_at_end, with_end_changed, with_watch_changed};
 
 use alive_regroup::{ProcessorSet, Watch};
@@ -22,7 +24,7 @@ use std::marker::Model;
 /// How many nodes there may be: 16 processors and the node of the terminals.
 pub(crate) const NODES: u8 = 17;
 
-/// No node was ever loaded anew.
+/// No node was ever loaded again.
 const NEVER_RELOADED: Incarnation = Incarnation {
     sender: 0,
     receiver: 0,
@@ -260,6 +262,21 @@ impl Node {
         self.watch.on_down(processor);
     }
 
+    /// A processor of a site with so many was loaded again.
+    pub fn on_reload(&mut self, alloc: Global, processors: u8, loaded: u8)
+        requires { NodeCanReload loaded self.old }
+        ensures { self.new ≡ node_after_reload processors loaded self.old }
+    {
+        self.busy = true;
+        self.misses = true;
+        reload_all(self.ends.as_mut_slice(), alloc, loaded);
+        if self.watch.me() == loaded {
+            self.watch = Watch::new(loaded, processors);
+        } else {
+            self.watch.on_up(loaded);
+        }
+    }
+
     /// The processor whose line the node of this number pulls now.
     pub fn line(&self, me: u8) -> Option<u8>
         ensures { result ≡ line_pulled me self.now }
@@ -277,6 +294,16 @@ impl Node {
         let mut later = self.watch;
         later.tick();
         first_held(&later, me)
+    }
+}
+
+/// A processor was loaded again: each end of it and with it is a new one.
+fn reload_all(ends: &mut [Channel], alloc: Global, loaded: u8)
+    requires { (y : ℕ) (e : End) → slice_get ends.old y ≡ Some e → HasIncarnationLeft loaded e }
+    ensures { ends.new ≡ map (end_after_reload loaded) ends.old }
+{
+    for end in ends.iter_mut() {
+        end.on_reload(alloc, loaded);
     }
 }
 

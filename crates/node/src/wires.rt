@@ -1,5 +1,5 @@
 ghost use Rattle.std.specs.Prelude.{◌≡◌, ◌<◌, ◌≤◌, ◌==◌, ◌++◌, ◌∷◌, [], ℕ, None, Some, length, slice_get};
-ghost use Rattle.std.specs.Prelude.{true, if◌then◌else◌, IfSome, IfNone, IfOk, OnOk};
+ghost use Rattle.std.specs.Prelude.{true, if◌then◌else◌, map, IfSome, IfNone, IfOk, OnOk};
 ghost use Rattle.std.specs.Bool.{OnTrue};
 ghost use Rattle.std.specs.Option.{option_and_then, option_copied, option_map};
 ghost use Rattle.packet_words.specs.declared.packet.Packet.{Packet};
@@ -7,14 +7,14 @@ ghost use Rattle.alive_regroup.specs.Watching as watching;
 ghost use Rattle.alive_regroup.specs.Watching.{changed_at};
 ghost use Rattle.packet_wires.specs.Idle.{holds_nothing};
 ghost use Rattle.packet_wires.specs.Lines.{line_pulled};
-ghost use Rattle.packet_wires.specs.Nodes.{Node, end_at, others};
-ghost use Rattle.packet_wires.specs.Play.{completed};
+ghost use Rattle.packet_wires.specs.Nodes.{Node, end_at, node_after_reload, others};
+ghost use Rattle.packet_wires.specs.Play.{completed, is_current_at};
 ghost use Rattle.packet_wires.specs.Wires.{alive_at, any_goes_over, arrived, at_end, checks, cut_off, declares};
 ghost use Rattle.packet_wires.specs.Wires.{down_at, for_each, goes_again, goes_over, learns, nothing_sent, on_bus};
 ghost use Rattle.packet_wires.specs.Wires.{push_at, reports, resends, tells_alive, tick_at, ticked, wires_at_boot};
-ghost use Rattle.packet_wires.specs.Wires.{without_packet};
-ghost use Rattle.event_parts.specs.Numbers.{CanPush, HasNumbersAt};
-ghost use Rattle.event_parts.specs.Parts.{carried_out, completed_by, delivered, repeated};
+ghost use Rattle.packet_wires.specs.Wires.{loaded_again, without_packet};
+ghost use Rattle.event_parts.specs.Numbers.{CanPush, CanReload, HasNumbersAt};
+ghost use Rattle.event_parts.specs.Parts.{carried_out, completed_by, delivered, is_current_in, repeated};
 ghost use Rattle.node.specs.Calls.{IsQuiet, alive_address, arrive_by, both_go};
 
 use crate::node::{NODES, Node};
@@ -132,6 +132,26 @@ impl PacketWires {
     {
         let node = self.nodes.get(usize::from(node))?;
         Some(node.watch())
+    }
+
+    /// Whether a packet stands at a position of a bus that bears the present incarnations of its sender and its receiver.
+    pub fn is_current(&self, bus: BusName, position: usize) -> bool
+        ensures { result ≡ is_current_in (slice_get (on_bus bus self.now) position) self.now.nodes }
+    {
+        match self.packet_at(bus, position) {
+            None => false,
+            Some(packet) => self.knows(packet),
+        }
+    }
+
+    /// Whether the end to which a packet comes knows its incarnations.
+    fn knows(&self, packet: &Packet) -> bool
+        ensures { result ≡ is_current_at packet.now (end_at self.now.nodes packet.now.receiver packet.now.sender) }
+    {
+        match self.end_at(packet.receiver, packet.sender) {
+            None => false,
+            Some(end) => end.is_current(packet),
+        }
     }
 
     /// A packet goes over a bus.
@@ -532,6 +552,24 @@ impl PacketWires {
         self.send_others(from, processors, words.as_slice())?;
         self.send(from, TERMINAL_NODE, words)?;
         Ok(())
+    }
+
+    /// A processor of a site with so many is loaded again: all its channels are new, at both ends.
+    pub fn reload(&mut self, processors: u8, loaded: u8)
+        requires { CanReload loaded self.old.nodes }
+        ensures { self.new ≡ carried_out (loaded_again processors loaded) self.old }
+    {
+        reload_all(self.nodes.as_mut_slice(), self.alloc, processors, loaded);
+    }
+}
+
+/// A processor of a site with so many was loaded again.
+fn reload_all(nodes: &mut [Node], alloc: Global, processors: u8, loaded: u8)
+    requires { CanReload loaded nodes.old }
+    ensures { nodes.new ≡ map (node_after_reload processors loaded) nodes.old }
+{
+    for node in nodes.iter_mut() {
+        node.on_reload(alloc, processors, loaded);
     }
 }
 

@@ -3,6 +3,7 @@ use Rattle.std.specs.Prelude.{Option, Some, None}
 use Rattle.change_layout.specs.declared.message.ChangeMessage.{ChangeMessage}
 use Rattle.checkpoint_image.specs.declared.message.ImageMessage.{ImageMessage}
 use Rattle.world_semantics.specs.Core.{Core}
+use Rattle.world_semantics.specs.Passes.{after_getting}
 use Rattle.world_semantics.specs.World.{Copy}
 use Rattle.node_copies.specs.Seen.{CopyAndDepths}
 
@@ -10,12 +11,12 @@ use Rattle.node_copies.specs.Seen.{CopyAndDepths}
 abbrev pub with_changed : CopyAndDepths → Copy → CopyAndDepths
 with_changed one copy = record one { copy = copy }
 
--- a copy that has this core by a checkpoint, if it applied it
+-- a copy that has this core by a checkpoint, and watches, if it applied it
 abbrev pub copy_applying : Copy → ImageMessage → Option Core → Copy
 copy_applying copy message None = copy
-copy_applying copy message (Some core) = record copy { core = core; number = message.number }
+copy_applying copy message (Some core) = after_getting message.number core copy
 
 -- a copy that has this core by a checkpoint that came as what changed, if it applied it
 abbrev pub copy_changing : Copy → ChangeMessage → Option Core → Copy
 copy_changing copy change None = copy
-copy_changing copy change (Some core) = record copy { core = core; number = change.number }
+copy_changing copy change (Some core) = after_getting change.number core copy

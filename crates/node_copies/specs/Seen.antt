@@ -32,6 +32,7 @@ copy_with processor control waiting share = record {
   number = control.number;
   sent = control.sent;
   acknowledged = control.acknowledged;
+  renewal = control.renewal;
   core = control.core;
   waiting = waiting;
   position = share.position;
@@ -46,6 +47,7 @@ control_of one = record {
   number = one.copy.number;
   sent = one.copy.sent;
   acknowledged = one.copy.acknowledged;
+  renewal = one.copy.renewal;
   core = one.copy.core;
   depths = one.depths;
 }

@@ -1,4 +1,4 @@
-ghost use Rattle.std.specs.Prelude.{◌≡◌, List, length, IfOk, OnOk};
+ghost use Rattle.std.specs.Prelude.{◌≡◌, List, false, length, IfOk, OnOk};
 ghost use Rattle.tal_tree.specs.declared.site.Site.{Site};
 ghost use Rattle.disc_device.specs.Sectors.{Stored};
 ghost use Rattle.process_semantics.specs.Process.{asked_file, point};
@@ -7,7 +7,7 @@ ghost use Rattle.process_control.specs.computed_changes.specs.Fitting.{depths_of
 ghost use Rattle.gd_words.specs.Ranges.{HasNext, HasNextLong};
 ghost use Rattle.number_ranges.specs.HasRoom.{CopyHasRoom};
 ghost use Rattle.world_semantics.specs.Core.{next_on};
-ghost use Rattle.world_semantics.specs.Passes.{after_sending, checkpoint_of};
+ghost use Rattle.world_semantics.specs.Passes.{after_sending, after_sent, checkpoint_of};
 ghost use Rattle.world_semantics.specs.Running.{copy_passed, records_passed};
 ghost use Rattle.node_copies.specs.Acting.{HasActed, own_in};
 ghost use Rattle.node_copies.specs.Seen.{drives_on, openers_on, sectors_on};
@@ -184,9 +184,9 @@ impl NodeCopy {
         }
     }
 
-    /// The checkpoint at which it stands.
+    /// The checkpoint of where it stands: of everything where it has to send that.
     pub fn send(&mut self, alloc: Global, number: u8) -> Result<ImageMessage, NoMemory>
-        requires point { point self.old.copy.core.state ≡ Point.AtCheckpoint }
+        requires point { self.old.copy.renewal ≡ false → point self.old.copy.core.state ≡ Point.AtCheckpoint }
         requires room { CopyHasRoom self.old.copy }
         ensures message { IfOk result (λ message. message ≡ checkpoint_of number self.old.copy) }
         ensures copy { OnOk result (self.new ≡ record self.old { copy = after_sending self.old.copy }) }
@@ -194,6 +194,13 @@ impl NodeCopy {
     {
         let message = self.control.checkpoint_out(alloc, number)?;
         Ok(message)
+    }
+
+    /// What it has sent elsewhere than at a checkpoint comes to its end.
+    pub fn end(&mut self)
+        ensures { self.new ≡ record self.old { copy = after_sent self.old.copy } }
+    {
+        self.control.end();
     }
 
     /// It passes its checkpoint.

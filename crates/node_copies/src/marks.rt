@@ -1,4 +1,5 @@
 ghost use Rattle.std.specs.Prelude.{◌≡◌, ◌==◌, ◌&&◌, [], ◌∷◌, OnOk};
+ghost use Rattle.world_semantics.specs.Rules.{without_marks};
 ghost use Rattle.world_semantics.specs.World.{has_noted};
 
 use gd_words::NoMemory;
@@ -75,6 +76,13 @@ impl Downs {
     {
         self.items.insert(0, NotedDown { node, down })?;
         Ok(())
+    }
+
+    /// A processor is loaded again: no node has marked it any more.
+    pub fn remove(&mut self, down: u8)
+        ensures { self.new ≡ without_marks down self.old }
+    {
+        self.items.retain(|mark| mark.down != down);
     }
 }
 

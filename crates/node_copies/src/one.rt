@@ -51,6 +51,12 @@ impl NodeCopy {
         self.control.role()
     }
 
+    pub fn era(&self) -> u32
+        ensures { result ≡ self.now.copy.era }
+    {
+        self.control.era()
+    }
+
     pub fn sent(&self) -> bool
         ensures { result ≡ self.now.copy.sent }
     {
@@ -61,6 +67,13 @@ impl NodeCopy {
         ensures { result ≡ self.now.copy.acknowledged }
     {
         self.control.acknowledged()
+    }
+
+    /// Whether it has to send everything that it has.
+    pub fn renewal(&self) -> bool
+        ensures { result ≡ self.now.copy.renewal }
+    {
+        self.control.renewal()
     }
 
     pub fn point(&self) -> Point

@@ -1,4 +1,5 @@
-ghost use Rattle.std.specs.Prelude.{◌≡◌, ◌<◌, ◌++◌, true, is_some, length, IfOk, OnOk};
+ghost use Rattle.std.specs.Prelude.{◌≡◌, ◌<◌, ◌++◌, ◌==◌, ◌&&◌, not, is_some, length, IfOk, OnOk};
+ghost use Rattle.gd_words.specs.Ranges.{HasNext};
 ghost use Rattle.process_semantics.specs.declared.point.Point.TheVariants.{Await};
 ghost use Rattle.process_semantics.specs.Process.{asked_file, asked_words, point};
 ghost use Rattle.checkpoint_image.specs.Receive.{repeated};
@@ -6,7 +7,8 @@ ghost use Rattle.file_calls.specs.Queue.{sent_again};
 ghost use Rattle.sync_ids.specs.Tables.{IsSound};
 ghost use Rattle.world_semantics.specs.declared.role.Role.TheVariants.{Watching};
 ghost use Rattle.world_semantics.specs.Core.{next_on};
-ghost use Rattle.world_semantics.specs.Rules.{stopped_copy, taken_over, told_again};
+ghost use Rattle.world_semantics.specs.Rules.{renewed, stopped_copy, taken_over, told_again};
+ghost use Rattle.world_semantics.specs.Passes.{after_told};
 ghost use Rattle.process_control.specs.computed_changes.specs.Changed.{core_changing};
 ghost use Rattle.process_control.specs.computed_changes.specs.Checkpoints.{core_applying, is_of_last};
 ghost use Rattle.process_control.specs.computed_changes.specs.Replies.{copy_got, kept_got};
@@ -88,18 +90,20 @@ impl NodeCopy {
 
     /// The other copy applied this copy's checkpoint. Answers the base.
     pub fn cover(&mut self, process: u8, records: &mut Records) -> Result<u64, NoMemory>
-        ensures base { IfOk result (λ base. base ≡ covered_count process records.old.kept (share_of self.old.copy)) }
+        ensures base { IfOk result (λ base. base
+            ≡ covered_count process (point self.old.copy.core.state) records.old.kept (share_of self.old.copy)) }
         ensures copy { OnOk result (self.new
-            ≡ with_changed self.old (with_share (share_after_cover process records.old.kept
-            (share_of self.old.copy)).share self.old.copy)) }
+            ≡ with_changed self.old (with_share (share_after_cover process (point self.old.copy.core.state)
+            records.old.kept (share_of self.old.copy)).share self.old.copy)) }
         ensures records { OnOk result (records.new
             ≡ record records.old {
-              kept = (share_after_cover process records.old.kept
-                  (share_of self.old.copy)).kept;
+              kept = (share_after_cover process (point self.old.copy.core.state)
+                  records.old.kept (share_of self.old.copy)).kept;
             }) }
         ensures depths { self.new.depths ≡ self.old.depths }
     {
-        let base = self.share.cover(process, &mut records.kept)?;
+        let stands = self.control.point();
+        let base = self.share.cover(process, stands, &mut records.kept)?;
         Ok(base)
     }
 
@@ -110,11 +114,31 @@ impl NodeCopy {
         self.control.is_of_last(taken)
     }
 
-    /// What the copy sent last was taken.
+    /// What the copy sent last was taken: it has sent everything, if it had to.
     pub fn acked(&mut self)
-        ensures { self.new ≡ with_changed self.old (record self.old.copy { acknowledged = true }) }
+        ensures { self.new ≡ with_changed self.old (after_told self.old.copy) }
     {
         self.control.acked();
+    }
+
+    /// The processor of the other copy was loaded again: everything is to be sent to it. The number of the next era has
+    /// 32 bits.
+    pub fn renew(&mut self)
+        requires { HasNext self.old.copy.era }
+        ensures { self.new ≡ with_changed self.old (renewed self.old.copy) }
+    {
+        self.control.renew();
+    }
+
+    /// A node marks a processor: where the copy is on that node, and the other copy's processor is this one, nothing
+    /// more is to be sent to that copy.
+    pub fn end_renewal(&mut self, node: u8, processor: u8, other: u8)
+        ensures { self.new ≡ with_changed self.old (record self.old.copy
+            { renewal = self.old.copy.renewal && not (self.old.copy.processor == node && other == processor) }) }
+    {
+        if self.processor == node && other == processor {
+            self.control.end_renewal();
+        }
     }
 
     /// The copy takes over, from the base on. The replies kept to its waiting requests are added to `told`.

@@ -6,6 +6,7 @@ ghost use Rattle.sync_ids.specs.Tables.{IsDepth};
 ghost use Rattle.whole_states.specs.Listing as listing;
 ghost use Rattle.whole_states.specs.Processes.{IsWholeProcess};
 ghost use Rattle.process_control.specs.Cores.{core_at_start};
+ghost use Rattle.world_semantics.specs.Rules.{blank_copy};
 ghost use Rattle.world_semantics.specs.World.{copy_at_boot};
 
 use crate::one::NodeCopy;
@@ -41,6 +42,36 @@ impl NodeCopy {
         let process = load(alloc, what)?;
         let files = files_of(what).len() as u8;
         let control = CopyControl::start(alloc, process, role, openers, files)?;
+        let waiting = Waiting::new(alloc, openers.len() as u16)?;
+        Ok(NodeCopy {
+            processor,
+            control,
+            waiting,
+            share: CopyShare::new(alloc),
+        })
+    }
+
+    /// The blank copy of a process in its processor, which was loaded again: at the beginning, in this era.
+    pub fn blank(
+        alloc: Global,
+        what: &Kind,
+        processor: u8,
+        era: u32,
+        openers: &[OpenerSpec],
+    ) -> Result<NodeCopy, NoMemory>
+        requires loadable { IsLoadableKind what.now }
+        requires few_files { length (files_of what.now) ≤ 8 }
+        requires few_openers { length openers.now ≤ 144 }
+        requires depths { All (λ opener. IsDepth opener.depth) openers.now }
+        ensures { IfOk result (λ one. one ≡ record {
+          copy = blank_copy processor era
+              (core_at_start (start_of what.now) (length (files_of what.now)) openers.now).core;
+          depths = map (λ opener. opener.depth) openers.now;
+        }) }
+    {
+        let process = load(alloc, what)?;
+        let files = files_of(what).len() as u8;
+        let control = CopyControl::blank(alloc, process, era, openers, files)?;
         let waiting = Waiting::new(alloc, openers.len() as u16)?;
         Ok(NodeCopy {
             processor,

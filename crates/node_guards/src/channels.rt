@@ -3,7 +3,8 @@ ghost use Rattle.std.specs.Option.{option_map};
 ghost use Rattle.packet_words.specs.declared.bus_name.BusName.TheVariants.{X, Y};
 ghost use Rattle.packet_words.specs.declared.packet.PacketKind.TheVariants as kind;
 ghost use Rattle.link_control.specs.Ends.{after_down, after_packet, after_push, after_tick, alive_of, handed_by_packet};
-ghost use Rattle.link_control.specs.Ends.{is_empty, sent_by_packet, sent_by_push, sent_by_tick};
+ghost use Rattle.link_control.specs.Ends.{end_after_reload, is_current, is_empty, new_end, sent_by_packet};
+ghost use Rattle.link_control.specs.Ends.{sent_by_push, sent_by_tick};
 ghost use Rattle.node_guards.specs.Channels.{acknowledgement, begun, fresh, full_piece, last_piece};
 ghost use Rattle.node_guards.specs.Packets.{message_of, packet_of};
 
@@ -59,4 +60,23 @@ pub fn an_alive_packet_goes_to_who_is_up()
     ensures up { alive_of fresh ≡ Some (packet_of 1 2 kind.Alive) }
     ensures busy { alive_of begun ≡ Some (packet_of 1 2 kind.Alive) }
     ensures down { alive_of (after_down begun) ≡ None }
+{}
+
+/// An end of a node that is loaded again, and one with it, is a new one, which bears the next incarnation of that node.
+/// Other ends stay as they are.
+pub fn an_end_is_new_after_a_reload()
+    ensures far { end_after_reload 2 begun ≡ new_end 1 2 (record { sender = 0; receiver = 1 }) }
+    ensures near { end_after_reload 1 begun ≡ new_end 1 2 (record { sender = 1; receiver = 0 }) }
+    ensures other { end_after_reload 3 begun ≡ begun }
+    ensures down { end_after_reload 2 (after_down fresh) ≡ new_end 1 2 (record { sender = 0; receiver = 1 }) }
+    ensures both { end_after_reload 1 (end_after_reload 2 begun)
+        ≡ new_end 1 2 (record { sender = 1; receiver = 1 }) }
+{}
+
+/// A packet is current until its sender or its receiver is loaded again.
+pub fn an_old_packet_is_told()
+    ensures now { is_current (full_piece 1) fresh ≡ true }
+    ensures sender { is_current (full_piece 1) (end_after_reload 2 fresh) ≡ false }
+    ensures receiver { is_current (full_piece 1) (end_after_reload 1 fresh) ≡ false }
+    ensures other { is_current (full_piece 1) (end_after_reload 3 fresh) ≡ true }
 {}

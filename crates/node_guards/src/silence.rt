@@ -1,7 +1,7 @@
 ghost use Rattle.std.specs.Prelude.{◌≡◌, true, false, Some, None};
 ghost use Rattle.alive_regroup.specs.Watching.{begun, told_by_tick, changed_at, neighbour_after_alive};
-ghost use Rattle.alive_regroup.specs.Watching.{neighbour_after_down, is_held};
-ghost use Rattle.node_guards.specs.Watches.{after_ticks, only, watch_of_report};
+ghost use Rattle.alive_regroup.specs.Watching.{after_up, is_held, is_marked, neighbour_after_down};
+ghost use Rattle.node_guards.specs.Watches.{after_ticks, heard_and_marked, only, watch_of_report};
 
 /// A processor of which nothing is heard is silent at the second check that misses it, the fourth tick, and the silent
 /// set is told then and no more.
@@ -45,4 +45,35 @@ pub fn a_line_is_pulled_by_the_lowest()
 pub fn node_16_only_listens()
     ensures told { told_by_tick (after_ticks 3 (begun 16 3)) ≡ None }
     ensures line { is_held 0 (watch_of_report 1 (only true false false) 4 16) ≡ false }
+{}
+
+/// A processor that was loaded again is silent at the second check that misses it.
+pub fn a_loaded_processor_is_watched_anew()
+    ensures first_check { told_by_tick (after_ticks 1 (changed_at 1 neighbour_after_alive (after_up 2 (begun 0 3))))
+        ≡ Some (only false false false) }
+    ensures second_check { told_by_tick (after_ticks 3 (changed_at 1 neighbour_after_alive (after_up 2 (begun 0 3))))
+        ≡ Some (only false false true) }
+{}
+
+/// What was heard of a processor before its mark counts at the next check, even if it was loaded again meanwhile; and at
+/// no later one. While it is marked nothing is heard of it.
+pub fn what_was_heard_counts_at_the_next_check()
+    ensures no_check { told_by_tick (after_ticks 3 (after_up 2 heard_and_marked)) ≡ Some (only false true false) }
+    ensures check { told_by_tick (after_ticks 3 (after_up 2 (after_ticks 2 heard_and_marked)))
+        ≡ Some (only false true true) }
+    ensures marked { told_by_tick (after_ticks 3 (after_up 2
+        (changed_at 2 neighbour_after_alive (changed_at 2 neighbour_after_down (begun 0 3)))))
+        ≡ Some (only false true true) }
+{}
+
+/// After a processor was loaded again, the next check reports even if it changes nothing, and no later one. That
+/// processor is marked no more, and nobody agrees that it is silent.
+pub fn a_reload_is_reported()
+    ensures told { told_by_tick (after_ticks 1 (after_up 2 (begun 0 3))) ≡ Some (only false false false) }
+    ensures once { told_by_tick (after_ticks 1
+        (changed_at 1 neighbour_after_alive (changed_at 2 neighbour_after_alive
+        (after_ticks 2 (after_up 2 (begun 0 3)))))) ≡ None }
+    ensures marked { is_marked 2 (after_up 2 (changed_at 2 neighbour_after_down (begun 0 3))) ≡ false }
+    ensures held { is_held 2 (after_up 2 (watch_of_report 1 (only false false true) 4 0)) ≡ false }
+    ensures forgotten { is_held 2 (after_ticks 4 (after_up 2 (watch_of_report 1 (only false false true) 4 0))) ≡ false }
 {}

@@ -11,6 +11,10 @@ first_route process = record { primary = process.primary; backup = process.backu
 abbrev pub other_processor : Route → ℕ
 other_processor route = if route.goes_to == route.primary then route.backup else route.primary
 
+-- after it was told to which processor they go from now on
+abbrev pub route_set_to : ℕ → Route → Route
+route_set_to to route = record route { goes_to = to }
+
 -- after a processor is down: where they went there they go to the other processor
 abbrev pub route_after_down : ℕ → Route → Route
 route_after_down down route =

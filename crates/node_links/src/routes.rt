@@ -1,5 +1,5 @@
-ghost use Rattle.std.specs.Prelude.{◌≡◌, ◌<◌, map, length, slice_get, option_map, Some, IfOk};
-ghost use Rattle.node_links.specs.Routing.{first_route, other_processor, route_after_down};
+ghost use Rattle.std.specs.Prelude.{◌≡◌, ◌<◌, map, length, slice_get, slice_set, option_map, Some, IfOk};
+ghost use Rattle.node_links.specs.Routing.{first_route, other_processor, route_after_down, route_set_to};
 
 use gd_words::NoMemory;
 use std::alloc::Global;
@@ -47,6 +47,15 @@ impl Routes {
         ensures { option_map (λ route. route.goes_to) (slice_get self.now process) ≡ Some result }
     {
         self.routes[usize::from(process)].goes_to
+    }
+
+    /// The requests of a process go to this processor from now on, as after a reload.
+    pub fn set(&mut self, process: u8, to: u8)
+        requires { process < length self.old }
+        ensures { option_map (λ route. slice_set self.old process (route_set_to to route)) (slice_get self.old process)
+            ≡ Some self.new }
+    {
+        self.routes[usize::from(process)].goes_to = to;
     }
 
     /// A processor is down: the requests that went to it go to the process's other processor.

@@ -50,3 +50,18 @@ fn a_route_turns_away_from_a_processor_that_is_down(rt: HostRuntime) -> Result<(
     assert_eq!(rt; routes.route(2), 0);
     Ok(())
 }
+
+#[test]
+fn a_route_is_set_to_a_processor(rt: HostRuntime) -> Result<(), Fail> {
+    let alloc = rt.alloc();
+    let site = site(alloc)?;
+    let mut routes = Routes::new(alloc, &site)?;
+    routes.down(1);
+    routes.set(1, 1);
+    assert_eq!(rt; routes.route(0), 0);
+    assert_eq!(rt; routes.route(1), 1);
+    assert_eq!(rt; routes.route(2), 2);
+    routes.down(1);
+    assert_eq!(rt; routes.route(1), 2);
+    Ok(())
+}

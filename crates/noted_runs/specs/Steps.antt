@@ -26,6 +26,7 @@ use Rattle.noted_runs.specs.declared.steps.Stood.{Stood}
 abbrev pub is_acting : Role → Bool
 is_acting role.Acting = true
 is_acting role.Watching = false
+is_acting role.Blank = false
 is_acting role.Gone = false
 
 -- the copy of a process that acts, if one does
@@ -119,6 +120,7 @@ stepped (event.Lose y k) = None
 stepped (event.Repeat y k) = None
 stepped (event.Tick node) = None
 stepped (event.Fail processor) = None
+stepped (event.Reload processor) = None
 stepped (event.Drive one) = None
 
 abbrev pub ends_of_step : Option ℕ → World → World → Ends → Ends

@@ -2,7 +2,6 @@ ghost use Rattle.std.specs.Prelude.{◌≡◌, false, None, Some, IfOk, OnOk};
 ghost use Rattle.std.specs.Option.{option_copied, option_map};
 ghost use Rattle.machine_states.specs.States.{Settles};
 ghost use Rattle.noted_rules.specs.Noted.{IsReadyToo, NotedWires, noted_play, noted_rules, with_notes};
-ghost use Rattle.noted_rules.specs.packet_runs.specs.Runs.{concerned, is_alive, sender_of};
 ghost use Rattle.processes.specs.Seen.{state_of};
 ghost use Rattle.noted_rules.specs.packet_runs.specs.site_machine.specs.Needs.{IsReady};
 ghost use Rattle.noted_runs.specs.Steps as ends;
@@ -11,8 +10,7 @@ ghost use Rattle.noted_runs.specs.Steps.{ends_after, everything_at_end, noting_e
 use crate::steps::{Stood, acting_of, end_of_spec, everything_at_end, put_end, stood_at};
 use gd_words::{List, NoMemory};
 use machine_states::Effect;
-use noted_rules::packet_runs::site_machine::Machine;
-use packet_words::{BusName, Packet, PacketKind};
+use noted_rules::packet_runs::PlayedPackets;
 use player::Player;
 use processes::Process;
 use program_ends::LastStep;
@@ -25,7 +23,7 @@ use tal_tree::Site;
 #[derive(Drop)]
 pub struct NotedPackets<'a> {
     pub alloc: Global,
-    pub machine: Machine,
+    pub packets: PlayedPackets,
     pub site: &'a Site,
     pub steps: List<Option<LastStep>>,
 }
@@ -33,32 +31,38 @@ pub struct NotedPackets<'a> {
 impl<'a> NotedPackets<'a> {
     /// Plays an event that is a step of none.
     fn other(&mut self, event: Event) -> Result<Effect, NoMemory>
-        requires ready { IsReady self.old.machine.state }
+        requires ready { IsReady self.old.packets.machine.state }
         requires stepped { stepped event ≡ None }
         ensures done { IfOk result (λ effect. Settles
             (noted_play noting_ends
-            (with_notes (record { site = self.old.site.now; steps = self.old.steps }) self.old.machine.state) event)
-            (with_notes (record { site = self.old.site.now; steps = self.old.steps }) self.old.machine.state) effect
-            (with_notes (record { site = self.new.site.now; steps = self.new.steps }) self.new.machine.state)) }
-        ensures whole { IfOk result (λ effect. self.new.machine.is_broken ≡ false) }
+            (with_notes (record { site = self.old.site.now; steps = self.old.steps })
+            self.old.packets.machine.state) event)
+            (with_notes (record { site = self.old.site.now; steps = self.old.steps })
+            self.old.packets.machine.state) effect
+            (with_notes (record { site = self.new.site.now; steps = self.new.steps })
+            self.new.packets.machine.state)) }
+        ensures whole { IfOk result (λ effect. self.new.packets.machine.is_broken ≡ false) }
     {
-        self.machine.event(event)
+        self.packets.machine.event(event)
     }
 
     /// Plays an event that is a step of a process.
     fn step(&mut self, process: u8, event: Event) -> Result<Effect, NoMemory>
-        requires ready { IsReady self.old.machine.state }
+        requires ready { IsReady self.old.packets.machine.state }
         requires stepped { stepped event ≡ Some process }
         ensures done { IfOk result (λ effect. Settles
             (noted_play noting_ends
-            (with_notes (record { site = self.old.site.now; steps = self.old.steps }) self.old.machine.state) event)
-            (with_notes (record { site = self.old.site.now; steps = self.old.steps }) self.old.machine.state) effect
-            (with_notes (record { site = self.new.site.now; steps = self.new.steps }) self.new.machine.state)) }
-        ensures whole { IfOk result (λ effect. self.new.machine.is_broken ≡ false) }
+            (with_notes (record { site = self.old.site.now; steps = self.old.steps })
+            self.old.packets.machine.state) event)
+            (with_notes (record { site = self.old.site.now; steps = self.old.steps })
+            self.old.packets.machine.state) effect
+            (with_notes (record { site = self.new.site.now; steps = self.new.steps })
+            self.new.packets.machine.state)) }
+        ensures whole { IfOk result (λ effect. self.new.packets.machine.is_broken ≡ false) }
     {
         let process = usize::from(process);
         let stood = stood_at(self.alloc, self.acting(process))?;
-        let effect = self.machine.event(event)?;
+        let effect = self.packets.machine.event(event)?;
         match effect {
             Effect::Done => {
                 self.note(process, stood)?;
@@ -73,8 +77,8 @@ impl<'a> NotedPackets<'a> {
     /// Notes the step with which a process ended that stood so before it, if it has.
     fn note(&mut self, process: usize, stood: Option<Stood>) -> Result<(), NoMemory>
         ensures steps { OnOk result (self.new.steps ≡ ends_after self.old.site.now process stood
-            (everything_at_end (state_in self.old.machine.state.world process)) self.old.steps) }
-        ensures machine { self.new.machine ≡ self.old.machine }
+            (everything_at_end (state_in self.old.packets.machine.state.world process)) self.old.steps) }
+        ensures machine { self.new.packets.machine ≡ self.old.packets.machine }
         ensures site { self.new.site ≡ self.old.site }
     {
         let Some(everything) = everything_at_end(self.alloc, self.acting(process))? else {
@@ -88,17 +92,9 @@ impl<'a> NotedPackets<'a> {
 
     /// The process of the copy that acts for the process of a number, if one does.
     fn acting(&self, process: usize) -> Option<&Process>
-        ensures { option_map state_of (option_copied result) ≡ state_in self.now.machine.state.world process }
+        ensures { option_map state_of (option_copied result) ≡ state_in self.now.packets.machine.state.world process }
     {
-        acting_of(self.machine.processes().get(process)?)
-    }
-
-    /// The packet that the next event concerns where the line goes on.
-    fn concerned(&self, player: &Player, x: u32, y: u32) -> Option<&Packet>
-        ensures { option_copied result ≡ concerned self.now.machine.state x y player.now }
-    {
-        let (bus, k) = player.aim(x, y)?;
-        self.machine.packet_at(bus, k)
+        acting_of(self.packets.machine.processes().get(process)?)
     }
 }
 
@@ -109,10 +105,10 @@ impl<'a> ScheduleMachine for NotedPackets<'a> {
 
     ghost is_ready = { IsReadyToo };
 
-    ghost state = { λ packets. with_notes (record { site = packets.site.now; steps = packets.steps })
-        packets.machine.state };
+    ghost state = { λ noted. with_notes (record { site = noted.site.now; steps = noted.steps })
+        noted.packets.machine.state };
 
-    ghost is_broken = { λ packets. packets.machine.is_broken };
+    ghost is_broken = { λ noted. noted.packets.machine.is_broken };
 
     fn event(&mut self, event: Event) -> Result<Effect, NoMemory> {
         match stepped(event) {
@@ -122,42 +118,23 @@ impl<'a> ScheduleMachine for NotedPackets<'a> {
     }
 
     fn deliver_at_once(&mut self, y: bool) -> bool {
-        self.machine.deliver_at_once(y)
+        self.packets.machine.deliver_at_once(y)
     }
 
     fn counts(&self, player: &Player, idle: bool) -> Counts {
-        let x = self.machine.count(BusName::X) as u32;
-        let y = self.machine.count(BusName::Y) as u32;
-        let packet = self.concerned(player, x, y);
-        Counts {
-            x,
-            y,
-            alive: is_alive(packet),
-            sender: sender_of(packet),
-            idle,
-            writes: self.machine.writes(),
-            replies: self.machine.replies(),
-        }
+        self.packets.counts(player, idle)
     }
 
     fn tally(&self, idle: bool) -> Counts {
-        Counts {
-            x: self.machine.count(BusName::X) as u32,
-            y: self.machine.count(BusName::Y) as u32,
-            alive: false,
-            sender: 0,
-            idle,
-            writes: self.machine.writes(),
-            replies: self.machine.replies(),
-        }
+        self.packets.tally(idle)
     }
 
     fn is_idle(&self) -> bool {
-        self.machine.is_idle()
+        self.packets.machine.is_idle()
     }
 
     fn close(&mut self) -> Result<(), NoMemory> {
-        self.machine.close()
+        self.packets.machine.close()
     }
 }
 
@@ -173,26 +150,7 @@ fn stepped(event: Event) -> Option<u8>
         Event::Repeat { y: _, k: _ } => None,
         Event::Tick(_) => None,
         Event::Fail(_) => None,
+        Event::Reload(_) => None,
         Event::Drive(_) => None,
-    }
-}
-
-/// Whether this is an alive packet.
-fn is_alive(packet: Option<&Packet>) -> bool
-    ensures { result ≡ is_alive (option_copied packet.entry) }
-{
-    match packet {
-        None => false,
-        Some(packet) => matches!(packet.kind, PacketKind::Alive),
-    }
-}
-
-/// The node that sent a packet, or node 0 where there is none.
-fn sender_of(packet: Option<&Packet>) -> u8
-    ensures { result ≡ sender_of (option_copied packet.entry) }
-{
-    match packet {
-        None => 0,
-        Some(packet) => packet.sender,
     }
 }

@@ -1,5 +1,5 @@
 ghost use Rattle.std.specs.Prelude.{◌≡◌, None, replicate, IfOk};
-ghost use Rattle.noted_rules.specs.packet_runs.specs.Runs.{course_on, packet_rules, sizes_of};
+ghost use Rattle.noted_rules.specs.packet_runs.specs.Runs.{course_on, packet_rules};
 ghost use Rattle.noted_rules.specs.packet_runs.specs.process_copies.specs.Starting.{IsStartable};
 ghost use Rattle.noted_rules.specs.packet_runs.specs.site_machine.specs.Needs.{IsReady};
 ghost use Rattle.schedule_loop.specs.Ends.{CanBePlayed};
@@ -8,9 +8,8 @@ ghost use Rattle.noted_runs.specs.Runs.{IsRunWithSteps};
 use crate::noted::NotedPackets;
 use gd_words::{List, NoMemory};
 use logs::Shared;
-use noted_rules::packet_runs::Ran;
-use noted_rules::packet_runs::site_machine::Machine;
-use player::{ProcessorStop, Sizes};
+use noted_rules::packet_runs::{PlayedPackets, Ran, sizes_of};
+use player::ProcessorStop;
 use program_ends::LastStep;
 use schedule::Line;
 use std::alloc::Global;
@@ -35,25 +34,25 @@ pub fn run(
     requires can { CanBePlayed packet_rules IsReady (course_on site.now lines.now stop) }
     ensures { IfOk result (λ ran. IsRunWithSteps site.now lines.now stop ran) }
 {
-    let machine = Machine::boot(alloc, site)?;
+    let packets = PlayedPackets::boot(alloc, site)?;
     let site = site.get();
     let steps = none_ended(alloc, site.processes.len())?;
     let noted = NotedPackets {
         alloc,
-        machine,
+        packets,
         site,
         steps,
     };
     let ran = schedule_loop::run(noted, sizes_of(site), lines, stop)?;
     let NotedPackets {
         alloc: _,
-        machine,
+        packets,
         site: _,
         steps,
     } = ran.machine;
     Ok(NotedRan {
         ran: Ran {
-            machine,
+            machine: packets.machine,
             asked: ran.asked,
             ending: ran.ending,
         },
@@ -70,16 +69,4 @@ fn none_ended(alloc: Global, count: usize) -> Result<List<Option<LastStep>>, NoM
         steps.push(None)?;
     }
     Ok(steps)
-}
-
-/// How many processors, processes and terminals a site has.
-fn sizes_of(site: &Site) -> Sizes
-    requires { IsStartable site.now }
-    ensures { result ≡ sizes_of site.now }
-{
-    Sizes {
-        processors: site.processors,
-        processes: site.processes.len() as u8,
-        terminals: site.terminals.len() as u8,
-    }
 }

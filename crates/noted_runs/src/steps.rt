@@ -44,6 +44,7 @@ fn is_acting(role: Role) -> bool
     match role {
         Role::Acting => true,
         Role::Watching => false,
+        Role::Blank => false,
         Role::Gone => false,
     }
 }

@@ -1,36 +1,39 @@
 -- How many letters were posted at most after so many events: each event sends one at most, but for marks, which are
 -- few.
 use Rattle.std.proofs.Common.{◌≡◌, ◌≤◌, ◌<◌, ℕ, zero, suc, ◌+◌, ◌*◌, ◌^◌, Bool, true, false, not, if◌then◌else◌, List}
-use Rattle.std.proofs.Common.{[], ◌∷◌, ◌++◌, length, Option, Some, None, slice_get, refl, ap, sym, subst, arith}
-use Rattle.std.proofs.Common.{length-append}
+use Rattle.std.proofs.Common.{[], ◌∷◌, ◌++◌, length, Option, Some, None, slice_get, refl, ap₂, sym, subst, arith}
+use Rattle.std.proofs.Common.{◌&&◌, length-append}
 use Rattle.std.proofs.lemmas.Bool.{eqb-true}
-use Rattle.std.proofs.lemmas.List.{length-map, length-replicate}
+use Rattle.std.proofs.lemmas.List.{length-map, length-replicate, length-set}
 use Rattle.tal_tree.specs.declared.site.ProcessSpec.{ProcessSpec}
 use Rattle.tal_tree.specs.declared.site.Site.{Site}
 use Rattle.tal_tree.specs.declared.site.TerminalSpec.{TerminalSpec}
 use Rattle.schedule.specs.declared.event.Event.{Event}
-use Rattle.schedule.specs.declared.event.Event.TheVariants.{Run, Enter, Deliver, Lose, Repeat, Tick, Fail, Drive}
+use Rattle.schedule.specs.declared.event.Event.TheVariants.{Run, Enter, Deliver, Lose, Repeat, Tick, Fail, Reload}
+use Rattle.schedule.specs.declared.event.Event.TheVariants.{Drive}
 use Rattle.world_semantics.specs.Rules.{pair_at_down}
 use Rattle.world_semantics.specs.Running.{Done}
 use Rattle.world_semantics.specs.World.{World, has_noted, is_running, pairs_at_boot, runs_by, terminal_node}
 use Rattle.world_semantics.proofs.Roles.{both-true}
 use Rattle.computed_changes.specs.Handed.{handed_done}
-use Rattle.computed_changes.specs.Stopped.{world_at_down, may_note, marked_where, mark_where, down_done}
+use Rattle.computed_changes.specs.Stopped.{world_at_down, may_note, marked_where, mark_where, down_done, reload_done}
 use Rattle.letters.specs.Routes.{Letter, letters_of}
 use Rattle.letters.specs.Again.{sent_again}
-use Rattle.machine_states.specs.States.{Played, Makes, Skips, Would, SecondStop}
+use Rattle.machine_states.specs.States.{Played, Makes, Skips, Would}
 use Rattle.message_wires.specs.Wires.{Sent, Wires, wires_after_post, wires_after_posts, paid, paid_between}
-use Rattle.message_wires.specs.Wires.{without_packet}
+use Rattle.message_wires.specs.Wires.{is_present, without_packet}
 use Rattle.message_wires.specs.Play.{MachineState, machine_at_boot, after_done, made_by, after_any, state_after_handing}
-use Rattle.message_wires.specs.Play.{comes_in, deliver_played, lose_played, repeat_played, has_stopped, fail_played}
-use Rattle.message_wires.specs.Play.{noted_by, notes_from, state_after_tick, tick_played, packet_at, play}
+use Rattle.message_wires.specs.Play.{comes_in, deliver_played, lose_played, repeat_played, stop_played, fail_played}
+use Rattle.message_wires.specs.Play.{reload_played, noted_by, notes_from, state_after_tick, tick_played, packet_at}
+use Rattle.message_wires.specs.Play.{play}
 use Rattle.message_wires.specs.Runs.{IsPlayed, played_none, played_more, skipped}
-use Rattle.number_laws.proofs.Within.{AnyWithin}
+use Rattle.number_laws.proofs.Within.{AnyWithin, WatchersWithin, watchers-within}
 use Rattle.number_laws.proofs.Quiet.{IsQuiet, IsQuietAny, run-quiet, enter-quiet, handed-quiet, stop-quiet}
-use Rattle.number_laws.proofs.Unmarked.{left_marks, left-less, left-most}
+use Rattle.number_laws.proofs.Unmarked.{left_marks, left-less, left-most, left-reloaded}
 use Rattle.number_laws.proofs.Letters.{letters-few, mark-few}
-use Rattle.number_laws.proofs.Marks.{mark-within}
-use Rattle.number_laws.proofs.Played.{WholeWithin, kinds_of, later, marked-within, played-within}
+use Rattle.number_laws.proofs.Marks.{mark-watchers, mark-within}
+use Rattle.number_laws.proofs.Reloads.{reload-cases, reloaded-length}
+use Rattle.number_laws.proofs.Played.{WholeWithin, kinds_of, later, marked-watchers, marked-within, played-within}
 use Rattle.machine_states.proofs.Turning.{drive-cases}
 
 posted-count : (letters : List Letter) (wires : Wires)
@@ -64,7 +67,7 @@ record IsSmall (w : World) : Type 0 where
 
 record Counted (n : ℕ) (s : MachineState) : Type 0 where
   small : IsSmall s.world
-  count : s.wires.count + left_marks s.world.marks * 206158430208 ≤ n + 13510798882111488
+  count : s.wires.count + left_marks s.world.marks s.world.reloads * 206158430208 ≤ n + 1722679634027347968
 
 abbrev CountedPlayed : ℕ → Played Wires → Type 0
 CountedPlayed n (Makes next) = Counted n next
@@ -92,7 +95,7 @@ module _ (n : ℕ) where
         let wires_after_post = posted-count (letters_of s.site done.world done.sendings) s.wires in
         let fewer = letters-few s.site done.world done.sendings in
         let few = quiet.few in
-        let same = ap left_marks quiet.marks in
+        let same = ap₂ left_marks quiet.marks quiet.reloads in
         let low = is.count in
         omega (arith, wires_after_post, fewer, few, same, low);
   }
@@ -110,7 +113,8 @@ module _ (n : ℕ) where
   deliver-counted : (k : ℕ) (s : MachineState) (packet : Option Sent) → Counted n s
       → CountedPlayed (n + 1) (deliver_played k s packet)
   deliver-counted k s None is = tt
-  deliver-counted k s (Some packet) is = by (comes_in (record s { wires = without_packet k s.wires }) packet.letter)
+  deliver-counted k s (Some packet) is =
+      by (is_present s.wires.before packet && comes_in (record s { wires = without_packet k s.wires }) packet.letter)
     where
       by : (test : Bool)
           → Counted (n + 1)
@@ -133,15 +137,40 @@ module _ (n : ℕ) where
   repeat-counted s None is = tt
   repeat-counted s (Some packet) is = counted-more n _ (counted-wires n s _ refl is)
 
-  fail-counted : (processor : ℕ) (s : MachineState) (done : Option Done) → Counted n s → IsQuietAny s.world done
-      → CountedPlayed (n + 1) (fail_played processor s done)
-  fail-counted processor s None is quiet = tt
-  fail-counted processor s (Some done) is quiet = by (has_stopped s.world.stopped)
-    where
-      by : (test : Bool) → CountedPlayed (n + 1) (if test then Would (SecondStop processor)
-          else Makes (after_done s done))
-      by true = tt
-      by false = done-counted s done is quiet
+  stopped-counted : (processor : ℕ) (s : MachineState) (done : Option Done) → Counted n s → IsQuietAny s.world done
+      → CountedPlayed (n + 1) (stop_played processor s done)
+  stopped-counted processor s None is quiet = tt
+  stopped-counted processor s (Some done) is quiet = done-counted s done is quiet
+
+  fail-counted : (processor : ℕ) (s : MachineState) (there : Option Bool) → Counted n s
+      → CountedPlayed (n + 1) (fail_played processor s there)
+  fail-counted processor s None is = tt
+  fail-counted processor s (Some true) is = tt
+  fail-counted processor s (Some false) is =
+      stopped-counted processor s _ is (stop-quiet s.site s.world processor)
+
+  -- a reload sends nothing, and the marks that it takes away are made up for by the reloads that are left
+  reload-counted : (processor : ℕ) (s : MachineState) → Counted n s
+      → CountedPlayed (n + 1) (reload_played processor s (reload_done s.site processor s.world))
+  reload-counted processor s is =
+      reload-cases (λ done. CountedPlayed (n + 1) (reload_played processor s done)) s.site processor s.world tt
+      (λ times can. record {
+        small = record {
+          stopped =
+              let same = length-set s.world.stopped processor false in
+              let few = is.small.stopped in
+              omega (arith, same, few);
+          processes =
+              let same = reloaded-length s.site processor 0 s.world.processes in
+              let few = is.small.processes in
+              omega (arith, same, few);
+          terminals = is.small.terminals;
+        };
+        count =
+            let fewer = left-reloaded processor times s.world.marks s.world.reloads can.there can.few in
+            let low = is.count in
+            omega (arith, fewer, low);
+      })
 
 -- Marks
 
@@ -161,11 +190,13 @@ not-marked : (test : Bool) → not test ≡ true → test ≡ false
 not-marked true is = absurd (cc)
 not-marked false is = refl
 
-module _ (n : ℕ) (kinds : ℕ → Bool) (low : n ≤ 4294967295) where
-  mark-counted : (node processor : ℕ) (s : MachineState) → WholeWithin n kinds s → Counted n s
+module _ (n before : ℕ) (less : before < n) (kinds : ℕ → Bool) (low : n ≤ 4294967295) where
+  mark-counted : (node processor : ℕ) (s : MachineState) → WholeWithin n kinds s
+      → WatchersWithin before s.world.processes → Counted n s
       → Counted n (noted_by node processor s (down_done node processor s.world))
-  mark-counted node processor s within is =
-      by (slice_get s.world.stopped processor) refl (mark-within n kinds s.world within.0 node processor)
+  mark-counted node processor s within watchers is =
+      by (slice_get s.world.stopped processor) refl
+      (mark-within n kinds s.world within.0 before node processor less watchers)
     where
       marks : may_note node processor s.world ≡ true → slice_get s.world.stopped processor ≡ Some true
           → AnyWithin n kinds (Some (world_at_down node processor s.world))
@@ -175,7 +206,7 @@ module _ (n : ℕ) (kinds : ℕ → Bool) (low : n ≤ 4294967295) where
           let node_low = running-low s.world.stopped node is.small.stopped both.0 in
           let down = there-low s.world.stopped processor true there in
           let few = is.small.stopped in
-          let left = left-less (record { node = node; down = processor }) s.world.marks node_low
+          let left = left-less (record { node = node; down = processor }) s.world.marks s.world.reloads node_low
           (omega (arith, down, few)) (not-marked _ both.1) in
           let processes : length (world_at_down node processor s.world).world.processes ≡ length s.world.processes =
           length-map s.world.processes (pair_at_down node processor) in
@@ -191,14 +222,14 @@ module _ (n : ℕ) (kinds : ℕ → Bool) (low : n ≤ 4294967295) where
           ((world_at_down node processor s.world).sendings
           ++ sent_again s.site s.world (world_at_down node processor s.world).world node processor))
           (paid_between node processor s.wires) in
-          let before = is.count in
+          let was = is.count in
           record {
             small = record {
               stopped = few;
               processes = omega (arith, processes, few_processes);
               terminals = is.small.terminals;
             };
-            count = omega (arith, left, letters, fewer, wires_after_post, before);
+            count = omega (arith, left, letters, fewer, wires_after_post, was);
           }
 
       where_may : (test : Bool) → may_note node processor s.world ≡ test
@@ -215,23 +246,25 @@ module _ (n : ℕ) (kinds : ℕ → Bool) (low : n ≤ 4294967295) where
       by (Some false) there done = is
       by (Some true) there done = where_may (may_note node processor s.world) refl there done
 
-  marks-counted : (node processor left : ℕ) (s : MachineState) → WholeWithin n kinds s → Counted n s
-      → Counted n (notes_from node processor left s)
-  marks-counted node processor zero s within is = is
-  marks-counted node processor (suc left) s within is =
+  marks-counted : (node processor left : ℕ) (s : MachineState) → WholeWithin n kinds s
+      → WatchersWithin before s.world.processes → Counted n s → Counted n (notes_from node processor left s)
+  marks-counted node processor zero s within watchers is = is
+  marks-counted node processor (suc left) s within watchers is =
       marks-counted node (processor + 1) left _
       (marked-within n kinds node processor s (down_done node processor s.world) within
-      (mark-within n kinds s.world within.0 node processor))
-      (mark-counted node processor s within is)
+      (mark-within n kinds s.world within.0 before node processor less watchers))
+      (marked-watchers n kinds before node processor s (down_done node processor s.world) watchers
+      (mark-watchers before s.world node processor watchers))
+      (mark-counted node processor s within watchers is)
 
-  tick-counted : (node : ℕ) (s : MachineState) → WholeWithin n kinds s → Counted n s
-      → CountedPlayed n (tick_played node s)
-  tick-counted node s within is = by (is_running s.world.stopped node)
+  tick-counted : (node : ℕ) (s : MachineState) → WholeWithin n kinds s → WatchersWithin before s.world.processes
+      → Counted n s → CountedPlayed n (tick_played node s)
+  tick-counted node s within watchers is = by (is_running s.world.stopped node)
     where
       by : (test : Bool) → CountedPlayed n (if test then Makes
           (state_after_tick node (notes_from node 0 (length s.world.stopped) s)) else Skips)
       by true = counted-wires n (notes_from node 0 (length s.world.stopped) s) _ refl
-          (marks-counted node 0 (length s.world.stopped) s within is)
+          (marks-counted node 0 (length s.world.stopped) s within watchers is)
       by false = tt
 
 -- Events
@@ -245,8 +278,10 @@ module _ (n : ℕ) (kinds : ℕ → Bool) (low : n < 4294967295) (s : MachineSta
   play-counted (Lose y k) = lose-counted n k s (packet_at s y k) is
   play-counted (Repeat y k) = repeat-counted n s (packet_at s y k) is
   play-counted (Tick node) =
-      tick-counted (n + 1) kinds (omega (arith, low)) node s (later n kinds low s within) (counted-more n s is)
-  play-counted (Fail processor) = fail-counted n processor s _ is (stop-quiet s.site s.world processor)
+      tick-counted (n + 1) n (omega arith) kinds (omega (arith, low)) node s (later n kinds low s within)
+      (watchers-within n kinds s.world within.0) (counted-more n s is)
+  play-counted (Fail processor) = fail-counted n processor s _ is
+  play-counted (Reload processor) = reload-counted n processor s is
   play-counted (Drive event) =
       let more = counted-more n s is in
       drive-cases event s (CountedPlayed (n + 1)) (λ drives. record { small = more.small; count = more.count }) tt
@@ -268,7 +303,7 @@ boot-counted site processes terminals processors = record {
         length-map site.terminals (λ (terminal : TerminalSpec). record { entered = 0; printed = 0 }) in
         omega (arith, same, terminals);
   };
-  count = let most = left-most [] in omega (arith, most);
+  count = let most = left-most [] site.processors processors in omega (arith, most);
 }
 
 module _ (site : Site) (processes : length site.processes ≤ 16) (terminals : length site.terminals ≤ 16)

@@ -2,7 +2,7 @@
 use Rattle.std.specs.List.{filter}
 use Rattle.std.proofs.Common.{◌≡◌, ◌≤◌, ◌<◌, ℕ, ◌+◌, ◌==◌, ◌&&◌, Bool, true, false, List, [], ◌∷◌, ◌++◌, length, Option}
 use Rattle.std.proofs.Common.{Some, None, is_some, slice_get, slice_set, map, option_map, option_and_then, refl, sym}
-use Rattle.std.proofs.Common.{subst, arith, length-append, not, if◌then◌else◌}
+use Rattle.std.proofs.Common.{subst, arith, length-append, nat_lt, not, if◌then◌else◌}
 use Rattle.std.proofs.lemmas.Bool.{eqb-true}
 use Rattle.gd_words.specs.declared.message.Request.{Request}
 use Rattle.gd_words.specs.declared.message.Reply.{Reply}
@@ -11,6 +11,8 @@ use Rattle.tal_tree.specs.declared.site.Site.{Site}
 use Rattle.tal_tree.specs.declared.site.Who.{Who}
 use Rattle.tal_tree.specs.declared.site.Who.TheVariants as who
 use Rattle.process_semantics.specs.declared.disc.DiscState.{DiscState}
+use Rattle.process_semantics.specs.declared.point.Point.{Point}
+use Rattle.process_semantics.specs.declared.point.Point.TheVariants as point
 use Rattle.process_semantics.specs.Process as process
 use Rattle.process_semantics.specs.Process.{ProcessState, Runs, Serves}
 use Rattle.process_semantics.specs.Image.{restored, restored_disc, restored_program}
@@ -24,14 +26,17 @@ use Rattle.checkpoint_image.specs.declared.message.TakenMessage.{TakenMessage}
 use Rattle.checkpoint_image.specs.declared.receive.ReceiveBlock.{ReceiveBlock}
 use Rattle.checkpoint_image.specs.Receive.{is_outdone, is_same_opener, is_waiting, standing, waits, came, repeated}
 use Rattle.world_semantics.specs.declared.role.Role.{Role}
-use Rattle.world_semantics.specs.declared.role.Role.TheVariants.{Acting, Watching, Gone}
+use Rattle.world_semantics.specs.declared.role.Role.TheVariants.{Acting, Watching, Blank, Gone}
 use Rattle.world_semantics.specs.declared.which.Which.{Which}
 use Rattle.world_semantics.specs.declared.which.Which.TheVariants.{First, Second}
 use Rattle.world_semantics.specs.Core.{Core, core_getting, with_files, put_in}
 use Rattle.world_semantics.specs.Messages.{Message, Asking, Replying, Checkpointing, Taking, sent_at}
 use Rattle.world_semantics.specs.Own.{around}
-use Rattle.world_semantics.specs.Passes.{after_applying, kept_at_checkpoint}
+use Rattle.world_semantics.specs.Kept.{own_acts}
+use Rattle.world_semantics.specs.Passes.{after_applying, after_applying_behind, after_told, kept_at, point_at}
 use Rattle.world_semantics.specs.Records.{records_of}
+use Rattle.world_semantics.specs.Running.{in_world}
+use Rattle.world_semantics.specs.Shares.{acts_at}
 use Rattle.world_semantics.specs.World.{Copy, Pair, Terminal, World, copy_of, other_of, with_copy}
 use Rattle.world_semantics.proofs.Lifted.{lifted}
 use Rattle.world_semantics.proofs.Lists.{some-same}
@@ -40,8 +45,9 @@ use Rattle.computed_changes.specs.Fitting.{depths_of, fits, put_where, put_fitti
 use Rattle.computed_changes.specs.Checkpoints.{is_next_for, is_of_last}
 use Rattle.computed_changes.specs.Handed.{brought_to, copy_in, handed_done, replied_done, step_by}
 use Rattle.computed_changes.specs.Replies.{awaits, awaits_at, printed_at, printed_done, printed_where}
-use Rattle.computed_changes.proofs.Lifted.{acknowledged_where, applied_done, applied_made, applied_where, asked_done}
-use Rattle.computed_changes.proofs.Lifted.{checkpoint_done, got_done, got_where, taken_done}
+use Rattle.computed_changes.specs.Requests.{early_step}
+use Rattle.computed_changes.proofs.Lifted.{acknowledged_where, applied_as, applied_done, applied_made, applied_where}
+use Rattle.computed_changes.proofs.Lifted.{asked_done, checkpoint_done, got_done, got_where, taken_done}
 use Rattle.number_laws.proofs.Each.{Each, each-get, each-set}
 use Rattle.number_laws.proofs.Within.{StateWithin, AreNext, CoreWithin, CopyWithin, PairWithin, ImageWithin}
 use Rattle.number_laws.proofs.Within.{MessageWithin, AreSendings, WorldWithin, DoneWithin, AnyWithin, TerminalWithin}
@@ -202,7 +208,18 @@ module _ (n : ℕ) (kinds : ℕ → Bool) (w : World) (within : WorldWithin n ki
             })
         by false = tt
     got-within reply Watching = tt
+    got-within reply Blank = tt
     got-within reply Gone = tt
+
+  early-within : (request : Request) (k : Which) (pair : Pair) → slice_get w.processes request.process ≡ Some pair
+      → DoneWithin (n + 1) kinds (in_world request.process w (early_step k pair (records_of w) request))
+  early-within request k pair there = record {
+    world = changed request.process k pair there
+        (record (copy_of k pair) { waiting = waits (copy_of k pair).waiting request })
+        (with-wait request.process k pair there _ (waits-few (copy_of k pair).waiting request))
+        (same-held request.process k pair there);
+    sendings = tt;
+  }
 
   asked-within : (request : Request) (k : Which) (pair : Pair) → slice_get w.processes request.process ≡ Some pair
       → (role : Role)
@@ -215,13 +232,8 @@ module _ (n : ℕ) (kinds : ℕ → Bool) (w : World) (within : WorldWithin n ki
         (same-held request.process k pair there);
     sendings = replies-within (n + 1) kinds (copy_of k pair).processor (repeated (copy_of k pair).core.receive request);
   }
-  asked-within request k pair there Watching = record {
-    world = changed request.process k pair there
-        (record (copy_of k pair) { waiting = waits (copy_of k pair).waiting request })
-        (with-wait request.process k pair there _ (waits-few (copy_of k pair).waiting request))
-        (same-held request.process k pair there);
-    sendings = tt;
-  }
+  asked-within request k pair there Watching = early-within request k pair there
+  asked-within request k pair there Blank = early-within request k pair there
   asked-within request k pair there Gone = tt
 
   -- a terminal is changed
@@ -277,47 +289,104 @@ module _ (n : ℕ) (kinds : ℕ → Bool) (w : World) (within : WorldWithin n ki
     sum-of : (copy : Copy) → length (copy.held ++ w.kept) ≡ length copy.held + length w.kept
     sum-of copy = length-append copy.held w.kept
 
+    -- with its step at its checkpoint, if it stands at one
+    point-few : (stands : Point) → length (acts_at number stands) ≤ 1
+    point-few point.AtCheckpoint = omega arith
+    point-few point.Inner = omega arith
+    point-few point.Take = omega arith
+    point-few point.Ask = omega arith
+    point-few point.Await = omega arith
+    point-few point.Answer = omega arith
+    point-few point.Device = omega arith
+    point-few point.Ended = omega arith
+
+    at-of : (copy : Copy) → length (kept_at number copy w.kept) ≤ length copy.held + length w.kept + 1
+    at-of copy =
+        let one = point-few (point_at copy) in
+        let sum = sum-of copy in
+        let all = length-append (acts_at number (point_at copy)) (copy.held ++ w.kept) in
+        omega (arith, one, sum, all)
+
     applied-pair : (k : Which) (applied : Core) → CoreWithin (n + 1) (kinds number) applied → message.number ≤ n + 1
         → PairWithin (n + 1) (kinds number) (after_applying number k message applied w.kept pair)
     applied-pair First applied core-is few =
         let is = pair-there n kinds w within number pair there in
         let other = own-few number (pair.second.held ++ w.kept) in
-        let all = own-few number (kept_at_checkpoint number pair.second w.kept) in
+        let all = own-few number (kept_at number pair.second w.kept) in
+        let most = at-of pair.second in
         let sum = sum-of pair.second in
         let acts = within.acts in (
           (core-is, few, is.0.2, is.0.3, is.0.4),
           (is.1.0, is.1.1, is.1.2, omega (arith, other, sum, acts, held-two), is.1.4),
-          omega (arith, all, sum, acts, held-two),
+          omega (arith, all, most, acts, held-two),
         )
     applied-pair Second applied core-is few =
         let is = pair-there n kinds w within number pair there in
         let other = own-few number (pair.first.held ++ w.kept) in
-        let all = own-few number (kept_at_checkpoint number pair.first w.kept) in
+        let all = own-few number (kept_at number pair.first w.kept) in
+        let most = at-of pair.first in
         let sum = sum-of pair.first in
         let acts = within.acts in (
           (is.0.0, is.0.1, is.0.2, omega (arith, other, sum, acts, held-two), is.0.4),
           (core-is, few, is.1.2, is.1.3, is.1.4),
-          omega (arith, all, sum, acts, held-two),
+          omega (arith, all, most, acts, held-two),
         )
 
+    -- where the other copy is behind the kept acts, the base is where it stands
+    behind-pair : (k : Which) (applied : Core) → CoreWithin (n + 1) (kinds number) applied → message.number ≤ n + 1
+        → PairWithin (n + 1) (kinds number) (after_applying_behind number k message applied pair)
+    behind-pair First applied core-is few =
+        let is = pair-there n kinds w within number pair there in
+        let low = (within.pairs number pair there).1.3 in
+        let own = own-few number (acts_at number (point_at pair.second)) in
+        let one = point-few (point_at pair.second) in
+        ((core-is, few, is.0.2, is.0.3, is.0.4), is.1, omega (arith, low, own, one))
+    behind-pair Second applied core-is few =
+        let is = pair-there n kinds w within number pair there in
+        let low = (within.pairs number pair there).0.3 in
+        let own = own-few number (acts_at number (point_at pair.first)) in
+        let one = point-few (point_at pair.first) in
+        (is.0, (core-is, few, is.1.2, is.1.3, is.1.4), omega (arith, low, own, one))
+
+    behind-acts : (k : Which) (applied : Core)
+        → length w.kept + held_in (slice_set w.processes number (after_applying_behind number k message applied pair))
+        ≤ n + 1
+    behind-acts First applied =
+        let all = held-set w.processes number pair (after_applying_behind number First message applied pair) there in
+        let acts = within.acts in
+        omega (arith, all, acts)
+    behind-acts Second applied =
+        let all = held-set w.processes number pair (after_applying_behind number Second message applied pair) there in
+        let acts = within.acts in
+        omega (arith, all, acts)
+
     applied-acts : (k : Which) (applied : Core)
-        → length (kept_at_checkpoint number (copy_of (other_of k) pair) w.kept)
+        → length (kept_at number (copy_of (other_of k) pair) w.kept)
         + held_in (slice_set w.processes number (after_applying number k message applied w.kept pair))
         ≤ n + 1
     applied-acts First applied =
         let all = held-set w.processes number pair (after_applying number First message applied w.kept pair) there in
-        let sum = sum-of pair.second in
+        let most = at-of pair.second in
         let acts = within.acts in
-        omega (arith, all, sum, acts)
+        omega (arith, all, most, acts)
     applied-acts Second applied =
         let all = held-set w.processes number pair (after_applying number Second message applied w.kept pair) there in
-        let sum = sum-of pair.first in
+        let most = at-of pair.first in
         let acts = within.acts in
-        omega (arith, all, sum, acts)
+        omega (arith, all, most, acts)
 
-    applied-within : (k : Which) (applied : Core) → CoreWithin (n + 1) (kinds number) applied → message.number ≤ n + 1
-        → DoneWithin (n + 1) kinds (applied_done message k pair w applied)
-    applied-within k applied core-is few = record {
+    as-within : (k : Which) (applied : Core) → CoreWithin (n + 1) (kinds number) applied → message.number ≤ n + 1
+        → (behind : Bool) → DoneWithin (n + 1) kinds (applied_as message k pair w applied behind)
+    as-within k applied core-is few true = record {
+      world = record {
+        pairs = pairs-set n kinds w within number _ (behind-pair k applied core-is few);
+        acts = behind-acts k applied;
+        shown = shown-later;
+        terminals = terminals-later;
+      };
+      sendings = (tt, tt);
+    }
+    as-within k applied core-is few false = record {
       world = record {
         pairs = pairs-set n kinds w within number _ (applied-pair k applied core-is few);
         acts = applied-acts k applied;
@@ -326,6 +395,11 @@ module _ (n : ℕ) (kinds : ℕ → Bool) (w : World) (within : WorldWithin n ki
       };
       sendings = (tt, tt);
     }
+
+    applied-within : (k : Which) (applied : Core) → CoreWithin (n + 1) (kinds number) applied → message.number ≤ n + 1
+        → DoneWithin (n + 1) kinds (applied_done message k pair w applied)
+    applied-within k applied core-is few =
+        as-within k applied core-is few (nat_lt (copy_of (other_of k) pair).position (own_acts number w.kept))
 
     next-number : (copy : Copy) → is_next_for copy.era copy.number message ≡ true → copy.number ≤ n
         → message.number ≤ n + 1
@@ -337,10 +411,9 @@ module _ (n : ℕ) (kinds : ℕ → Bool) (w : World) (within : WorldWithin n ki
         by true false same given = absurd (cc)
         by false number same given = absurd (cc)
 
-    checkpoint-within : (k : Which) (role : Role) → AnyWithin (n + 1) kinds (checkpoint_done site message k pair w role)
-    checkpoint-within k Acting = tt
-    checkpoint-within k Gone = tt
-    checkpoint-within k Watching = by (is_next_for (copy_of k pair).era (copy_of k pair).number message) refl
+    next-within : (k : Which) → AnyWithin (n + 1) kinds
+        (applied_where site message k pair w (is_next_for (copy_of k pair).era (copy_of k pair).number message))
+    next-within k = by (is_next_for (copy_of k pair).era (copy_of k pair).number message) refl
       where
         before : CopyWithin n (kinds number) (copy_of k pair)
         before = copy-there n (kinds number) k pair (within.pairs number pair there)
@@ -364,6 +437,12 @@ module _ (n : ℕ) (kinds : ℕ → Bool) (w : World) (within : WorldWithin n ki
             (put_fitting (depths_of site message.process) (copy_of k pair).core message.image) refl
         by false next = tt
 
+    checkpoint-within : (k : Which) (role : Role) → AnyWithin (n + 1) kinds (checkpoint_done site message k pair w role)
+    checkpoint-within k Acting = tt
+    checkpoint-within k Gone = tt
+    checkpoint-within k Watching = next-within k
+    checkpoint-within k Blank = next-within k
+
   taken-within : (taken : TakenMessage) (k : Which) (pair : Pair) → slice_get w.processes taken.process ≡ Some pair
       → (role : Role)
       → AnyWithin (n + 1) kinds (taken_done taken k pair w role)
@@ -372,13 +451,14 @@ module _ (n : ℕ) (kinds : ℕ → Bool) (w : World) (within : WorldWithin n ki
     where
       by : (test : Bool) → AnyWithin (n + 1) kinds (acknowledged_where taken k pair w test)
       by true = record {
-        world = changed taken.process k pair there (record (copy_of k pair) { acknowledged = true })
+        world = changed taken.process k pair there (after_told (copy_of k pair))
             (own taken.process k pair there)
             (same-held taken.process k pair there);
         sendings = tt;
       }
       by false = tt
   taken-within taken k pair there Watching = tt
+  taken-within taken k pair there Blank = tt
   taken-within taken k pair there Gone = tt
 
   pub handed-within : (node : ℕ) (message : Message) → MessageWithin (n + 1) kinds message

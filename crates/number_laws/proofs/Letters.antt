@@ -18,7 +18,7 @@ use Rattle.checkpoint_image.specs.declared.receive.OpenerBlock.{OpenerBlock}
 use Rattle.checkpoint_image.specs.declared.receive.ReceiveBlock.{ReceiveBlock}
 use Rattle.checkpoint_image.specs.Receive.{all_repeated, answered, holds, repeated, standing}
 use Rattle.world_semantics.specs.declared.role.Role.{Role}
-use Rattle.world_semantics.specs.declared.role.Role.TheVariants.{Acting, Watching, Gone}
+use Rattle.world_semantics.specs.declared.role.Role.TheVariants.{Acting, Watching, Blank, Gone}
 use Rattle.world_semantics.specs.declared.which.Which.{Which}
 use Rattle.world_semantics.specs.declared.which.Which.TheVariants.{First, Second}
 use Rattle.world_semantics.specs.Core.{Core}
@@ -144,6 +144,7 @@ module _ (site : Site) (before : World) (node processor : ℕ) where
       by true = omega arith
       by false = omega arith
   acts-few Watching at messages = omega arith
+  acts-few Blank at messages = omega arith
   acts-few Gone at messages = omega arith
 
   asks-few : (number : ℕ) (copy : Copy) → length (asks_again site before node processor number copy) ≤ 1

@@ -1,4 +1,5 @@
 pub mod Acts
+pub mod Boot
 pub mod Counts
 pub mod Each
 pub mod Hands
@@ -8,6 +9,7 @@ pub mod Marks
 pub mod Openers
 pub mod Played
 pub mod Quiet
+pub mod Reloads
 pub mod Requests
 pub mod Runs
 pub mod Unmarked

@@ -1,5 +1,6 @@
--- A stop and a mark raise no number; what a mark sends are requests and replies.
-use Rattle.std.proofs.Common.{◌≡◌, ◌≤◌, ℕ, ◌+◌, ◌==◌, Bool, true, false, if◌then◌else◌, List, [], ◌∷◌, ◌++◌, Option}
+-- A stop raises no number, and a mark the eras alone of copies that take over; what a mark sends are requests and
+-- replies.
+use Rattle.std.proofs.Common.{◌≡◌, ◌≤◌, ◌<◌, refl, ℕ, ◌+◌, ◌==◌, Bool, true, false, if◌then◌else◌, List, [], ◌∷◌, ◌++◌, Option}
 use Rattle.std.proofs.Common.{Some, None, slice_get, map, arith, length}
 use Rattle.std.specs.List.{flat_map}
 use Rattle.gd_words.specs.declared.message.Request.{Request}
@@ -7,31 +8,25 @@ use Rattle.gd_words.specs.declared.message.Reply.{Reply}
 use Rattle.tal_tree.specs.declared.site.Site.{Site}
 use Rattle.checkpoint_image.specs.Receive.{is_waiting, standing, still_waiting}
 use Rattle.world_semantics.specs.declared.role.Role.{Role}
-use Rattle.world_semantics.specs.declared.role.Role.TheVariants.{Acting, Watching, Gone}
+use Rattle.world_semantics.specs.declared.role.Role.TheVariants.{Acting, Watching, Blank, Gone}
 use Rattle.world_semantics.specs.declared.which.Which.{Which}
 use Rattle.world_semantics.specs.declared.which.Which.TheVariants.{First, Second}
 use Rattle.world_semantics.specs.Messages.{Message, Asking, Replying}
-use Rattle.world_semantics.specs.Rules.{stopped_copy, stopped_pair, taker, pair_after_down, pair_at_down}
+use Rattle.world_semantics.specs.Rules.{pair_after_down, pair_at_down, renewals_ended, stopped_pair, taker}
 use Rattle.world_semantics.specs.Rules.{takeover_sendings, told_at_down}
-use Rattle.world_semantics.specs.World.{Copy, Pair, Terminal, World, terminal_node}
+use Rattle.world_semantics.specs.Running.{Done}
+use Rattle.world_semantics.specs.World.{Copy, Pair, Terminal, World, copy_of, is_whole, terminal_node}
 use Rattle.world_semantics.proofs.Lists.{map-all}
-use Rattle.computed_changes.specs.Stopped.{stop_where, stop_done, marked_where, mark_where, down_done}
+use Rattle.world_semantics.proofs.Roles.{taker-is}
+use Rattle.computed_changes.specs.Stopped.{stop_if, stop_where, stop_done, marked_where, mark_where, down_done}
 use Rattle.letters.specs.Again.{rerouted, awaited_from, if_acts_on, asks_again, tells_again, of_copies, of_terminals}
 use Rattle.letters.specs.Again.{terminals_ask, sent_again}
 use Rattle.number_laws.proofs.Each.{Each, each-append, each-map, each-always}
-use Rattle.number_laws.proofs.Within.{CopyWithin, PairWithin, MessageWithin, AreSendings, WorldWithin, AnyWithin}
-use Rattle.number_laws.proofs.Within.{held_of, held_in, held-mapped, filter-few}
+use Rattle.number_laws.proofs.Within.{PairWithin, MessageWithin, AreSendings, WorldWithin, AnyWithin}
+use Rattle.number_laws.proofs.Within.{WatchersWithin, held_of, held_in, held-mapped, filter-few}
 use Rattle.number_laws.proofs.Hands.{replies-within}
 
 -- Stops
-
-stopped-era : (n : ℕ) (d : Bool) (processor : ℕ) (copy : Copy) → CopyWithin n d copy
-    → CopyWithin n d (stopped_copy processor copy)
-stopped-era n d processor copy is = (is.0, is.1, by (copy.processor == processor), is.3, is.4)
-  where
-    by : (gone : Bool) → (if gone then Gone else copy.role) ≡ Watching → copy.era ≡ 0
-    by true watches = absurd (cc)
-    by false watches = is.2 watches
 
 module _ (n : ℕ) (kinds : ℕ → Bool) (w : World) (within : WorldWithin n kinds w) where
   stopped-held : (processor : ℕ) → held_in (map (stopped_pair processor) w.processes) ≤ held_in w.processes
@@ -40,19 +35,13 @@ module _ (n : ℕ) (kinds : ℕ → Bool) (w : World) (within : WorldWithin n ki
   pub stop-within : (processor : ℕ) → AnyWithin n kinds (stop_done processor w)
   stop-within processor = by (slice_get w.stopped processor)
     where
-      by : (stopped : Option Bool) → AnyWithin n kinds (stop_where processor w stopped)
-      by None = tt
-      by (Some true) = tt
-      by (Some false) = record {
+      stops : (whole : Bool) → AnyWithin n kinds (stop_if processor w whole)
+      stops false = tt
+      stops true = record {
         world = record {
           pairs =
               map-all (λ number. PairWithin n (kinds number)) (stopped_pair processor) w.processes
-              (λ number pair there.
-              let is = within.pairs number pair there in (
-                stopped-era n (kinds number) processor pair.first is.0,
-                stopped-era n (kinds number) processor pair.second is.1,
-                is.2,
-              ));
+              (λ number pair there. within.pairs number pair there);
           acts = let acts = within.acts in let falls = stopped-held processor in omega (arith, acts, falls);
           shown = within.shown;
           terminals = within.terminals;
@@ -60,24 +49,34 @@ module _ (n : ℕ) (kinds : ℕ → Bool) (w : World) (within : WorldWithin n ki
         sendings = tt;
       }
 
+      by : (stopped : Option Bool) → AnyWithin n kinds (stop_where processor w stopped)
+      by None = tt
+      by (Some true) = tt
+      by (Some false) = stops (is_whole w)
+
   -- Marks
 
   still : (copy : Copy) → length copy.waiting ≤ n → length (still_waiting copy.core.receive copy.waiting) ≤ n
   still copy few = let less = filter-few (λ request. is_waiting (standing copy.core.receive request)) copy.waiting in
       omega (arith, less, few)
 
-  marked-one : (number : ℕ) (k : Option Which) (pair : Pair) → PairWithin n (kinds number) pair
-      → PairWithin n (kinds number) (pair_after_down k pair)
-  marked-one number None pair is = is
-  marked-one number (Some First) pair is =
-      ((is.0.0, omega arith, (λ watches. absurd (cc)), is.2, still pair.first is.0.4), is.1, is.2)
-  marked-one number (Some Second) pair is =
-      (is.0, (is.1.0, omega arith, (λ watches. absurd (cc)), is.2, still pair.second is.1.4), is.2)
+  -- a copy that takes over watched before
+  marked-one : (number node processor : ℕ) (k : Option Which) (pair : Pair) → PairWithin n (kinds number) pair
+      → ((j : Which) → k ≡ Some j → (copy_of j pair).era < n)
+      → PairWithin n (kinds number) (renewals_ended node processor (pair_after_down k pair))
+  marked-one number node processor None pair is rises = is
+  marked-one number node processor (Some First) pair is rises =
+      let low = rises First refl in
+      ((is.0.0, omega arith, omega (arith, low), is.2, still pair.first is.0.4), is.1, is.2)
+  marked-one number node processor (Some Second) pair is rises =
+      let low = rises Second refl in
+      (is.0, (is.1.0, omega arith, omega (arith, low), is.2, still pair.second is.1.4), is.2)
 
-  marked-falls : (k : Option Which) (pair : Pair) → held_of (pair_after_down k pair) ≤ held_of pair
-  marked-falls None pair = omega arith
-  marked-falls (Some First) pair = omega arith
-  marked-falls (Some Second) pair = omega arith
+  marked-falls : (node processor : ℕ) (k : Option Which) (pair : Pair)
+      → held_of (renewals_ended node processor (pair_after_down k pair)) ≤ held_of pair
+  marked-falls node processor None pair = omega arith
+  marked-falls node processor (Some First) pair = omega arith
+  marked-falls node processor (Some Second) pair = omega arith
 
   told : (node processor : ℕ) (pairs : List Pair) → AreSendings n kinds (flat_map (told_at_down node processor) pairs)
   told node processor [] = tt
@@ -88,8 +87,10 @@ module _ (n : ℕ) (kinds : ℕ → Bool) (w : World) (within : WorldWithin n ki
       by None = tt
       by (Some k) = replies-within n kinds _ _
 
-  pub mark-within : (node processor : ℕ) → AnyWithin n kinds (down_done node processor w)
-  mark-within node processor = by (slice_get w.stopped processor)
+  -- where the eras of copies that watch have room
+  pub mark-within : (before node processor : ℕ) → before < n → WatchersWithin before w.processes
+      → AnyWithin n kinds (down_done node processor w)
+  mark-within before node processor less watchers = by (slice_get w.stopped processor)
     where
       where_may : (test : Bool) → AnyWithin n kinds (marked_where node processor w test)
       where_may false = tt
@@ -97,12 +98,15 @@ module _ (n : ℕ) (kinds : ℕ → Bool) (w : World) (within : WorldWithin n ki
         world = record {
           pairs =
               map-all (λ number. PairWithin n (kinds number)) (pair_at_down node processor) w.processes
-              (λ number pair there. marked-one number (taker node processor pair) pair
-              (within.pairs number pair there));
+              (λ number pair there. marked-one number node processor (taker node processor pair) pair
+              (within.pairs number pair there)
+              (λ j takes.
+              (let low = watchers number pair there j (taker-is node processor pair j takes).watching in
+              omega (arith, low, less))));
           acts =
               let acts = within.acts in
               let falls = held-mapped (pair_at_down node processor)
-              (λ pair. marked-falls (taker node processor pair) pair) w.processes in
+              (λ pair. marked-falls node processor (taker node processor pair) pair) w.processes in
               omega (arith, acts, falls);
           shown = within.shown;
           terminals = within.terminals;
@@ -114,6 +118,69 @@ module _ (n : ℕ) (kinds : ℕ → Bool) (w : World) (within : WorldWithin n ki
       by None = tt
       by (Some false) = tt
       by (Some true) = where_may _
+
+-- a copy that watches after a mark watched before, and is of the era of which it was
+watched-before : (before node processor : ℕ) (pair : Pair)
+    → ((k : Which) → (copy_of k pair).role ≡ Watching → (copy_of k pair).era ≤ before)
+    → (taken : Option Which) (k : Which)
+    → (copy_of k (renewals_ended node processor (pair_after_down taken pair))).role ≡ Watching
+    → (copy_of k (renewals_ended node processor (pair_after_down taken pair))).era ≤ before
+watched-before before node processor pair were None First watches = were First watches
+watched-before before node processor pair were None Second watches = were Second watches
+watched-before before node processor pair were (Some First) First watches = absurd (cc)
+watched-before before node processor pair were (Some First) Second watches = were Second watches
+watched-before before node processor pair were (Some Second) First watches = were First watches
+watched-before before node processor pair were (Some Second) Second watches = absurd (cc)
+
+abbrev pub AnyWatchersWithin : ℕ → Option Done → Type 0
+AnyWatchersWithin before None = Unit {0}
+AnyWatchersWithin before (Some done) = WatchersWithin before done.world.processes
+
+pub stop-watchers : (before : ℕ) (w : World) (processor : ℕ) → WatchersWithin before w.processes
+    → AnyWatchersWithin before (stop_done processor w)
+stop-watchers before w processor watchers = by (slice_get w.stopped processor)
+  where
+    was : (gone : Bool) (role : Role) → (if gone then Gone else role) ≡ Watching → role ≡ Watching
+    was true role watches = absurd (cc)
+    was false role watches = watches
+
+    copies : (pair : Pair) → ((k : Which) → (copy_of k pair).role ≡ Watching → (copy_of k pair).era ≤ before)
+        → (k : Which) → (copy_of k (stopped_pair processor pair)).role ≡ Watching
+        → (copy_of k (stopped_pair processor pair)).era ≤ before
+    copies pair were First watches =
+        were First (was (pair.first.processor == processor) pair.first.role watches)
+    copies pair were Second watches =
+        were Second (was (pair.second.processor == processor) pair.second.role watches)
+
+    stops : (whole : Bool) → AnyWatchersWithin before (stop_if processor w whole)
+    stops false = tt
+    stops true =
+        map-all (λ (number : ℕ) (pair : Pair). (k : Which) → (copy_of k pair).role ≡ Watching
+        → (copy_of k pair).era ≤ before)
+        (stopped_pair processor) w.processes (λ number pair there. copies pair (watchers number pair there))
+
+    by : (stopped : Option Bool) → AnyWatchersWithin before (stop_where processor w stopped)
+    by None = tt
+    by (Some true) = tt
+    by (Some false) = stops (is_whole w)
+
+pub mark-watchers : (before : ℕ) (w : World) (node processor : ℕ) → WatchersWithin before w.processes
+    → AnyWatchersWithin before (down_done node processor w)
+mark-watchers before w node processor watchers = by (slice_get w.stopped processor)
+  where
+    where_may : (test : Bool) → AnyWatchersWithin before (marked_where node processor w test)
+    where_may false = tt
+    where_may true =
+        map-all (λ (number : ℕ) (pair : Pair). (k : Which) → (copy_of k pair).role ≡ Watching
+        → (copy_of k pair).era ≤ before)
+        (pair_at_down node processor) w.processes
+        (λ number pair there. watched-before before node processor pair (watchers number pair there)
+        (taker node processor pair))
+
+    by : (stopped : Option Bool) → AnyWatchersWithin before (mark_where node processor w stopped)
+    by None = tt
+    by (Some false) = tt
+    by (Some true) = where_may _
 
 -- What is sent again
 
@@ -135,6 +202,7 @@ module _ (n : ℕ) (kinds : ℕ → Bool) (site : Site) (before : World) (node p
       by true = are
       by false = tt
   if-acts Watching at messages are = tt
+  if-acts Blank at messages are = tt
   if-acts Gone at messages are = tt
 
   asks : (number : ℕ) (copy : Copy) → AreMessages (asks_again site before node processor number copy)

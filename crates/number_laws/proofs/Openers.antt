@@ -1,6 +1,6 @@
 -- Each request that is sent names an opener that is there.
 use Rattle.std.proofs.Common.{◌<◌, ℕ, ◌+◌, ◌-◌, ◌==◌, ℤ, Bool, true, false, if◌then◌else◌, List, [], ◌∷◌, ◌++◌, length}
-use Rattle.std.proofs.Common.{Option, Some, None, option_map, option_and_then, slice_get, map, arith}
+use Rattle.std.proofs.Common.{Option, Some, None, nat_lt, option_map, option_and_then, slice_get, map, arith}
 use Rattle.std.specs.List.{flat_map}
 use Rattle.std.specs.Option.{IfSome}
 use Rattle.gd_words.specs.declared.message.Request.{Request}
@@ -20,26 +20,28 @@ use Rattle.checkpoint_image.specs.declared.message.TakenMessage.{TakenMessage}
 use Rattle.checkpoint_image.specs.declared.receive.OpenerBlock.{OpenerBlock}
 use Rattle.checkpoint_image.specs.Receive.{Chosen, chosen}
 use Rattle.world_semantics.specs.declared.role.Role.{Role}
-use Rattle.world_semantics.specs.declared.role.Role.TheVariants.{Acting, Watching, Gone}
+use Rattle.world_semantics.specs.declared.role.Role.TheVariants.{Acting, Watching, Blank, Gone}
 use Rattle.world_semantics.specs.declared.which.Which.{Which}
 use Rattle.world_semantics.specs.declared.which.Which.TheVariants.{First, Second}
 use Rattle.world_semantics.specs.Core.{Core}
+use Rattle.world_semantics.specs.Kept.{own_acts}
 use Rattle.world_semantics.specs.Messages.{Message, Asking, Replying, Checkpointing, Taking, Sending, sent_at}
 use Rattle.world_semantics.specs.Own.{Around, around, request_to}
 use Rattle.world_semantics.specs.Rules.{taker, takeover_sendings, told_at_down}
 use Rattle.world_semantics.specs.Records.{records_of}
 use Rattle.world_semantics.specs.Running.{Done, Own, Stepped, own_took, own_take, own_answer_at, own_answer, own_at}
-use Rattle.world_semantics.specs.Running.{first_step, run_pair, run_done, step_of_copy}
-use Rattle.world_semantics.specs.World.{Copy, Pair, Terminal, World, copy_of, may_pass, terminal_node}
+use Rattle.world_semantics.specs.Running.{ending_step, first_step, run_pair, run_done, sending_step, step_of_copy}
+use Rattle.world_semantics.specs.World.{Copy, Pair, Terminal, World, copy_of, is_whole, may_pass, other_of}
+use Rattle.world_semantics.specs.World.{terminal_node}
 use Rattle.computed_changes.specs.Entered.{enter_at, enter_to, enter_where, enter_done, entered_done}
 use Rattle.computed_changes.specs.Fitting.{depths_of, put_fitting}
 use Rattle.computed_changes.specs.Checkpoints.{is_next_for, is_of_last}
 use Rattle.computed_changes.specs.Handed.{brought_to, copy_in, handed_done, replied_done, step_by}
 use Rattle.computed_changes.specs.Replies.{awaits, awaits_at, printed_at, printed_done, printed_where}
-use Rattle.world_semantics.proofs.Lifted.{lifted, mark_done, own_made, run_as, run_at}
-use Rattle.computed_changes.proofs.Lifted.{acknowledged_where, applied_made, applied_where, asked_done, checkpoint_done}
-use Rattle.computed_changes.proofs.Lifted.{got_done, got_where, taken_done}
-use Rattle.computed_changes.specs.Stopped.{stop_where, stop_done, marked_where, mark_where, down_done}
+use Rattle.world_semantics.proofs.Lifted.{free_at, lifted, made_if, mark_done, own_made, renewing_at, run_as, run_at}
+use Rattle.computed_changes.proofs.Lifted.{acknowledged_where, applied_as, applied_made, applied_where, asked_done}
+use Rattle.computed_changes.proofs.Lifted.{checkpoint_done, got_done, got_where, taken_done}
+use Rattle.computed_changes.specs.Stopped.{stop_if, stop_where, stop_done, marked_where, mark_where, down_done}
 use Rattle.letters.specs.Again.{rerouted, awaited_at, awaited_from, entered_last, if_acts_on, asks_again, tells_again}
 use Rattle.letters.specs.Again.{of_copies, of_terminals, terminals_ask, sent_again}
 use Rattle.number_laws.proofs.Each.{Each, each-append, each-map, each-always, each-filter}
@@ -177,6 +179,33 @@ module _ (site : Site) (w : World) where
       any-own number k pair (own_at site number (copy_of k pair).core (around (copy_of k pair) pair w) stands)
       (own-named site number (copy_of k pair).core (around (copy_of k pair) pair w) stands)
 
+  sends-named : (number : ℕ) (k : Which) (pair : Pair) (may : Bool)
+      → AnyNames site (made_if number w may (sending_step number k pair (records_of w)))
+  sends-named number k pair true = (tt, tt)
+  sends-named number k pair false = tt
+
+  ends-named : (number : ℕ) (k : Which) (pair : Pair) (may : Bool)
+      → AnyNames site (made_if number w may (ending_step number k pair (records_of w)))
+  ends-named number k pair true = tt
+  ends-named number k pair false = tt
+
+  renews-named : (number : ℕ) (k : Which) (pair : Pair) (stands : Point)
+      → AnyNames site (renewing_at number k pair w stands)
+  renews-named number k pair point.Inner = sends-named number k pair _
+  renews-named number k pair point.Take = sends-named number k pair _
+  renews-named number k pair point.Ask = sends-named number k pair _
+  renews-named number k pair point.Answer = sends-named number k pair _
+  renews-named number k pair point.Device = sends-named number k pair _
+  renews-named number k pair point.AtCheckpoint = sends-named number k pair _
+  renews-named number k pair point.Ended = sends-named number k pair _
+  renews-named number k pair point.Await = tt
+
+  free-named : (number : ℕ) (k : Which) (pair : Pair) (stands : Point) (sent renewal : Bool)
+      → AnyNames site (free_at site number k pair w stands sent renewal)
+  free-named number k pair stands true renewal = ends-named number k pair (may_pass w.marks k pair)
+  free-named number k pair stands false true = renews-named number k pair stands
+  free-named number k pair stands false false = acts-named number k pair stands
+
   run-point : (number : ℕ) (k : Which) (pair : Pair) (stands : Point)
       → AnyNames site (run_at site number k pair w stands)
   run-point number k pair point.AtCheckpoint = by (may_pass w.marks k pair) (copy_of k pair).sent
@@ -185,17 +214,18 @@ module _ (site : Site) (w : World) where
       by true sent = tt
       by false true = tt
       by false false = (tt, tt)
-  run-point number k pair point.Inner = acts-named number k pair point.Inner
-  run-point number k pair point.Take = acts-named number k pair point.Take
-  run-point number k pair point.Ask = acts-named number k pair point.Ask
-  run-point number k pair point.Answer = acts-named number k pair point.Answer
-  run-point number k pair point.Device = acts-named number k pair point.Device
-  run-point number k pair point.Await = tt
-  run-point number k pair point.Ended = tt
+  run-point number k pair point.Inner = free-named number k pair point.Inner (copy_of k pair).sent (copy_of k pair).renewal
+  run-point number k pair point.Take = free-named number k pair point.Take (copy_of k pair).sent (copy_of k pair).renewal
+  run-point number k pair point.Ask = free-named number k pair point.Ask (copy_of k pair).sent (copy_of k pair).renewal
+  run-point number k pair point.Answer = free-named number k pair point.Answer (copy_of k pair).sent (copy_of k pair).renewal
+  run-point number k pair point.Device = free-named number k pair point.Device (copy_of k pair).sent (copy_of k pair).renewal
+  run-point number k pair point.Await = free-named number k pair point.Await (copy_of k pair).sent (copy_of k pair).renewal
+  run-point number k pair point.Ended = free-named number k pair point.Ended (copy_of k pair).sent (copy_of k pair).renewal
 
   run-role : (number : ℕ) (k : Which) (pair : Pair) (role : Role) → AnyNames site (run_as site number k pair w role)
   run-role number k pair Acting = run-point number k pair (process.point (copy_of k pair).core.state)
   run-role number k pair Watching = tt
+  run-role number k pair Blank = tt
   run-role number k pair Gone = tt
 
   either-named : (number : ℕ) (one other : Option Stepped) → AnyNames site (lifted number w one)
@@ -241,6 +271,7 @@ module _ (site : Site) (w : World) where
       → AnyNames site (asked_done request k pair w role)
   asked-named request k pair Acting = sent-named site (copy_of k pair).processor _ (replyings site _)
   asked-named request k pair Watching = tt
+  asked-named request k pair Blank = tt
   asked-named request k pair Gone = tt
 
   got-named : (number : ℕ) (reply : Reply) (k : Which) (pair : Pair) (role : Role)
@@ -252,6 +283,7 @@ module _ (site : Site) (w : World) where
       by true = tt
       by false = tt
   got-named number reply k pair Watching = tt
+  got-named number reply k pair Blank = tt
   got-named number reply k pair Gone = tt
 
   printed-named : (number : ℕ) (reply : Reply) (test : Bool) → AnyNames site (printed_at site number reply w test)
@@ -274,17 +306,28 @@ module _ (site : Site) (w : World) where
       (slice_get w.processes number)
   replied-named node reply (Some (who.Terminal number)) = printed-named number reply _
 
-  checkpoint-named : (message : ImageMessage) (k : Which) (pair : Pair) (role : Role)
-      → AnyNames site (checkpoint_done site message k pair w role)
-  checkpoint-named message k pair Watching = by (is_next_for (copy_of k pair).era (copy_of k pair).number message)
+  next-named : (message : ImageMessage) (k : Which) (pair : Pair)
+      → AnyNames site
+      (applied_where site message k pair w (is_next_for (copy_of k pair).era (copy_of k pair).number message))
+  next-named message k pair = by (is_next_for (copy_of k pair).era (copy_of k pair).number message)
     where
+      applies : (core : Core) (behind : Bool) → AreNaming site (applied_as message k pair w core behind).sendings
+      applies core true = (tt, tt)
+      applies core false = (tt, tt)
+
       applied : (core : Option Core) → AnyNames site (applied_made message k pair w core)
       applied None = tt
-      applied (Some core) = (tt, tt)
+      applied (Some core) =
+          applies core (nat_lt (copy_of (other_of k) pair).position (own_acts message.process w.kept))
 
       by : (test : Bool) → AnyNames site (applied_where site message k pair w test)
       by true = applied (put_fitting (depths_of site message.process) (copy_of k pair).core message.image)
       by false = tt
+
+  checkpoint-named : (message : ImageMessage) (k : Which) (pair : Pair) (role : Role)
+      → AnyNames site (checkpoint_done site message k pair w role)
+  checkpoint-named message k pair Watching = next-named message k pair
+  checkpoint-named message k pair Blank = next-named message k pair
   checkpoint-named message k pair Acting = tt
   checkpoint-named message k pair Gone = tt
 
@@ -297,6 +340,7 @@ module _ (site : Site) (w : World) where
       by true = tt
       by false = tt
   taken-named taken k pair Watching = tt
+  taken-named taken k pair Blank = tt
   taken-named taken k pair Gone = tt
 
   pub handed-named : (node : ℕ) (message : Message) → AnyNames site (handed_done site node message w)
@@ -314,10 +358,14 @@ module _ (site : Site) (w : World) where
   pub stop-named : (processor : ℕ) → AnyNames site (stop_done processor w)
   stop-named processor = by (slice_get w.stopped processor)
     where
+      stops : (whole : Bool) → AnyNames site (stop_if processor w whole)
+      stops true = tt
+      stops false = tt
+
       by : (stopped : Option Bool) → AnyNames site (stop_where processor w stopped)
       by None = tt
       by (Some true) = tt
-      by (Some false) = tt
+      by (Some false) = stops (is_whole w)
 
   told : (node processor : ℕ) (pairs : List Pair) → AreNaming site (flat_map (told_at_down node processor) pairs)
   told node processor [] = tt
@@ -369,6 +417,7 @@ module _ (site : Site) (before : World) (node processor : ℕ) where
       by true = are
       by false = tt
   if-acts Watching at messages are = tt
+  if-acts Blank at messages are = tt
   if-acts Gone at messages are = tt
 
   asks : (number : ℕ) (copy : Copy) → AreMessages (asks_again site before node processor number copy)

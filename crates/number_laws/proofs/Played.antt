@@ -1,47 +1,46 @@
 -- After so many events no number of what is played is greater.
 use Rattle.std.proofs.Common.{◌≡◌, ◌≤◌, ◌<◌, ℕ, zero, suc, ◌+◌, Bool, true, false, if◌then◌else◌, List, [], ◌∷◌, ◌++◌}
-use Rattle.std.proofs.Common.{length, Option, Some, None, slice_get, option_map, refl, sym, subst, arith, length-append}
-use Rattle.std.proofs.Common.{map}
+use Rattle.std.proofs.Common.{◌&&◌, length, Option, Some, None, slice_get, option_map, refl, ap, sym, subst, arith}
+use Rattle.std.proofs.Common.{length-append}
 use Rattle.std.specs.List.{cons_option}
-use Rattle.tal_tree.specs.declared.site.OpenerSpec.{OpenerSpec}
 use Rattle.tal_tree.specs.declared.site.Site.{Site}
 use Rattle.tal_tree.specs.declared.site.ProcessSpec.{ProcessSpec}
-use Rattle.tal_tree.specs.declared.site.Kind.{Kind}
-use Rattle.tal_tree.specs.declared.site.Kind.TheVariants as kind
 use Rattle.tal_tree.specs.declared.site.TerminalSpec.{TerminalSpec}
 use Rattle.schedule.specs.declared.event.Event.{Event}
-use Rattle.schedule.specs.declared.event.Event.TheVariants.{Run, Enter, Deliver, Lose, Repeat, Tick, Fail, Drive}
+use Rattle.schedule.specs.declared.event.Event.TheVariants.{Run, Enter, Deliver, Lose, Repeat, Tick, Fail, Reload}
+use Rattle.schedule.specs.declared.event.Event.TheVariants.{Drive}
 use Rattle.process_semantics.specs.Process.{start_of}
-use Rattle.plain_semantics.specs.Openers.{files_of, openers_of}
 use Rattle.checkpoint_image.specs.declared.receive.OpenerBlock.{OpenerBlock}
-use Rattle.checkpoint_image.specs.Behaving.{last_write_of}
 use Rattle.world_semantics.specs.declared.which.Which.{Which}
 use Rattle.world_semantics.specs.declared.which.Which.TheVariants.{First, Second}
-use Rattle.world_semantics.specs.Core.{core_at_boot}
 use Rattle.world_semantics.specs.Messages.{Sending}
 use Rattle.world_semantics.specs.Running.{Done}
 use Rattle.world_semantics.specs.World.{Copy, Pair, World, pairs_at_boot, copy_of, is_running}
 use Rattle.world_semantics.proofs.Beginning.{all-begin}
+use Rattle.world_semantics.proofs.Lists.{some-same}
 use Rattle.computed_changes.specs.Stopped.{down_done}
 use Rattle.letters.specs.Routes.{Letter, receiver_of, letters_of}
 use Rattle.letters.specs.Again.{sent_again}
-use Rattle.machine_states.specs.States.{Played, Makes, Skips, Would, SecondStop}
+use Rattle.machine_states.specs.States.{Played, Makes, Skips, Would}
 use Rattle.message_wires.specs.Wires.{Sent, Wires, has_room, put_on, wires_after_post, wires_after_posts, is_of}
-use Rattle.message_wires.specs.Wires.{without_number, paid, without_packet, is_due, put_again}
+use Rattle.message_wires.specs.Wires.{without_number, paid, without_packet, is_due, is_present, put_again}
 use Rattle.message_wires.specs.Play.{MachineState, machine_at_boot, after_done, made_by, after_any, state_after_handing}
-use Rattle.message_wires.specs.Play.{comes_in, deliver_played, lose_played, repeat_played, has_stopped, fail_played}
-use Rattle.message_wires.specs.Play.{noted_by, notes_from, state_after_tick, tick_played, packet_at, play}
+use Rattle.message_wires.specs.Play.{comes_in, deliver_played, lose_played, repeat_played, stop_played, fail_played}
+use Rattle.message_wires.specs.Play.{reload_played, noted_by, notes_from, state_after_tick, tick_played, packet_at}
+use Rattle.message_wires.specs.Play.{play}
 use Rattle.message_wires.specs.Runs.{IsPlayed, played_none, played_more, skipped}
 use Rattle.gd_words.specs.Ranges.{HasNext}
 use Rattle.number_ranges.specs.HasRoom.{CopyHasRoom, TerminalHasRoom, HasRoom}
 use Rattle.number_laws.proofs.Each.{Each, each-all, each-more, each-get, each-append, each-map, each-always}
 use Rattle.number_laws.proofs.Each.{each-filter, each-remove}
-use Rattle.number_laws.proofs.Within.{serves, CoreWithin, CopyWithin, PairWithin, MessageWithin, AreSendings, AreSent}
+use Rattle.number_laws.proofs.Boot.{boot-core}
+use Rattle.number_laws.proofs.Within.{serves, CopyWithin, PairWithin, MessageWithin, AreSendings, AreSent}
 use Rattle.number_laws.proofs.Within.{WiresWithin, WorldWithin, DoneWithin, AnyWithin, TerminalWithin, wires-more}
-use Rattle.number_laws.proofs.Within.{world-more, held_in, kept_in}
+use Rattle.number_laws.proofs.Within.{WatchersWithin, watchers-within, world-more, held_in}
 use Rattle.number_laws.proofs.Runs.{run-within}
 use Rattle.number_laws.proofs.Hands.{handed-within, enter-within}
-use Rattle.number_laws.proofs.Marks.{stop-within, mark-within, again-within}
+use Rattle.number_laws.proofs.Marks.{AnyWatchersWithin, stop-within, mark-within, mark-watchers, again-within}
+use Rattle.number_laws.proofs.Reloads.{AreKinds, reload-within}
 use Rattle.machine_states.proofs.Turning.{drive-cases}
 
 -- Wires
@@ -102,9 +101,9 @@ module _ (n : ℕ) (kinds : ℕ → Bool) where
 
 -- States
 
--- a state: its world and its wires
+-- a state: its world and its wires, and which processes of its site are discs
 abbrev pub WholeWithin : ℕ → (ℕ → Bool) → MachineState → Type 0
-WholeWithin n kinds s = WorldWithin n kinds s.world × WiresWithin n kinds s.wires
+WholeWithin n kinds s = WorldWithin n kinds s.world × WiresWithin n kinds s.wires × AreKinds kinds s.site
 
 abbrev PlayedWithin : ℕ → (ℕ → Bool) → Played Wires → Type 0
 PlayedWithin n kinds (Makes next) = WholeWithin n kinds next
@@ -112,23 +111,24 @@ PlayedWithin n kinds Skips = Unit {0}
 PlayedWithin n kinds (Would harm) = Unit {0}
 
 module _ (n : ℕ) (kinds : ℕ → Bool) where
-  done-within : (s : MachineState) (done : Done) → WiresWithin n kinds s.wires → DoneWithin n kinds done
+  done-within : (s : MachineState) (done : Done) → WholeWithin n kinds s → DoneWithin n kinds done
       → WholeWithin n kinds (after_done s done)
-  done-within s done wires is = (
+  done-within s done within is = (
     is.world,
     posted-within n kinds (letters_of s.site done.world done.sendings) s.wires
-        (letters-within n kinds s.site done.world done.sendings is.sendings) wires,
+        (letters-within n kinds s.site done.world done.sendings is.sendings) within.1,
+    within.2,
   )
 
-  made-within : (s : MachineState) (done : Option Done) → WiresWithin n kinds s.wires → AnyWithin n kinds done
+  made-within : (s : MachineState) (done : Option Done) → WholeWithin n kinds s → AnyWithin n kinds done
       → PlayedWithin n kinds (made_by s done)
-  made-within s None wires is = tt
-  made-within s (Some done) wires is = done-within s done wires is
+  made-within s None within is = tt
+  made-within s (Some done) within is = done-within s done within is
 
   any-within : (s : MachineState) (done : Option Done) → WholeWithin n kinds s → AnyWithin n kinds done
       → WholeWithin n kinds (after_any s done)
   any-within s None within is = within
-  any-within s (Some done) within is = done-within s done within.1 is
+  any-within s (Some done) within is = done-within s done within is
 
   pub marked-within : (node processor : ℕ) (s : MachineState) (done : Option Done) → WholeWithin n kinds s
       → AnyWithin n kinds done → WholeWithin n kinds (noted_by node processor s done)
@@ -139,23 +139,34 @@ module _ (n : ℕ) (kinds : ℕ → Bool) where
         (letters-within n kinds s.site done.world (done.sendings ++ sent_again s.site s.world done.world node processor)
         (each-append _ done.sendings _ is.sendings (again-within n kinds s.site s.world node processor done.world)))
         (within.1.0, each-filter _ _ s.wires.owed within.1.1),
+    within.2,
   )
 
-  marks-within : (node processor left : ℕ) (s : MachineState) → WholeWithin n kinds s
-      → WholeWithin n kinds (notes_from node processor left s)
-  marks-within node processor zero s within = within
-  marks-within node processor (suc left) s within =
-      marks-within node (processor + 1) left _
-      (marked-within node processor s (down_done node processor s.world) within
-      (mark-within n kinds s.world within.0 node processor))
+  pub marked-watchers : (before node processor : ℕ) (s : MachineState) (done : Option Done)
+      → WatchersWithin before s.world.processes → AnyWatchersWithin before done
+      → WatchersWithin before (noted_by node processor s done).world.processes
+  marked-watchers before node processor s None watchers is = watchers
+  marked-watchers before node processor s (Some done) watchers is = is
 
-  tick-within : (node : ℕ) (s : MachineState) → WholeWithin n kinds s → PlayedWithin n kinds (tick_played node s)
-  tick-within node s within = by (is_running s.world.stopped node)
+  -- where the eras of copies that watch have room: a copy takes over once
+  marks-within : (before node processor left : ℕ) (s : MachineState) → before < n → WholeWithin n kinds s
+      → WatchersWithin before s.world.processes → WholeWithin n kinds (notes_from node processor left s)
+  marks-within before node processor zero s less within watchers = within
+  marks-within before node processor (suc left) s less within watchers =
+      marks-within before node (processor + 1) left _ less
+      (marked-within node processor s (down_done node processor s.world) within
+      (mark-within n kinds s.world within.0 before node processor less watchers))
+      (marked-watchers before node processor s (down_done node processor s.world) watchers
+      (mark-watchers before s.world node processor watchers))
+
+  tick-within : (before node : ℕ) (s : MachineState) → before < n → WholeWithin n kinds s
+      → WatchersWithin before s.world.processes → PlayedWithin n kinds (tick_played node s)
+  tick-within before node s less within watchers = by (is_running s.world.stopped node)
     where
       by : (test : Bool) → PlayedWithin n kinds
           (if test then Makes (state_after_tick node (notes_from node 0 (length s.world.stopped) s)) else Skips)
       by true =
-          let marked = marks-within node 0 (length s.world.stopped) s within in
+          let marked = marks-within before node 0 (length s.world.stopped) s less within watchers in
           let after = notes_from node 0 (length s.world.stopped) s in (
             marked.0,
             (
@@ -163,25 +174,34 @@ module _ (n : ℕ) (kinds : ℕ → Bool) where
                   marked.1.0,
               marked.1.1,
             ),
+            marked.2,
           )
       by false = tt
 
-  fail-within : (processor : ℕ) (s : MachineState) (done : Option Done) → WiresWithin n kinds s.wires
-      → AnyWithin n kinds done
-      → PlayedWithin n kinds (fail_played processor s done)
-  fail-within processor s None wires is = tt
-  fail-within processor s (Some done) wires is = by (has_stopped s.world.stopped)
-    where
-      by : (test : Bool) → PlayedWithin n kinds (if test then Would (SecondStop processor)
-          else Makes (after_done s done))
-      by true = tt
-      by false = done-within s done wires is
+  stopped-within : (processor : ℕ) (s : MachineState) (done : Option Done) → WholeWithin n kinds s
+      → AnyWithin n kinds done → PlayedWithin n kinds (stop_played processor s done)
+  stopped-within processor s None within is = tt
+  stopped-within processor s (Some done) within is = done-within s done within is
+
+  fail-within : (processor : ℕ) (s : MachineState) (there : Option Bool) → WholeWithin n kinds s
+      → PlayedWithin n kinds (fail_played processor s there)
+  fail-within processor s None within = tt
+  fail-within processor s (Some true) within = tt
+  fail-within processor s (Some false) within =
+      stopped-within processor s _ within (stop-within n kinds s.world within.0 processor)
+
+  reloaded-within : (processor : ℕ) (s : MachineState) (done : Option Done) → WholeWithin n kinds s
+      → AnyWithin n kinds done → PlayedWithin n kinds (reload_played processor s done)
+  reloaded-within processor s None within is = tt
+  reloaded-within processor s (Some done) within is =
+      (is.world, (within.1.0, each-filter _ _ s.wires.owed within.1.1), within.2)
 
 module _ (n : ℕ) (kinds : ℕ → Bool) (low : n < 4294967295) (s : MachineState) (within : WholeWithin n kinds s) where
   pub later : WholeWithin (n + 1) kinds s
   later = (
     world-more (n + 1) n kinds s.world (omega arith) within.0,
     wires-more (n + 1) n kinds s.wires (omega arith) within.1,
+    within.2,
   )
 
   without : (k : ℕ) → WiresWithin (n + 1) kinds (without_packet k s.wires)
@@ -195,7 +215,8 @@ module _ (n : ℕ) (kinds : ℕ → Bool) (low : n < 4294967295) (s : MachineSta
   deliver-within : (y : Bool) (k : ℕ) (packet : Option Sent) → packet_at s y k ≡ packet
       → PlayedWithin (n + 1) kinds (deliver_played k s packet)
   deliver-within y k None there = tt
-  deliver-within y k (Some packet) there = by (comes_in (record s { wires = without_packet k s.wires }) packet.letter)
+  deliver-within y k (Some packet) there =
+      by (is_present s.wires.before packet && comes_in (record s { wires = without_packet k s.wires }) packet.letter)
     where
       by : (test : Bool)
           → WholeWithin (n + 1) kinds
@@ -203,32 +224,38 @@ module _ (n : ℕ) (kinds : ℕ → Bool) (low : n < 4294967295) (s : MachineSta
           { wires = without_packet k s.wires })
       by true =
           any-within (n + 1) kinds (record s { wires = paid packet.number (without_packet k s.wires) }) _
-          (later.0, ((without k).0, without-within (n + 1) kinds packet.number s.wires.owed later.1.1))
+          (later.0, ((without k).0, without-within (n + 1) kinds packet.number s.wires.owed later.1.1), within.2)
           (handed-within n kinds s.world within.0 low s.site packet.letter.receiver packet.letter.message
           (packet-there y k packet there))
-      by false = (later.0, without k)
+      by false = (later.0, without k, within.2)
 
   lose-within : (k : ℕ) (packet : Option Sent) → PlayedWithin (n + 1) kinds (lose_played k s packet)
   lose-within k None = tt
-  lose-within k (Some packet) = (later.0, without k)
+  lose-within k (Some packet) = (later.0, without k, within.2)
 
   repeat-within : (y : Bool) (k : ℕ) (packet : Option Sent) → packet_at s y k ≡ packet
       → PlayedWithin (n + 1) kinds (repeat_played s packet)
   repeat-within y k None there = tt
-  repeat-within y k (Some packet) there =
-      (later.0, (put-within (n + 1) kinds packet s.wires.bus (packet-there y k packet there) later.1.0, later.1.1))
+  repeat-within y k (Some packet) there = (
+    later.0,
+    (put-within (n + 1) kinds packet s.wires.bus (packet-there y k packet there) later.1.0, later.1.1),
+    within.2,
+  )
 
   play-within : (event : Event) → PlayedWithin (n + 1) kinds (play s event)
   play-within (Run number) =
-      made-within (n + 1) kinds s _ later.1 (run-within n kinds s.world within.0 low s.site number)
+      made-within (n + 1) kinds s _ later (run-within n kinds s.world within.0 low s.site number)
   play-within (Enter number) =
-      made-within (n + 1) kinds s _ later.1 (enter-within n kinds s.world within.0 low s.site number)
+      made-within (n + 1) kinds s _ later (enter-within n kinds s.world within.0 low s.site number)
   play-within (Deliver y k) = deliver-within y k (packet_at s y k) refl
   play-within (Lose y k) = lose-within k (packet_at s y k)
   play-within (Repeat y k) = repeat-within y k (packet_at s y k) refl
-  play-within (Tick node) = tick-within (n + 1) kinds node s later
-  play-within (Fail processor) =
-      fail-within (n + 1) kinds processor s _ later.1 (stop-within (n + 1) kinds s.world later.0 processor)
+  play-within (Tick node) =
+      tick-within (n + 1) kinds n node s (omega arith) later (watchers-within n kinds s.world within.0)
+  play-within (Fail processor) = fail-within (n + 1) kinds processor s _ later
+  play-within (Reload processor) =
+      reloaded-within (n + 1) kinds processor s _ later
+      (reload-within n kinds s.world within.0 s.site within.2 processor)
   play-within (Drive event) = drive-cases event s (PlayedWithin (n + 1) kinds) (λ drives. later) tt (λ process. tt)
 
 -- The beginning
@@ -241,22 +268,17 @@ serves_at (Some pair) = serves pair.first.core.state
 abbrev pub kinds_of : Site → ℕ → Bool
 kinds_of site number = serves_at (slice_get (pairs_at_boot site 0 site.processes) number)
 
-first-write : (what : Kind) → last_write_of (start_of what) ≤ 0
-first-write (kind.Disc sectors mirrored) = omega arith
-first-write (kind.Pair program) = omega arith
+kinds-from : (site : Site) (from : ℕ) (specs : List ProcessSpec) (number : ℕ) (spec : ProcessSpec)
+    → slice_get specs number ≡ Some spec
+    → serves (start_of spec.what) ≡ serves_at (slice_get (pairs_at_boot site from specs) number)
+kinds-from site from [] number spec there = absurd (cc)
+kinds-from site from (one ∷ specs) zero spec there =
+    ap (λ (other : ProcessSpec). serves (start_of other.what)) (sym (some-same there))
+kinds-from site from (one ∷ specs) (suc number) spec there = kinds-from site (from + 1) specs number spec there
 
-none-kept : (openers : List OpenerSpec) → kept_in (map (λ opener. record { taken = 0; kept = [] }) openers) ≡ 0
-none-kept [] = refl
-none-kept (opener ∷ openers) = let rest = none-kept openers in omega (arith, rest)
-
-boot-core : (site : Site) (number : ℕ) (spec : ProcessSpec)
-    → CoreWithin 0 (serves (start_of spec.what)) (core_at_boot site number spec)
-boot-core site number spec = record {
-  state = (refl, first-write spec.what);
-  next = each-map _ (λ file. 1) (files_of spec.what) (each-always _ (λ file. omega arith) (files_of spec.what));
-  taken = each-map _ _ (openers_of site number) (each-always _ (λ opener. omega arith) (openers_of site number));
-  kept = let none = none-kept (openers_of site number) in omega (arith, none);
-}
+-- the processes of a site are what their numbers tell
+pub kinds-site : (site : Site) → AreKinds (kinds_of site) site
+kinds-site site = kinds-from site 0 site.processes
 
 boot-pairs : (site : Site) (number : ℕ) (pair : Pair)
     → slice_get (pairs_at_boot site 0 site.processes) number ≡ Some pair
@@ -265,8 +287,8 @@ boot-pairs site number pair there =
     all-begin (λ j one. PairWithin 0 (serves one.first.core.state) one) site
     (λ j from spec.
     let core = boot-core site from spec in (
-      (core, omega arith, (λ watches. refl), omega arith, omega arith),
-      (core, omega arith, (λ watches. refl), omega arith, omega arith),
+      (core, omega arith, omega arith, omega arith, omega arith),
+      (core, omega arith, omega arith, omega arith, omega arith),
       omega arith,
     ))
     number pair there
@@ -286,6 +308,7 @@ boot-within site = (
         (each-always _ (λ terminal. (omega arith, omega arith)) site.terminals);
   },
   (tt, tt),
+  kinds-site site,
 )
 
 -- What is played
@@ -317,7 +340,7 @@ copy-room n d copy low is = record {
       copy.core.receive.openers is.0.taken);
   write = let few = is.0.state.1 in omega (arith, few, low);
   number = let few = is.1 in omega (arith, few, low);
-  era = λ watches. let first = is.2 watches in omega (arith, first);
+  era = let few = is.2 in omega (arith, few, low);
   position = let few = is.3 in omega (arith, few, low);
 }
 

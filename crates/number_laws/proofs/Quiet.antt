@@ -1,6 +1,7 @@
--- A change that isn't a mark sends one message at most, and leaves what there is and the marks as they were.
+-- A change that isn't a mark sends one message at most, and leaves what there is as it was; and so it leaves the marks
+-- and the counts of reloads if it isn't a reload.
 use Rattle.std.proofs.Common.{◌≡◌, ◌≤◌, ℕ, Bool, true, false, List, length, Option, Some, None, option_map}
-use Rattle.std.proofs.Common.{option_and_then, slice_get, slice_set, map, refl, arith}
+use Rattle.std.proofs.Common.{nat_lt, option_and_then, slice_get, slice_set, map, refl, arith}
 use Rattle.std.proofs.lemmas.List.{length-map, length-set}
 use Rattle.gd_words.specs.declared.message.Request.{Request}
 use Rattle.gd_words.specs.declared.message.Reply.{Reply}
@@ -21,25 +22,29 @@ use Rattle.checkpoint_image.specs.declared.receive.RequestStanding.{RequestStand
 use Rattle.checkpoint_image.specs.declared.receive.RequestStanding.TheVariants.{Next, InHand, Kept, Old, Ahead}
 use Rattle.checkpoint_image.specs.Receive.{Chosen, chosen, repeated, repeated_by, standing}
 use Rattle.world_semantics.specs.declared.role.Role.{Role}
-use Rattle.world_semantics.specs.declared.role.Role.TheVariants.{Acting, Watching, Gone}
+use Rattle.world_semantics.specs.declared.role.Role.TheVariants.{Acting, Watching, Blank, Gone}
 use Rattle.world_semantics.specs.declared.which.Which.{Which}
 use Rattle.world_semantics.specs.declared.which.Which.TheVariants.{First, Second}
 use Rattle.world_semantics.specs.Core.{Core, next_on}
+use Rattle.world_semantics.specs.Kept.{own_acts}
 use Rattle.world_semantics.specs.Messages.{Message, Asking, Replying, Checkpointing, Taking, sent_at}
 use Rattle.world_semantics.specs.Own.{Around, around, request_to}
 use Rattle.world_semantics.specs.Records.{records_of}
 use Rattle.world_semantics.specs.Running.{Done, Own, Stepped, own_took, own_take, own_answer_at, own_answer, own_at}
-use Rattle.world_semantics.specs.Running.{first_step, run_pair, run_done, step_of_copy}
-use Rattle.world_semantics.specs.World.{Pair, Terminal, World, copy_of, may_pass}
+use Rattle.world_semantics.specs.Running.{ending_step, first_step, in_world, run_pair, run_done, sending_step}
+use Rattle.world_semantics.specs.Running.{step_of_copy}
+use Rattle.world_semantics.specs.World.{Pair, Terminal, World, copy_of, is_whole, may_pass, other_of}
 use Rattle.computed_changes.specs.Entered.{enter_at, enter_to, enter_where, enter_done, entered_done}
 use Rattle.computed_changes.specs.Fitting.{depths_of, put_fitting}
 use Rattle.computed_changes.specs.Checkpoints.{is_next_for, is_of_last}
 use Rattle.computed_changes.specs.Handed.{brought_to, copy_in, handed_done, replied_done, step_by}
 use Rattle.computed_changes.specs.Replies.{awaits, awaits_at, printed_at, printed_done, printed_where}
-use Rattle.world_semantics.proofs.Lifted.{lifted, mark_done, own_done, own_made, passed_done, run_as, run_at}
-use Rattle.computed_changes.proofs.Lifted.{acknowledged_where, applied_made, applied_where, asked_done, checkpoint_done}
-use Rattle.computed_changes.proofs.Lifted.{got_done, got_where, taken_done}
-use Rattle.computed_changes.specs.Stopped.{stop_where, stop_done}
+use Rattle.world_semantics.proofs.Lifted.{free_at, lifted, made_if, mark_done, own_done, own_made, passed_done}
+use Rattle.world_semantics.proofs.Lifted.{renewing_at, run_as, run_at, sent_done}
+use Rattle.computed_changes.proofs.Lifted.{acknowledged_where, applied_as, applied_made, applied_where, asked_done}
+use Rattle.computed_changes.proofs.Lifted.{checkpoint_done, got_done, got_where, taken_done}
+use Rattle.computed_changes.specs.Requests.{early_step}
+use Rattle.computed_changes.specs.Stopped.{stop_if, stop_where, stop_done}
 
 -- two worlds have as many processors, processes and terminals
 pub record IsOfSize (w next : World) : Type 0 where
@@ -50,6 +55,7 @@ pub record IsOfSize (w next : World) : Type 0 where
 pub record IsQuiet (w : World) (done : Done) : Type 0 where
   pub size : IsOfSize w done.world
   pub marks : done.world.marks ≡ w.marks
+  pub reloads : done.world.reloads ≡ w.reloads
   pub few : length done.sendings ≤ 1
 
 abbrev pub IsQuietAny : World → Option Done → Type 0
@@ -134,6 +140,7 @@ module _ (site : Site) (w : World) where
   own-quiet number k pair own few = record {
     size = record { stopped = refl; processes = one-set number _; terminals = refl };
     marks = refl;
+    reloads = refl;
     few = sent-few (copy_of k pair).processor own.messages few;
   }
 
@@ -149,6 +156,48 @@ module _ (site : Site) (w : World) where
       any-own number k pair (own_at site number (copy_of k pair).core (around (copy_of k pair) pair w) stands)
       (own-few number (copy_of k pair).core (around (copy_of k pair) pair w) site stands)
 
+  -- it sends a checkpoint, or what it has sent comes to its end
+  sent-quiet : (number : ℕ) (k : Which) (pair : Pair) → IsQuiet w (sent_done number k pair w)
+  sent-quiet number k pair = record {
+    size = record { stopped = refl; processes = one-set number _; terminals = refl };
+    marks = refl;
+    reloads = refl;
+    few = omega arith;
+  }
+
+  sends-quiet : (number : ℕ) (k : Which) (pair : Pair) (may : Bool)
+      → IsQuietAny w (made_if number w may (sending_step number k pair (records_of w)))
+  sends-quiet number k pair true = sent-quiet number k pair
+  sends-quiet number k pair false = tt
+
+  ends-quiet : (number : ℕ) (k : Which) (pair : Pair) (may : Bool)
+      → IsQuietAny w (made_if number w may (ending_step number k pair (records_of w)))
+  ends-quiet number k pair true =
+      record {
+        size = record { stopped = refl; processes = one-set number _; terminals = refl };
+        marks = refl;
+        reloads = refl;
+        few = omega arith;
+      }
+  ends-quiet number k pair false = tt
+
+  renews-quiet : (number : ℕ) (k : Which) (pair : Pair) (stands : Point)
+      → IsQuietAny w (renewing_at number k pair w stands)
+  renews-quiet number k pair point.Inner = sends-quiet number k pair _
+  renews-quiet number k pair point.Take = sends-quiet number k pair _
+  renews-quiet number k pair point.Ask = sends-quiet number k pair _
+  renews-quiet number k pair point.Answer = sends-quiet number k pair _
+  renews-quiet number k pair point.Device = sends-quiet number k pair _
+  renews-quiet number k pair point.AtCheckpoint = sends-quiet number k pair _
+  renews-quiet number k pair point.Ended = sends-quiet number k pair _
+  renews-quiet number k pair point.Await = tt
+
+  free-quiet : (number : ℕ) (k : Which) (pair : Pair) (stands : Point) (sent renewal : Bool)
+      → IsQuietAny w (free_at site number k pair w stands sent renewal)
+  free-quiet number k pair stands true renewal = ends-quiet number k pair (may_pass w.marks k pair)
+  free-quiet number k pair stands false true = renews-quiet number k pair stands
+  free-quiet number k pair stands false false = acts-quiet number k pair stands
+
   run-point : (number : ℕ) (k : Which) (pair : Pair) (stands : Point)
       → IsQuietAny w (run_at site number k pair w stands)
   run-point number k pair point.AtCheckpoint = by (may_pass w.marks k pair) (copy_of k pair).sent
@@ -157,33 +206,32 @@ module _ (site : Site) (w : World) where
       passed true = record {
         size = record { stopped = refl; processes = one-set number _; terminals = refl };
         marks = refl;
+        reloads = refl;
         few = omega arith;
       }
       passed false = record {
         size = record { stopped = refl; processes = one-set number _; terminals = refl };
         marks = refl;
+        reloads = refl;
         few = omega arith;
       }
 
       by : (passes sent : Bool) → IsQuietAny w (mark_done number k pair w passes sent)
       by true sent = passed _
       by false true = tt
-      by false false = record {
-        size = record { stopped = refl; processes = one-set number _; terminals = refl };
-        marks = refl;
-        few = omega arith;
-      }
-  run-point number k pair point.Inner = acts-quiet number k pair point.Inner
-  run-point number k pair point.Take = acts-quiet number k pair point.Take
-  run-point number k pair point.Ask = acts-quiet number k pair point.Ask
-  run-point number k pair point.Answer = acts-quiet number k pair point.Answer
-  run-point number k pair point.Device = acts-quiet number k pair point.Device
-  run-point number k pair point.Await = tt
-  run-point number k pair point.Ended = tt
+      by false false = sent-quiet number k pair
+  run-point number k pair point.Inner = free-quiet number k pair point.Inner (copy_of k pair).sent (copy_of k pair).renewal
+  run-point number k pair point.Take = free-quiet number k pair point.Take (copy_of k pair).sent (copy_of k pair).renewal
+  run-point number k pair point.Ask = free-quiet number k pair point.Ask (copy_of k pair).sent (copy_of k pair).renewal
+  run-point number k pair point.Answer = free-quiet number k pair point.Answer (copy_of k pair).sent (copy_of k pair).renewal
+  run-point number k pair point.Device = free-quiet number k pair point.Device (copy_of k pair).sent (copy_of k pair).renewal
+  run-point number k pair point.Await = free-quiet number k pair point.Await (copy_of k pair).sent (copy_of k pair).renewal
+  run-point number k pair point.Ended = free-quiet number k pair point.Ended (copy_of k pair).sent (copy_of k pair).renewal
 
   run-role : (number : ℕ) (k : Which) (pair : Pair) (role : Role) → IsQuietAny w (run_as site number k pair w role)
   run-role number k pair Acting = run-point number k pair (process.point (copy_of k pair).core.state)
   run-role number k pair Watching = tt
+  run-role number k pair Blank = tt
   run-role number k pair Gone = tt
 
   either-quiet : (number : ℕ) (one other : Option Stepped) → IsQuietAny w (lifted number w one)
@@ -213,6 +261,7 @@ module _ (site : Site) (w : World) where
           record {
             size = record { stopped = refl; processes = refl; terminals = length-set w.terminals number _ };
             marks = refl;
+            reloads = refl;
             few = omega arith;
           }
 
@@ -229,22 +278,29 @@ module _ (site : Site) (w : World) where
       by None = tt
       by (Some terminal) = to terminal _
 
+  early-quiet : (request : Request) (k : Which) (pair : Pair)
+      → IsQuiet w (in_world request.process w (early_step k pair (records_of w) request))
+  early-quiet request k pair =
+      record {
+        size = record { stopped = refl; processes = one-set request.process _; terminals = refl };
+        marks = refl;
+        reloads = refl;
+        few = omega arith;
+      }
+
   asked-quiet : (request : Request) (k : Which) (pair : Pair) (role : Role)
       → IsQuietAny w (asked_done request k pair w role)
   asked-quiet request k pair Acting = record {
     size = record { stopped = refl; processes = one-set request.process _; terminals = refl };
     marks = refl;
+    reloads = refl;
     few = sent-few (copy_of k pair).processor (map Replying (repeated (copy_of k pair).core.receive request))
         (let same = length-map (repeated (copy_of k pair).core.receive request) Replying in
         let one = repeated-few request (standing (copy_of k pair).core.receive request) in
         omega (arith, same, one));
   }
-  asked-quiet request k pair Watching =
-      record {
-        size = record { stopped = refl; processes = one-set request.process _; terminals = refl };
-        marks = refl;
-        few = omega arith;
-      }
+  asked-quiet request k pair Watching = early-quiet request k pair
+  asked-quiet request k pair Blank = early-quiet request k pair
   asked-quiet request k pair Gone = tt
 
   got-quiet : (number : ℕ) (reply : Reply) (k : Which) (pair : Pair) (role : Role)
@@ -256,10 +312,12 @@ module _ (site : Site) (w : World) where
       by true = record {
         size = record { stopped = refl; processes = one-set number _; terminals = refl };
         marks = refl;
+        reloads = refl;
         few = omega arith;
       }
       by false = tt
   got-quiet number reply k pair Watching = tt
+  got-quiet number reply k pair Blank = tt
   got-quiet number reply k pair Gone = tt
 
   printed-quiet : (number : ℕ) (reply : Reply) (test : Bool) → IsQuietAny w (printed_at site number reply w test)
@@ -272,6 +330,7 @@ module _ (site : Site) (w : World) where
             record { stopped = refl; processes = refl; terminals = length-set w.terminals number _ };
         marks =
             refl;
+        reloads = refl;
         few = omega arith;
       }
       printed terminal false = tt
@@ -288,22 +347,40 @@ module _ (site : Site) (w : World) where
       (slice_get w.processes number)
   replied-quiet node reply (Some (who.Terminal number)) = printed-quiet number reply _
 
-  checkpoint-quiet : (message : ImageMessage) (k : Which) (pair : Pair) (role : Role)
-      → IsQuietAny w (checkpoint_done site message k pair w role)
-  checkpoint-quiet message k pair Watching = by (is_next_for (copy_of k pair).era (copy_of k pair).number message)
+  next-quiet : (message : ImageMessage) (k : Which) (pair : Pair)
+      → IsQuietAny w
+      (applied_where site message k pair w (is_next_for (copy_of k pair).era (copy_of k pair).number message))
+  next-quiet message k pair = by (is_next_for (copy_of k pair).era (copy_of k pair).number message)
     where
-      applied : (core : Option Core) → IsQuietAny w (applied_made message k pair w core)
-      applied None = tt
-      applied (Some core) =
+      applies : (core : Core) (behind : Bool) → IsQuiet w (applied_as message k pair w core behind)
+      applies core true =
           record {
             size = record { stopped = refl; processes = one-set message.process _; terminals = refl };
             marks = refl;
+            reloads = refl;
             few = omega arith;
           }
+      applies core false =
+          record {
+            size = record { stopped = refl; processes = one-set message.process _; terminals = refl };
+            marks = refl;
+            reloads = refl;
+            few = omega arith;
+          }
+
+      applied : (core : Option Core) → IsQuietAny w (applied_made message k pair w core)
+      applied None = tt
+      applied (Some core) =
+          applies core (nat_lt (copy_of (other_of k) pair).position (own_acts message.process w.kept))
 
       by : (test : Bool) → IsQuietAny w (applied_where site message k pair w test)
       by true = applied (put_fitting (depths_of site message.process) (copy_of k pair).core message.image)
       by false = tt
+
+  checkpoint-quiet : (message : ImageMessage) (k : Which) (pair : Pair) (role : Role)
+      → IsQuietAny w (checkpoint_done site message k pair w role)
+  checkpoint-quiet message k pair Watching = next-quiet message k pair
+  checkpoint-quiet message k pair Blank = next-quiet message k pair
   checkpoint-quiet message k pair Acting = tt
   checkpoint-quiet message k pair Gone = tt
 
@@ -316,10 +393,12 @@ module _ (site : Site) (w : World) where
       by true = record {
         size = record { stopped = refl; processes = one-set taken.process _; terminals = refl };
         marks = refl;
+        reloads = refl;
         few = omega arith;
       }
       by false = tt
   taken-quiet taken k pair Watching = tt
+  taken-quiet taken k pair Blank = tt
   taken-quiet taken k pair Gone = tt
 
   pub handed-quiet : (node : ℕ) (message : Message) → IsQuietAny w (handed_done site node message w)
@@ -337,15 +416,20 @@ module _ (site : Site) (w : World) where
   pub stop-quiet : (processor : ℕ) → IsQuietAny w (stop_done processor w)
   stop-quiet processor = by (slice_get w.stopped processor)
     where
-      by : (stopped : Option Bool) → IsQuietAny w (stop_where processor w stopped)
-      by None = tt
-      by (Some true) = tt
-      by (Some false) = record {
+      stops : (whole : Bool) → IsQuietAny w (stop_if processor w whole)
+      stops false = tt
+      stops true = record {
         size = record {
           stopped = length-set w.stopped processor true;
           processes = length-map w.processes _;
           terminals = refl;
         };
         marks = refl;
+        reloads = refl;
         few = omega arith;
       }
+
+      by : (stopped : Option Bool) → IsQuietAny w (stop_where processor w stopped)
+      by None = tt
+      by (Some true) = tt
+      by (Some false) = stops (is_whole w)

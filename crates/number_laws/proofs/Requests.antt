@@ -1,12 +1,13 @@
 -- Each request on the wires of what is played names an opener that is there.
 use Rattle.std.proofs.Common.{◌≡◌, ◌<◌, inl, inr, ℕ, zero, suc, ◌+◌, Bool, true, false, if◌then◌else◌, List, [], ◌∷◌}
-use Rattle.std.proofs.Common.{◌++◌, length, Option, Some, None, option_map, refl, subst, sym}
+use Rattle.std.proofs.Common.{◌++◌, ◌&&◌, length, Option, Some, None, option_map, refl, subst, sym}
 use Rattle.std.specs.List.{cons_option}
 use Rattle.gd_words.specs.Members.{IsAmong}
 use Rattle.gd_words.specs.declared.message.Request.{Request}
 use Rattle.tal_tree.specs.declared.site.Site.{Site}
 use Rattle.schedule.specs.declared.event.Event.{Event}
-use Rattle.schedule.specs.declared.event.Event.TheVariants.{Run, Enter, Deliver, Lose, Repeat, Tick, Fail, Drive}
+use Rattle.schedule.specs.declared.event.Event.TheVariants.{Run, Enter, Deliver, Lose, Repeat, Tick, Fail, Reload}
+use Rattle.schedule.specs.declared.event.Event.TheVariants.{Drive}
 use Rattle.plain_semantics.specs.Openers.{openers_of}
 use Rattle.world_semantics.specs.Messages.{Asking, Sending}
 use Rattle.world_semantics.specs.Running.{Done}
@@ -14,12 +15,13 @@ use Rattle.world_semantics.specs.World.{World, is_running}
 use Rattle.computed_changes.specs.Stopped.{down_done}
 use Rattle.letters.specs.Routes.{Letter, receiver_of, letters_of}
 use Rattle.letters.specs.Again.{sent_again}
-use Rattle.machine_states.specs.States.{Played, Makes, Skips, Would, SecondStop}
+use Rattle.machine_states.specs.States.{Played, Makes, Skips, Would}
 use Rattle.message_wires.specs.Wires.{Sent, Wires, has_room, put_on, wires_after_post, wires_after_posts, is_of}
-use Rattle.message_wires.specs.Wires.{without_number, paid, without_packet, is_due, put_again}
+use Rattle.message_wires.specs.Wires.{without_number, paid, without_packet, is_due, is_present, put_again}
 use Rattle.message_wires.specs.Play.{MachineState, after_done, made_by, after_any, state_after_handing, comes_in}
-use Rattle.message_wires.specs.Play.{deliver_played, lose_played, repeat_played, has_stopped, fail_played, noted_by}
-use Rattle.message_wires.specs.Play.{notes_from, state_after_tick, tick_played, packet_at, play}
+use Rattle.message_wires.specs.Play.{deliver_played, lose_played, repeat_played, stop_played, fail_played}
+use Rattle.message_wires.specs.Play.{reload_played, noted_by, notes_from, state_after_tick, tick_played, packet_at}
+use Rattle.message_wires.specs.Play.{play}
 use Rattle.message_wires.specs.Runs.{IsPlayed, played_none, played_more, skipped}
 use Rattle.number_laws.proofs.Each.{Each, each-get, each-append, each-filter, each-remove}
 use Rattle.number_laws.proofs.Openers.{Names, AreNaming, AnyNames, run-named, enter-named, handed-named, stop-named}
@@ -140,14 +142,22 @@ tick-named node s names = by (is_running s.world.stopped node)
         (again-put after.site after.world.stopped node after.wires.owed after.wires.bus marked.1 marked.0, marked.1)
     by false = tt
 
-fail-named : (processor : ℕ) (s : MachineState) (done : Option Done) → WholeNames s → AnyNames s.site done
-    → PlayedNames (fail_played processor s done)
-fail-named processor s None names are = tt
-fail-named processor s (Some done) names are = by (has_stopped s.world.stopped)
-  where
-    by : (test : Bool) → PlayedNames (if test then Would (SecondStop processor) else Makes (after_done s done))
-    by true = tt
-    by false = done-named s done names are
+stopped-named : (processor : ℕ) (s : MachineState) (done : Option Done) → WholeNames s → AnyNames s.site done
+    → PlayedNames (stop_played processor s done)
+stopped-named processor s None names are = tt
+stopped-named processor s (Some done) names are = done-named s done names are
+
+fail-named : (processor : ℕ) (s : MachineState) (there : Option Bool) → WholeNames s
+    → PlayedNames (fail_played processor s there)
+fail-named processor s None names = tt
+fail-named processor s (Some true) names = tt
+fail-named processor s (Some false) names =
+    stopped-named processor s _ names (stop-named s.site s.world processor)
+
+reload-named : (processor : ℕ) (s : MachineState) (done : Option Done) → WholeNames s
+    → PlayedNames (reload_played processor s done)
+reload-named processor s None names = tt
+reload-named processor s (Some done) names = (names.0, each-filter _ _ s.wires.owed names.1)
 
 module _ (s : MachineState) (names : WholeNames s) where
   without : (k : ℕ) → WiresName s.site (without_packet k s.wires)
@@ -159,7 +169,8 @@ module _ (s : MachineState) (names : WholeNames s) where
 
   deliver-named : (k : ℕ) (packet : Option Sent) → PlayedNames (deliver_played k s packet)
   deliver-named k None = tt
-  deliver-named k (Some packet) = by (comes_in (record s { wires = without_packet k s.wires }) packet.letter)
+  deliver-named k (Some packet) =
+      by (is_present s.wires.before packet && comes_in (record s { wires = without_packet k s.wires }) packet.letter)
     where
       by : (test : Bool)
           → WholeNames (if test then state_after_handing packet (record s { wires = without_packet k s.wires }) else
@@ -187,7 +198,8 @@ module _ (s : MachineState) (names : WholeNames s) where
   play-named (Lose y k) = lose-named k (packet_at s y k)
   play-named (Repeat y k) = repeat-named y k (packet_at s y k) refl
   play-named (Tick node) = tick-named node s names
-  play-named (Fail processor) = fail-named processor s _ names (stop-named s.site s.world processor)
+  play-named (Fail processor) = fail-named processor s _ names
+  play-named (Reload processor) = reload-named processor s _ names
   play-named (Drive event) = drive-cases event s PlayedNames (λ drives. names) tt (λ process. tt)
 
 -- What is played

@@ -1,31 +1,33 @@
 -- Where a process runs, each number is raised by one at most.
 use Rattle.std.proofs.Common.{◌≡◌, ◌≤◌, ◌<◌, ℕ, ◌+◌, Bool, true, false, List, [], ◌∷◌, length, Option, Some, None}
-use Rattle.std.proofs.Common.{nat_lt, slice_get, slice_set, refl, arith, length-append}
+use Rattle.std.proofs.Common.{nat_lt, not, slice_get, slice_set, refl, arith, length-append}
 use Rattle.tal_tree.specs.declared.act.Act.{Act}
 use Rattle.tal_tree.specs.declared.site.Site.{Site}
 use Rattle.process_semantics.specs.declared.disc.DiscState.{DiscState}
 use Rattle.process_semantics.specs.declared.point.Point.{Point}
 use Rattle.process_semantics.specs.declared.point.Point.TheVariants as point
-use Rattle.process_semantics.specs.Image.{disc_words, image_of, imaged_at, state_words, listed_items, listed_files}
-use Rattle.process_semantics.specs.Image.{restored_disc}
+use Rattle.process_semantics.specs.Image.{disc_words, image_of, imaged_at, restored_disc, state_words}
 use Rattle.process_semantics.specs.Process as process
 use Rattle.process_semantics.specs.Process.{ProcessState, Runs, Serves}
 use Rattle.checkpoint_image.specs.declared.message.FileNumber.{FileNumber}
+use Rattle.checkpoint_image.specs.declared.message.Image.{Image}
 use Rattle.world_semantics.specs.declared.role.Role.{Role}
-use Rattle.world_semantics.specs.declared.role.Role.TheVariants.{Acting, Watching, Gone}
+use Rattle.world_semantics.specs.declared.role.Role.TheVariants.{Acting, Watching, Blank, Gone}
 use Rattle.world_semantics.specs.declared.which.Which.{Which}
 use Rattle.world_semantics.specs.declared.which.Which.TheVariants.{First, Second}
-use Rattle.world_semantics.specs.Core.{Core, carried, next_on}
+use Rattle.world_semantics.specs.Core.{Core, carried_by, carried_with, files_for, items_for, next_on}
 use Rattle.world_semantics.specs.Kept.{own_acts}
 use Rattle.world_semantics.specs.Messages.{Message, sent_at}
 use Rattle.world_semantics.specs.Own.{around}
-use Rattle.world_semantics.specs.Passes.{after_sending, copy_at_checkpoint, checkpoint_of, kept_at_checkpoint}
+use Rattle.world_semantics.specs.Passes.{after_sending, after_sent, copy_at_checkpoint, checkpoint_of}
+use Rattle.world_semantics.specs.Passes.{kept_at_checkpoint}
 use Rattle.world_semantics.specs.Records.{records_of}
-use Rattle.world_semantics.specs.Running.{Own, Stepped, copy_acted, first_step, own_at, run_done, run_pair}
-use Rattle.world_semantics.specs.Running.{step_of_copy}
+use Rattle.world_semantics.specs.Running.{Own, Stepped, copy_acted, ending_step, first_step, own_at, run_done}
+use Rattle.world_semantics.specs.Running.{run_pair, sending_step, step_of_copy}
 use Rattle.world_semantics.specs.Shares.{share_after_act, share_of}
-use Rattle.world_semantics.specs.World.{Copy, Pair, World, copy_of, with_copy, may_pass}
-use Rattle.world_semantics.proofs.Lifted.{lifted, mark_done, own_done, own_made, passed_done, run_as, run_at, sent_done}
+use Rattle.world_semantics.specs.World.{Copy, Pair, World, copy_of, has_noted, may_pass, other_of, with_copy}
+use Rattle.world_semantics.proofs.Lifted.{ended_done, free_at, lifted, made_if, mark_done, own_done, own_made}
+use Rattle.world_semantics.proofs.Lifted.{passed_done, renewing_at, run_as, run_at, sent_done}
 use Rattle.world_semantics.proofs.Lists.{set-all}
 use Rattle.number_laws.proofs.Each.{Each, each-more, each-always, each-map}
 use Rattle.number_laws.proofs.Within.{StateWithin, CoreWithin, CopyWithin, PairWithin, PairsWithin, ImageWithin}
@@ -58,16 +60,15 @@ image-number n items (Serves sectors s) d low is disc hand t restores = by s.lab
     by point.Await given = known given
     by point.Ended given = known given
 
--- what a core's checkpoint carries
-pub carried-within : (n : ℕ) (d : Bool) (core : Core) → n < 4294967295 → CoreWithin n d core
-    → ImageWithin n d (carried core)
-carried-within n d core low is = record {
-  files = each-map _ (λ file. record { file = file; next = next_on core file }) (listed_files core.state)
-      (each-always _ (λ file. next-low n core.next file is.next) (listed_files core.state));
+-- what a core's checkpoint carries that names these items and files
+pub carried-within : (n : ℕ) (d : Bool) (items files : List ℕ) (core : Core) → n < 4294967295 → CoreWithin n d core
+    → ImageWithin n d (carried_with items files core)
+carried-within n d items files core low is = record {
+  files = each-map _ (λ file. record { file = file; next = next_on core file }) files
+      (each-always _ (λ file. next-low n core.next file is.next) files);
   taken = is.taken;
   kept = is.kept;
-  write = λ disc hand t restores. image-number n (listed_items core.state) core.state d low is.state disc hand t
-      restores;
+  write = λ disc hand t restores. image-number n items core.state d low is.state disc hand t restores;
 }
 
 -- Copies of pairs
@@ -112,6 +113,9 @@ module _ (n : ℕ) (kinds : ℕ → Bool) (w : World) (within : WorldWithin n ki
     own : CopyWithin n (kinds number) (copy_of k pair)
     own = copy-there n (kinds number) k pair (within.pairs number pair there)
 
+    era-low : (copy_of k pair).era ≤ n + 1
+    era-low = let few = own.2 in omega (arith, few)
+
     -- an act of its own
     sent-messages : (node : ℕ) (messages : List Message) → Each (MessageWithin (n + 1) kinds) messages
         → AreSendings (n + 1) kinds (sent_at node messages)
@@ -128,7 +132,7 @@ module _ (n : ℕ) (kinds : ℕ → Bool) (w : World) (within : WorldWithin n ki
                 (pair-with (n + 1) (kinds number) k _ (record pair { sectors = o.after.sectors }) whole (
                   o-is.core,
                   (let few = own.1 in omega (arith, few)),
-                  own.2,
+                  era-low,
                   (let up = e.position in let few = own.3 in omega (arith, up, few)),
                   o-is.waiting,
                 ));
@@ -176,7 +180,7 @@ module _ (n : ℕ) (kinds : ℕ → Bool) (w : World) (within : WorldWithin n ki
     passed true = record {
       world = record {
         pairs = pairs-set number _ (pair-with (n + 1) (kinds number) k _ pair whole
-            (marked-core, number-low, own.2, (let few = own.3 in omega (arith, few)), waiting-low));
+            (marked-core, number-low, era-low, (let few = own.3 in omega (arith, few)), waiting-low));
         acts =
             acts-set number k pair pair (record (copy_at_checkpoint (copy_of k pair))
             { position = (copy_of k pair).position + 1 }) w.kept there refl refl (omega arith);
@@ -192,7 +196,7 @@ module _ (n : ℕ) (kinds : ℕ → Bool) (w : World) (within : WorldWithin n ki
             (pair-with (n + 1) (kinds number) k _ pair whole (
               marked-core,
               number-low,
-              own.2,
+              era-low,
               (let own_few = own-few number (kept_at_checkpoint number (copy_of k pair) w.kept) in
                   let acts = within.acts in
                   omega (arith, own_few, mark-few, held-low, acts)),
@@ -209,6 +213,15 @@ module _ (n : ℕ) (kinds : ℕ → Bool) (w : World) (within : WorldWithin n ki
       sendings = tt;
     }
 
+    core-later : CoreWithin (n + 1) (kinds number) (copy_of k pair).core
+    core-later = core-more (n + 1) n (kinds number) (copy_of k pair).core (omega arith) own.0
+
+    position-low : (copy_of k pair).position ≤ n + 1
+    position-low = let few = own.3 in omega (arith, few)
+
+    abbrev image : Image
+    image = carried_by (copy_of k pair).renewal (copy_of k pair).core
+
     sent : DoneWithin (n + 1) kinds (sent_done number k pair w)
     sent = record {
       world = record {
@@ -216,10 +229,10 @@ module _ (n : ℕ) (kinds : ℕ → Bool) (w : World) (within : WorldWithin n ki
             pairs-set number _
             (pair-with (n + 1) (kinds number) k (after_sending (copy_of k pair))
             (record pair { checkpoints = checkpoint_of number (copy_of k pair) ∷ pair.checkpoints }) whole (
-              core-more (n + 1) n (kinds number) (copy_of k pair).core (omega arith) own.0,
+              core-later,
               (let few = own.1 in omega (arith, few)),
-              own.2,
-              (let few = own.3 in omega (arith, few)),
+              era-low,
+              position-low,
               waiting-low,
             ));
         acts =
@@ -234,16 +247,35 @@ module _ (n : ℕ) (kinds : ℕ → Bool) (w : World) (within : WorldWithin n ki
       sendings = (image-later, tt);
     }
       where
-        image-later : ImageWithin (n + 1) (kinds number) (carried (copy_of k pair).core)
+        image-now : ImageWithin n (kinds number) image
+        image-now =
+            carried-within n (kinds number) (items_for (copy_of k pair).renewal (copy_of k pair).core.state)
+            (files_for (copy_of k pair).renewal (copy_of k pair).core.state) (copy_of k pair).core low own.0
+
+        image-later : ImageWithin (n + 1) (kinds number) image
         image-later =
-            let image = carried-within n (kinds number) (copy_of k pair).core low own.0 in
             record {
-              files = each-more _ _ (λ (named : FileNumber) few. omega (arith, few))
-                  (carried (copy_of k pair).core).files image.files;
-              taken = each-more _ _ (λ block few. omega (arith, few)) (copy_of k pair).core.receive.openers image.taken;
-              kept = let few = image.kept in omega (arith, few);
-              write = λ disc hand t restores. let few = image.write disc hand t restores in omega (arith, few);
+              files = each-more _ _ (λ (named : FileNumber) few. omega (arith, few)) image.files image-now.files;
+              taken =
+                  each-more _ _ (λ block few. omega (arith, few)) (copy_of k pair).core.receive.openers
+                  image-now.taken;
+              kept = let few = image-now.kept in omega (arith, few);
+              write = λ disc hand t restores. let few = image-now.write disc hand t restores in omega (arith, few);
             }
+
+    -- what it has sent comes to its end
+    ended : DoneWithin (n + 1) kinds (ended_done number k pair w)
+    ended = record {
+      world = record {
+        pairs = pairs-set number _ (pair-with (n + 1) (kinds number) k (after_sent (copy_of k pair)) pair whole
+            (core-later, number-low, era-low, position-low, waiting-low));
+        acts =
+            acts-set number k pair pair (after_sent (copy_of k pair)) w.kept there refl refl (omega arith);
+        shown = let few = within.shown in omega (arith, few);
+        terminals = terminals-more (n + 1) n w.terminals (omega arith) within.terminals;
+      };
+      sendings = tt;
+    }
 
     marks : (passes was_sent : Bool) → AnyWithin (n + 1) kinds (mark_done number k pair w passes was_sent)
     marks true was_sent = passed (nat_lt (copy_of k pair).position (own_acts number w.kept))
@@ -259,19 +291,47 @@ module _ (n : ℕ) (kinds : ℕ → Bool) (w : World) (within : WorldWithin n ki
         (own-within n kinds (kinds number) number (copy_of k pair).core (around (copy_of k pair) pair w) own.0
         within.shown own.4 site stands)
 
+    ends : (may : Bool) → AnyWithin (n + 1) kinds (made_if number w may (ending_step number k pair (records_of w)))
+    ends true = ended
+    ends false = tt
+
+    sends : (may : Bool) → AnyWithin (n + 1) kinds (made_if number w may (sending_step number k pair (records_of w)))
+    sends true = sent
+    sends false = tt
+
+    abbrev is_alone : Bool
+    is_alone = has_noted w.marks (copy_of k pair).processor (copy_of (other_of k) pair).processor
+
+    renews : (stands : Point) → AnyWithin (n + 1) kinds (renewing_at number k pair w stands)
+    renews point.Inner = sends (not is_alone)
+    renews point.Take = sends (not is_alone)
+    renews point.Ask = sends (not is_alone)
+    renews point.Answer = sends (not is_alone)
+    renews point.Device = sends (not is_alone)
+    renews point.AtCheckpoint = sends (not is_alone)
+    renews point.Ended = sends (not is_alone)
+    renews point.Await = tt
+
+    free : (site : Site) (stands : Point) (was_sent renewal : Bool)
+        → AnyWithin (n + 1) kinds (free_at site number k pair w stands was_sent renewal)
+    free site stands true renewal = ends (may_pass w.marks k pair)
+    free site stands false true = renews stands
+    free site stands false false = acts-at site stands
+
     run-point : (site : Site) (stands : Point) → AnyWithin (n + 1) kinds (run_at site number k pair w stands)
     run-point site point.AtCheckpoint = marks (may_pass w.marks k pair) (copy_of k pair).sent
-    run-point site point.Inner = acts-at site point.Inner
-    run-point site point.Take = acts-at site point.Take
-    run-point site point.Ask = acts-at site point.Ask
-    run-point site point.Answer = acts-at site point.Answer
-    run-point site point.Device = acts-at site point.Device
-    run-point site point.Await = tt
-    run-point site point.Ended = tt
+    run-point site point.Inner = free site point.Inner (copy_of k pair).sent (copy_of k pair).renewal
+    run-point site point.Take = free site point.Take (copy_of k pair).sent (copy_of k pair).renewal
+    run-point site point.Ask = free site point.Ask (copy_of k pair).sent (copy_of k pair).renewal
+    run-point site point.Answer = free site point.Answer (copy_of k pair).sent (copy_of k pair).renewal
+    run-point site point.Device = free site point.Device (copy_of k pair).sent (copy_of k pair).renewal
+    run-point site point.Await = free site point.Await (copy_of k pair).sent (copy_of k pair).renewal
+    run-point site point.Ended = free site point.Ended (copy_of k pair).sent (copy_of k pair).renewal
 
     pub run-role : (site : Site) (role : Role) → AnyWithin (n + 1) kinds (run_as site number k pair w role)
     run-role site Acting = run-point site (process.point (copy_of k pair).core.state)
     run-role site Watching = tt
+    run-role site Blank = tt
     run-role site Gone = tt
 
   either-within : (number : ℕ) (one other : Option Stepped) → AnyWithin (n + 1) kinds (lifted number w one)

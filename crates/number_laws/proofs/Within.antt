@@ -47,10 +47,10 @@ pub record CoreWithin (n : ℕ) (disc : Bool) (core : Core) : Type 0 where
   pub taken : AreTaken n core.receive.openers
   pub kept : kept_in core.receive.openers ≤ n
 
--- of a copy: its core, its number, its era if it watches, its position, and how many requests wait
+-- of a copy: its core, its number, its era, its position, and how many requests wait
 abbrev pub CopyWithin : ℕ → Bool → Copy → Type 0
 CopyWithin n disc copy =
-    CoreWithin n disc copy.core × (copy.number ≤ n) × (copy.role ≡ Watching → copy.era ≡ 0) × (copy.position ≤ n)
+    CoreWithin n disc copy.core × (copy.number ≤ n) × (copy.era ≤ n) × (copy.position ≤ n)
     × (length copy.waiting ≤ n)
 
 abbrev pub PairWithin : ℕ → Bool → Pair → Type 0
@@ -98,11 +98,23 @@ abbrev pub PairsWithin : ℕ → (ℕ → Bool) → List Pair → Type 0
 PairsWithin n kinds pairs =
     (number : ℕ) (pair : Pair) → slice_get pairs number ≡ Some pair → PairWithin n (kinds number) pair
 
+-- the eras of copies that watch
+abbrev pub WatchersWithin : ℕ → List Pair → Type 0
+WatchersWithin n pairs =
+    (number : ℕ) (pair : Pair) → slice_get pairs number ≡ Some pair → (k : Which) → (copy_of k pair).role ≡ Watching
+    → (copy_of k pair).era ≤ n
+
 pub record WorldWithin (n : ℕ) (kinds : ℕ → Bool) (w : World) : Type 0 where
   pub pairs : PairsWithin n kinds w.processes
   pub acts : length w.kept + held_in w.processes ≤ n
   pub shown : length w.shown ≤ n
   pub terminals : Each (TerminalWithin n) w.terminals
+
+-- no copy that watches is of a later era than there are events
+pub watchers-within : (n : ℕ) (kinds : ℕ → Bool) (w : World) → WorldWithin n kinds w
+    → WatchersWithin n w.processes
+watchers-within n kinds w is number pair there First watches = (is.pairs number pair there).0.2
+watchers-within n kinds w is number pair there Second watches = (is.pairs number pair there).1.2
 
 pub record DoneWithin (n : ℕ) (kinds : ℕ → Bool) (done : Done) : Type 0 where
   pub world : WorldWithin n kinds done.world
@@ -126,8 +138,13 @@ core-more m n disc core less is = record {
 }
 
 pub copy-more : (m n : ℕ) (disc : Bool) (copy : Copy) → n ≤ m → CopyWithin n disc copy → CopyWithin m disc copy
-copy-more m n disc copy less is =
-    (core-more m n disc copy.core less is.0, more m n _ less is.1, is.2, more m n _ less is.3, more m n _ less is.4)
+copy-more m n disc copy less is = (
+  core-more m n disc copy.core less is.0,
+  more m n _ less is.1,
+  more m n _ less is.2,
+  more m n _ less is.3,
+  more m n _ less is.4,
+)
 
 pub pair-more : (m n : ℕ) (disc : Bool) (pair : Pair) → n ≤ m → PairWithin n disc pair → PairWithin m disc pair
 pair-more m n disc pair less is =

@@ -7,20 +7,20 @@ use Rattle.gd_words.specs.Ranges.{HasNext, HasNextLong}
 use Rattle.schedule.specs.declared.event.Event.{Event}
 use Rattle.message_wires.specs.checkpoint_image.specs.declared.receive.OpenerBlock.{OpenerBlock}
 use Rattle.message_wires.specs.checkpoint_image.specs.Behaving.{last_write_of}
-use Rattle.message_wires.specs.world_semantics.specs.declared.role.Role.TheVariants.{Watching}
 use Rattle.message_wires.specs.world_semantics.specs.declared.which.Which.{Which}
 use Rattle.message_wires.specs.world_semantics.specs.World.{Copy, Pair, Terminal, World, copy_of}
 use Rattle.message_wires.specs.machine_states.specs.States.{Makes}
 use Rattle.message_wires.specs.Play.{MachineState, play}
 
 -- of a copy: the number of the next request on each file, the number last taken from each opener, that of a disc's last
--- write, that of the last checkpoint, the era if it watches, since only then it may take over, and its position
+-- write, that of the last checkpoint, the era, which rises where the copy takes over and where the other one's
+-- processor is loaded again, and its position
 pub record CopyHasRoom (copy : Copy) : Type 0 where
   pub next : All HasNext copy.core.next
   pub taken : All (λ (block : OpenerBlock). HasNext block.taken) copy.core.receive.openers
   pub write : HasNext (last_write_of copy.core.state)
   pub number : HasNext copy.number
-  pub era : copy.role ≡ Watching → HasNext copy.era
+  pub era : HasNext copy.era
   pub position : HasNextLong copy.position
 
 -- of a process: each of its copies

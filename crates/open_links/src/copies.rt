@@ -33,7 +33,7 @@ fn add_waiting_at(copy: &NodeCopy, node: u8, requests: &mut List<Request>) -> Re
     }
     match copy.role() {
         Role::Gone => Ok(()),
-        Role::Acting | Role::Watching => add_all(copy.waiting(), requests),
+        Role::Acting | Role::Watching | Role::Blank => add_all(copy.waiting(), requests),
     }
 }
 
@@ -85,7 +85,7 @@ fn add_in_hand_at(
     ensures { OnOk result (names.new ≡ names.old ++ in_hand_at node number copy.now.copy) }
 {
     match copy.role() {
-        Role::Watching | Role::Gone => Ok(()),
+        Role::Watching | Role::Blank | Role::Gone => Ok(()),
         Role::Acting => {
             if copy.processor() != node {
                 return Ok(());

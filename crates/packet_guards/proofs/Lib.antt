@@ -2,6 +2,7 @@ pub mod Buses
 pub mod Drives
 pub mod Forms
 pub mod Lines
+pub mod Loading
 pub mod Marks
 pub mod Rooms
 pub mod Takeover

@@ -1,9 +1,10 @@
 -- States of the machine over packets at which its rules are seen.
-use Rattle.std.specs.Prelude.{ℕ, ℤ, true, false, List, [], ◌∷◌, map}
+use Rattle.std.specs.Prelude.{ℕ, ℤ, Bool, true, false, List, [], ◌∷◌, map, Option}
 use Rattle.std.specs.Option.{option_map, unwrap_or}
 use Rattle.schedule.specs.declared.event.Event.{Event}
 use Rattle.schedule.specs.declared.event.Event.TheVariants as event
 use Rattle.packet_words.specs.declared.bus_name.BusName.{BusName}
+use Rattle.packet_words.specs.declared.packet.Incarnation.{Incarnation}
 use Rattle.packet_words.specs.declared.packet.Packet.{Packet}
 use Rattle.packet_words.specs.declared.packet.PacketKind.{PacketKind}
 use Rattle.packet_words.specs.declared.packet.PacketKind.TheVariants as kind
@@ -23,6 +24,12 @@ use Rattle.machine_states.specs.disc_device.specs.mirror.specs.declared.state.Dr
 
 abbrev pub packet : ℕ → ℕ → PacketKind → Packet
 packet sender receiver kind = record { sender = sender; receiver = receiver; incarnation = never_reloaded; kind = kind }
+
+-- the same of nodes that were loaded again so often
+abbrev pub packet_of : ℕ → ℕ → ℕ → ℕ → PacketKind → Packet
+packet_of times_sender times_receiver sender receiver kind =
+    record (packet sender receiver kind)
+    { incarnation = record { sender = times_sender; receiver = times_receiver } }
 
 -- acknowledgements of pieces that nobody sent: what they come to changes nothing
 abbrev pub stray : ℕ → Packet
@@ -80,6 +87,15 @@ none_stopped = record three_at_boot { wires = two_lost }
 -- the node of the terminals was told that processor 0 is down
 abbrev pub told : Packeted
 told = end_of taken_over (event.Deliver false 6 ∷ [])
+
+-- the incarnations that an end bears, and how many pieces it has numbered and kept, and whether the other node is down
+-- there
+abbrev pub bears : Packeted → ℕ → ℕ → Option Incarnation
+bears s node other = option_map (λ e. e.incarnation) (end_at s.wires.nodes node other)
+
+abbrev pub has_moved : Packeted → ℕ → ℕ → Option (ℕ × ℕ × Bool)
+has_moved s node other =
+    option_map (λ e. (e.sending.numbered, e.receiving.kept, e.down)) (end_at s.wires.nodes node other)
 
 -- what goes out of an event, as it is seen, each packet with its bus
 abbrev pub outgoing : List Outgoing → List (BusName × Sight)

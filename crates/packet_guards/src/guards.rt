@@ -152,7 +152,7 @@ pub fn a_mark_closes_the_channel()
         ≡ alive 1 0 ∷ alive 1 0 ∷ alive 1 0 ∷ alive 1 0 ∷ [] }
 {}
 
-/// A line doesn't stop a second processor, and neither does a failure.
+/// A line doesn't stop a second processor while one has stopped, and neither does a failure.
 pub fn no_second_stop()
     ensures line { play second_silent (event.Tick 0) ≡ Would (SecondStop 2) }
     ensures first { (end_of none_stopped (event.Tick 0 ∷ [])).world.stopped ≡ false ∷ false ∷ true ∷ [] }

@@ -5,7 +5,8 @@ use Rattle.std.specs.List.{remove}
 use Rattle.std.proofs.lemmas.Bool.{ltb-true}
 use Rattle.tal_tree.specs.declared.site.Site.{Site}
 use Rattle.schedule.specs.declared.event.Event.{Event}
-use Rattle.schedule.specs.declared.event.Event.TheVariants.{Run, Enter, Deliver, Lose, Repeat, Tick, Fail, Drive}
+use Rattle.schedule.specs.declared.event.Event.TheVariants.{Run, Enter, Deliver, Lose, Repeat, Tick, Fail, Reload}
+use Rattle.schedule.specs.declared.event.Event.TheVariants.{Drive}
 use Rattle.machine_states.specs.States.{Played, Makes, Skips, Would}
 use Rattle.packet_words.specs.declared.bus_name.BusName.{BusName}
 use Rattle.packet_words.specs.declared.bus_name.BusName.TheVariants as bus
@@ -52,6 +53,7 @@ off-few (Lose true k) wires few = (few.0, remove-few wires.y k few.1)
 off-few (Repeat y k) wires few = few
 off-few (Tick node) wires few = few
 off-few (Fail processor) wires few = few
+off-few (Reload processor) wires few = few
 off-few (Drive event) wires few = few
 
 abbrev AreFewPlayed : Played Wires → Type 0

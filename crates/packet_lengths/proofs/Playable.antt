@@ -30,7 +30,8 @@ pub accepted-can : (site : Site) (lines : List Line) (stop : Option ProcessorSto
     → KeepsSiteLimits site → IsLaidOut site → AsksForFewEvents site lines stop
     → CanBePlayed packet_rules IsReady (course_on site lines stop)
 accepted-can site lines stop accepted keeps out few = record {
-  ready = λ events agenda s plays. is-ready site events s (accepted-fit site accepted) (small-of site accepted keeps)
-      out (plays-few site lines stop few events agenda s plays) (played {lines = lines} {stop = stop} plays);
+  ready = λ events agenda s plays. is-ready site events s (accepted-fit site accepted out.places)
+      (small-of site accepted keeps) out (plays-few site lines stop few events agenda s plays)
+      (played {lines = lines} {stop = stop} plays);
   few = plays-few site lines stop few;
 }

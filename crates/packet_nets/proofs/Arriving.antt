@@ -25,21 +25,22 @@ use Rattle.packet_nets.proofs.Tied.{Place, here, there, place, put-other}
 
 -- a packet from s comes in at r. It completes nothing; or a message that is of no letter; or one that is, whose parcel
 -- is owed no longer; or one that is, whose parcel was handed over before
-pub data Arrives (site : Site) (stopped : List Bool) (owed sent : List Parcel) (next : Net) (s r : ℕ) : Option (List ℤ)
+pub data Arrives (site : Site) (stopped : List Bool) (reloads : List ℕ) (owed sent : List Parcel) (next : Net)
+    (s r : ℕ) : Option (List ℤ)
     → Type 0 where
-  hands_none : Owes site stopped owed sent next → Arrives site stopped owed sent next s r None
+  hands_none : Owes site stopped reloads owed sent next → Arrives site stopped reloads owed sent next s r None
   hands_other : {words : List ℤ} → (told : NodeMessage) → understood site words ≡ Some told → Fits site told
-      → IsTrueOf stopped sent s r told → content_of told ≡ None
-      → Owes site stopped owed sent next → Arrives site stopped owed sent next s r (Some words)
+      → IsTrueOf stopped reloads sent s r told → content_of told ≡ None
+      → Owes site stopped reloads owed sent next → Arrives site stopped reloads owed sent next s r (Some words)
   hands_letter : {words : List ℤ} {rest : List Parcel} → (content : NodeMessage) → IsContent content
       → understood site words ≡ Some content → Fits site content
       → IsAmong (record { sender = s; receiver = r; content = content }) sent
       → IsTaken (record { sender = s; receiver = r; content = content }) owed rest
-      → Owes site stopped rest sent next → Arrives site stopped owed sent next s r (Some words)
+      → Owes site stopped reloads rest sent next → Arrives site stopped reloads owed sent next s r (Some words)
   hands_again : {words : List ℤ} → (content : NodeMessage) → IsContent content
       → understood site words ≡ Some content → Fits site content
-      → IsAmong (record { sender = s; receiver = r; content = content }) sent → Owes site stopped owed sent next
-      → Arrives site stopped owed sent next s r (Some words)
+      → IsAmong (record { sender = s; receiver = r; content = content }) sent → Owes site stopped reloads owed sent next
+      → Arrives site stopped reloads owed sent next s r (Some words)
 
 -- every channel is open or closed
 pub data Opened (stopped : List Bool) (n : Net) (x y : ℕ) : Type 0 where
@@ -86,7 +87,8 @@ ways-out r s (kind.Piece number piece) ways a b n =
 ways-out r s (kind.Acknowledgement number) ways a b n =
     put-all (λ a b w. w.out ≡ (ways a b).out) r s (telling number (ways r s)) ways refl (λ a b. refl) a b
 
-module _ {site : Site} {stopped : List Bool} {owed sent : List Parcel} {n : Net} (o : Owes site stopped owed sent n)
+module _ {site : Site} {stopped : List Bool} {reloads : List ℕ} {owed sent : List Parcel} {n : Net}
+    (o : Owes site stopped reloads owed sent n)
     (next : Net) (whole : IsWhole next) (s r : ℕ)
     (pushes : (a b : ℕ) → (next.ways a b).pushes ≡ (n.ways a b).pushes)
     (out : (a b : ℕ) → (a ≡ s → b ≡ r → ⊥) → (next.ways a b).out ≡ (n.ways a b).out)
@@ -101,13 +103,14 @@ module _ {site : Site} {stopped : List Bool} {owed sent : List Parcel} {n : Net}
     back = sym (down b a) ∙ one.back;
   }
 
-  kept : (a b : ℕ) (words : List ℤ) → IsAmong words (next.ways a b).pushes → IsPushed site stopped sent a b words
+  kept : (a b : ℕ) (words : List ℤ) → IsAmong words (next.ways a b).pushes
+      → IsPushed site stopped reloads sent a b words
   kept a b words among = o.pushed a b words (subst (IsAmong words) (pushes a b) among)
 
   -- the rest is owed, if it is right for this channel, and for each other one as before
   by-rest : (rest : List Parcel) → ((a b : ℕ) → (a ≡ s → b ≡ r → ⊥) → between a b rest ≡ between a b owed)
       → (IsOpen stopped next s r → carried (next.ways s r).pushes ≡ carried (next.ways s r).out ++ between s r rest)
-      → Owes site stopped rest sent next
+      → Owes site stopped reloads rest sent next
   by-rest rest elsewhere here_too = record {
     pushed = kept;
     owes = λ a b one. by a b one (place s r a b);
@@ -125,7 +128,7 @@ module _ {site : Site} {stopped : List Bool} {owed sent : List Parcel} {n : Net}
           (here_too (subst (λ c. IsOpen stopped next s c) u (subst (λ c. IsOpen stopped next c b) e one))))
 
   pub arrives : (h : Option (List ℤ)) → (next.ways s r).out ≡ (n.ways s r).out ++ option_to_list h
-      → Arrives site stopped owed sent next s r h
+      → Arrives site stopped reloads owed sent next s r h
   arrives None gained = hands_none (by-rest owed (λ a b m. refl) (λ one.
       ap carried (pushes s r) ∙ o.owes s r (was s r one)
       ∙ ap (λ ms. carried ms ++ between s r owed) (sym (gained ∙ append-nil (n.ways s r).out))))
@@ -139,7 +142,7 @@ module _ {site : Site} {stopped : List Bool} {owed sent : List Parcel} {n : Net}
       come = (whole.joint s r).receiving.come ∙ ap (λ ms. ms ++ rest) gained
           ∙ append_assoc (n.ways s r).out (words ∷ []) rest
 
-      pushed : IsPushed site stopped sent s r words
+      pushed : IsPushed site stopped reloads sent s r words
       pushed = kept s r words (subst (IsAmong words) (sym come)
           (among-right words (n.ways s r).out (words ∷ rest) (inl refl)))
 
@@ -167,7 +170,7 @@ module _ {site : Site} {stopped : List Bool} {owed sent : List Parcel} {n : Net}
 
       letter : (content : NodeMessage) → IsContent content → words ≡ words_of content → Fits site content
           → IsAmong (record { sender = s; receiver = r; content = content }) sent
-          → Opened stopped next s r → Arrives site stopped owed sent next s r (Some words)
+          → Opened stopped next s r → Arrives site stopped reloads owed sent next s r (Some words)
       letter content own is fits right (is_closed closed) =
           hands_again content own (reads content is fits) fits right
           (by-rest owed (λ a b m. refl) (λ one. absurd (closed one)))
@@ -178,8 +181,8 @@ module _ {site : Site} {stopped : List Bool} {owed sent : List Parcel} {n : Net}
           (by-rest took.rest took.elsewhere (λ again. all
           ∙ ap (λ ms. carried (next.ways s r).out ++ ms) (sym took.here)))
 
-      by : (told : NodeMessage) → words ≡ words_of told → Fits site told → IsTrueOf stopped sent s r told
-          → Arrives site stopped owed sent next s r (Some words)
+      by : (told : NodeMessage) → words ≡ words_of told → Fits site told → IsTrueOf stopped reloads sent s r told
+          → Arrives site stopped reloads owed sent next s r (Some words)
       by (Carrying message) is fits right = letter (Carrying message) refl is fits right (opened stopped next s r)
       by (Changing change) is fits right = letter (Changing change) refl is fits right (opened stopped next s r)
       by (Reporting node set) is fits right =

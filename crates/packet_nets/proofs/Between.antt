@@ -91,7 +91,7 @@ pub between-no : (a b : ℕ) (parcel : Parcel) (rest : List Parcel) → goes a b
     → between a b (parcel ∷ rest) ≡ between a b rest
 between-no a b parcel rest g = rw g refl
 
-between-cons : (a b : ℕ) (parcel : Parcel) (one other : List Parcel) → between a b one ≡ between a b other
+pub between-cons : (a b : ℕ) (parcel : Parcel) (one other : List Parcel) → between a b one ≡ between a b other
     → between a b (parcel ∷ one) ≡ between a b (parcel ∷ other)
 between-cons a b parcel one other e = by (goes a b parcel) refl
   where

@@ -4,6 +4,7 @@ pub mod Buses
 pub mod Nodes
 pub mod Owing
 pub mod Passing
+pub mod Reloading
 pub mod Resting
 pub mod Sending
 pub mod Ticking

@@ -18,12 +18,12 @@ use Rattle.packet_nets.proofs.Between.{parcels_by, between-append, carried-appen
 use Rattle.packet_nets.proofs.Between.{by-elsewhere, without-between}
 use Rattle.packet_nets.proofs.Tied.{Place, here, there, place, put-other, stop-running, stop-stopped}
 
-module _ {site : Site} {stopped : List Bool} {owed sent : List Parcel} {n : Net}
-    (o : Owes site stopped owed sent n) where
+module _ {site : Site} {stopped : List Bool} {reloads : List ℕ} {owed sent : List Parcel} {n : Net}
+    (o : Owes site stopped reloads owed sent n) where
   -- a net in which no way and no cut changed owes as much
   pub calm-owes : (next : Net) → ((a b : ℕ) → (next.ways a b).pushes ≡ (n.ways a b).pushes)
       → ((a b : ℕ) → (next.ways a b).out ≡ (n.ways a b).out)
-      → ((a b : ℕ) → (next.ends a b).down ≡ (n.ends a b).down) → Owes site stopped owed sent next
+      → ((a b : ℕ) → (next.ends a b).down ≡ (n.ends a b).down) → Owes site stopped reloads owed sent next
   calm-owes next pushes out down = record {
     pushed = λ a b words among. o.pushed a b words (subst (IsAmong words) (pushes a b) among);
     owes = λ a b opened. ap carried (pushes a b) ∙ o.owes a b (was a b opened)
@@ -40,8 +40,8 @@ module _ {site : Site} {stopped : List Bool} {owed sent : List Parcel} {n : Net}
       }
 
   true-more : (more : List Parcel) → ((parcel : Parcel) → IsAmong parcel sent → IsAmong parcel more)
-      → (x y : ℕ) (told : NodeMessage) → IsTrueOf stopped sent x y told
-      → IsTrueOf stopped more x y told
+      → (x y : ℕ) (told : NodeMessage) → IsTrueOf stopped reloads sent x y told
+      → IsTrueOf stopped reloads more x y told
   true-more more up x y (Carrying message) is = up _ is
   true-more more up x y (Changing change) is = up _ is
   true-more more up x y (Reporting node set) is = tt
@@ -49,7 +49,7 @@ module _ {site : Site} {stopped : List Bool} {owed sent : List Parcel} {n : Net}
 
   -- as many are owed when more parcels were sent
   pub more-owes : (more : List Parcel) → ((parcel : Parcel) → IsAmong parcel sent → IsAmong parcel more)
-      → Owes site stopped owed more n
+      → Owes site stopped reloads owed more n
   more-owes more up = record {
     pushed = λ a b words among. let one = o.pushed a b words among in
         record {
@@ -62,10 +62,11 @@ module _ {site : Site} {stopped : List Bool} {owed sent : List Parcel} {n : Net}
   }
 
   -- one more push
-  pub push-owes : (x y : ℕ) (told : NodeMessage) → Fits site told → IsTrueOf stopped sent x y told → (next : Net)
+  pub push-owes : (x y : ℕ) (told : NodeMessage) → Fits site told → IsTrueOf stopped reloads sent x y told
+      → (next : Net)
       → next.ways ≡ put x y (pushing (words_of told) (n.ways x y)) n.ways
       → ((a b : ℕ) → (next.ends a b).down ≡ (n.ends a b).down)
-      → Owes site stopped (owed ++ parcels_by x y told) sent next
+      → Owes site stopped reloads (owed ++ parcels_by x y told) sent next
   push-owes x y told fits right next ways down = record {
     pushed = λ a b words among. new a b words
         (subst (IsAmong words) (ap (λ (f : ℕ → ℕ → Way). (f a b).pushes) ways) among);
@@ -84,10 +85,10 @@ module _ {site : Site} {stopped : List Bool} {owed sent : List Parcel} {n : Net}
       }
 
       new : (a b : ℕ) (words : _) → IsAmong words (put x y (pushing (words_of told) (n.ways x y)) n.ways a b).pushes
-          → IsPushed site stopped sent a b words
+          → IsPushed site stopped reloads sent a b words
       new a b words = by (place x y a b)
         where
-          one : IsAmong words ((n.ways x y).pushes ++ words_of told ∷ []) → IsPushed site stopped sent x y words
+          one : IsAmong words ((n.ways x y).pushes ++ words_of told ∷ []) → IsPushed site stopped reloads sent x y words
           one among = elim (among-either words (n.ways x y).pushes (words_of told ∷ []) among) [
             | inl before ↦ o.pushed x y words before
             | inr now ↦ elim now [
@@ -98,10 +99,10 @@ module _ {site : Site} {stopped : List Bool} {owed sent : List Parcel} {n : Net}
           ]
 
           by : Place x y a b → IsAmong words (put x y (pushing (words_of told) (n.ways x y)) n.ways a b).pushes
-              → IsPushed site stopped sent a b words
+              → IsPushed site stopped reloads sent a b words
           by (here s u) among =
-              subst (λ c. IsPushed site stopped sent c b words) (sym s)
-              (subst (λ c. IsPushed site stopped sent x c words) (sym u)
+              subst (λ c. IsPushed site stopped reloads sent c b words) (sym s)
+              (subst (λ c. IsPushed site stopped reloads sent x c words) (sym u)
               (one (subst (λ (w : Way). IsAmong words w.pushes)
               (put-same x y (pushing (words_of told) (n.ways x y)) n.ways)
               (subst (λ c. IsAmong words (put x y (pushing (words_of told) (n.ways x y)) n.ways x c).pushes) u
@@ -143,7 +144,7 @@ module _ {site : Site} {stopped : List Bool} {owed sent : List Parcel} {n : Net}
 
   -- a parcel may be owed on a closed channel without being pushed
   pub closed-owes : (x y : ℕ) (told : NodeMessage) → (IsOpen stopped n x y → ⊥)
-      → Owes site stopped (owed ++ parcels_by x y told) sent n
+      → Owes site stopped reloads (owed ++ parcels_by x y told) sent n
   closed-owes x y told closed = record {
     pushed = o.pushed;
     owes = λ a b opened. o.owes a b opened ∙ ap (λ ms. carried (n.ways a b).out ++ ms)
@@ -159,7 +160,7 @@ module _ {site : Site} {stopped : List Bool} {owed sent : List Parcel} {n : Net}
   pub without-owes : (x y : ℕ) (next : Net) → next.ways ≡ n.ways
       → ((a b : ℕ) → IsOpen stopped next a b → IsOpen stopped n a b) → (IsOpen stopped next x y → ⊥)
       → (IsOpen stopped next y x → ⊥)
-      → Owes site stopped (without_those_between x y owed) sent next
+      → Owes site stopped reloads (without_those_between x y owed) sent next
   without-owes x y next ways was one other = record {
     pushed = λ a b words among. o.pushed a b words
         (subst (IsAmong words) (ap (λ (f : ℕ → ℕ → Way). (f a b).pushes) ways) among);
@@ -180,7 +181,7 @@ module _ {site : Site} {stopped : List Bool} {owed sent : List Parcel} {n : Net}
 
   -- a stop of a processor that runs
   pub stop-owes : (processor : ℕ) → slice_get stopped processor ≡ Some false
-      → Owes site (slice_set stopped processor true) owed sent (stopped_net processor n)
+      → Owes site (slice_set stopped processor true) reloads owed sent (stopped_net processor n)
   stop-owes processor runs = record {
     pushed = λ a b words among. let one = o.pushed a b words among in
         record { message = one.message; is = one.is; fits = one.fits; right = later a b one.message one.right };
@@ -193,9 +194,10 @@ module _ {site : Site} {stopped : List Bool} {owed sent : List Parcel} {n : Net}
     });
   }
     where
-      later : (a b : ℕ) (told : NodeMessage) → IsTrueOf stopped sent a b told
-          → IsTrueOf (slice_set stopped processor true) sent a b told
+      later : (a b : ℕ) (told : NodeMessage) → IsTrueOf stopped reloads sent a b told
+          → IsTrueOf (slice_set stopped processor true) reloads sent a b told
       later a b (Carrying message) is = is
       later a b (Changing change) is = is
       later a b (Reporting node set) is = tt
-      later a b (Declaring other) is = stop-stopped stopped processor runs other is
+      later a b (Declaring other) (inl is) = inl (stop-stopped stopped processor runs other is)
+      later a b (Declaring other) (inr loaded) = inr loaded

@@ -1,25 +1,27 @@
 -- What nodes send and take in goes on in the net.
 use Rattle.std.proofs.Common.{◌≡◌, ◌≢◌, ◌≤◌, ◌<◌, ◌⊎◌, inl, inr, ℕ, zero, suc, ◌+◌, ℤ, Bool, true, false, not}
 use Rattle.std.proofs.Common.{if◌then◌else◌, ◌==◌, List, [], ◌∷◌, ◌++◌, length, Option, Some, None, slice_get}
-use Rattle.std.proofs.Common.{slice_set, refl, ap, sym, subst, ◌∙◌, arith, option_map}
+use Rattle.std.proofs.Common.{slice_set, refl, ap, sym, subst, ◌∙◌, arith, option_map, ◌&&◌, eq-eqb}
+use Rattle.std.proofs.lemmas.Bool.{and_from}
 use Rattle.std.specs.Option.{option_to_list}
 use Rattle.gd_words.specs.Members.{IsAmong}
 use Rattle.gd_words.proofs.Among.{among-left, among-right, among-either, among-one}
 use Rattle.packet_words.specs.declared.bus_name.BusName.{BusName}
 use Rattle.packet_words.specs.declared.bus_name.BusName.TheVariants as bus
 use Rattle.packet_words.specs.declared.packet.Packet.{Packet}
+use Rattle.packet_words.specs.declared.packet.Incarnation.{Incarnation}
 use Rattle.packet_words.specs.declared.packet.PacketKind.{PacketKind}
 use Rattle.packet_words.specs.declared.packet.PacketKind.TheVariants as kind
 use Rattle.packet_words.specs.declared.piece.Piece.{Piece}
 use Rattle.link_control.specs.declared.channel.Resent.{Resent}
 use Rattle.link_control.specs.Ends.{End, packet_of, piece_of, packet_outstanding, is_idle, is_kept, kept, is_ended_by}
 use Rattle.link_control.specs.Ends.{is_sent_again, after_push_of, after_push, sent_by_push, after_kind, after_packet}
-use Rattle.link_control.specs.Ends.{sent_by_kind, sent_by_packet, after_tick, sent_by_tick}
+use Rattle.link_control.specs.Ends.{sent_by_kind, sent_by_packet, after_tick, sent_by_tick, is_current}
 use Rattle.alive_regroup.specs.declared.set.ProcessorSet.{ProcessorSet}
 use Rattle.alive_regroup.specs.Watching as watching
 use Rattle.alive_regroup.specs.Watching.{Watching, changed_at, told_by_tick}
 use Rattle.channel_laws.specs.Net.{Net, Runs, packet_in, pushed_net, arrived_net, ticked_net, alive_net, stopped_net}
-use Rattle.channel_laws.specs.Net.{marked_net}
+use Rattle.channel_laws.specs.Net.{marked_net, IsCurrent}
 use Rattle.channel_laws.specs.Rounds.{Passes, nothing, by_push, by_packet, by_drop, by_tick, by_alive, by_stop, by_mark}
 use Rattle.world_semantics.specs.World.{is_running, terminal_node}
 use Rattle.packet_wires.specs.Parcels.{Parcel}
@@ -30,10 +32,11 @@ use Rattle.packet_wires.specs.Wires.{Midst, goes_over, any_goes_over, goes_again
 use Rattle.packet_wires.specs.Wires.{end_changed, watch_changed, learns, for_each, push_at, sends, sends_all, posted}
 use Rattle.packet_wires.specs.Wires.{all_posted, bus_of_answer, heard_of, arrive_at, arrived, alive_at, tells_alive}
 use Rattle.packet_wires.specs.Wires.{reports, check_at, checks, tick_at, ticked, down_at, cut_off, declares}
+use Rattle.packet_wires.specs.Play.{is_current_at}
 use Rattle.packet_nets.specs.Tied.{IsTied}
 use Rattle.packet_nets.specs.Passing.{GoesOut, IsPassing, IsCut}
 use Rattle.packet_nets.proofs.Sending.{filled, absent, no-node, no-end, is-net, still-tied, up, push-tied, tick-tied}
-use Rattle.packet_nets.proofs.Sending.{live-tied, arrive-tied}
+use Rattle.packet_nets.proofs.Sending.{live-tied, arrive-tied, current-now, is-end}
 use Rattle.packet_nets.proofs.Tied.{watched-tied, down-tied, stop-tied, repeated-tied, gone-rests, running-low}
 use Rattle.packet_nets.proofs.Tied.{running-stands}
 use Rattle.packet_nets.proofs.Watches.{size-set}
@@ -100,6 +103,24 @@ of-tick e = by e.down (is_sent_again e.sending)
     by true sent = of-none e
     by false true = again (packet_outstanding e) (of-outstanding e)
     by false false = of-none e
+
+-- What an end knows of a packet
+
+from-not : (b : Bool) → not b ≡ false → b ≡ true
+from-not true e = refl
+from-not false e = absurd cc
+
+-- an end knows the incarnations of a packet that bears the present ones
+current-there : {stopped : List Bool} {on : List Packet} {midst : Midst} {n : Net} (t : IsTied stopped on midst n)
+    (p : Packet) (e : End) → end_at midst.nodes p.receiver p.sender ≡ Some e → IsCurrent n.reloads p
+    → is_current p e ≡ true
+current-there {n = n} t p e there now =
+    let named = t.names p.receiver p.sender e there in
+    and_from (p.incarnation.sender == e.incarnation.receiver) (p.incarnation.receiver == e.incarnation.sender)
+    (eq-eqb p.incarnation.sender e.incarnation.receiver
+    (ap (λ (i : Incarnation). i.sender) now ∙ sym (ap (λ (i : Incarnation). i.receiver) named.incarnation)))
+    (eq-eqb p.incarnation.receiver e.incarnation.sender
+    (ap (λ (i : Incarnation). i.receiver) now ∙ sym (ap (λ (i : Incarnation). i.sender) named.incarnation)))
 
 -- What goes out stays so, and what is sent goes out
 
@@ -314,12 +335,12 @@ module _ {a b : ℕ} {stopped : List Bool} {on : List Packet} {start : Net} wher
           held p (inr now) = inr (inl (goes-new bus.Y (Some (packet_of e kind.Alive))
               (goes_over bus.X (packet_of e kind.Alive) midst) p now))
 
-  -- a packet that stands on a bus comes to a node that runs
+  -- a packet that stands on a bus comes to a node that runs, whose end knows its incarnations
   end-comes : {came : List Packet} (name : BusName) (p : Packet) → IsAmong p on → is_running stopped p.receiver ≡ true
-      → (midst : Midst)
+      → (midst : Midst) → is_current_at p (end_at midst.nodes p.receiver p.sender) ≡ true
       → IsPassing a b stopped on start came midst
       → IsPassing a b stopped on start (p ∷ came) (at_end p.receiver p.sender (arrive_at name p) midst)
-  end-comes {came = came} name p stands runs midst P = by_node (slice_get midst.nodes p.receiver) refl
+  end-comes {came = came} name p stands runs midst current P = by_node (slice_get midst.nodes p.receiver) refl
     where
       After : Midst → Type 0
       After next = IsPassing a b stopped on start (p ∷ came) next
@@ -333,7 +354,7 @@ module _ {a b : ℕ} {stopped : List Bool} {on : List Packet} {start : Net} wher
       dropped closed = record {
         net = P.net;
         tied = P.tied;
-        passes = by_drop p closed P.passes;
+        passes = by_drop p (λ now. closed) P.passes;
         held = λ q among. held-more on came (p ∷ came) midst q (λ before. inr before) (P.held q among);
         senders = P.senders;
         few = P.few;
@@ -350,14 +371,19 @@ module _ {a b : ℕ} {stopped : List Bool} {on : List Packet} {start : Net} wher
           (still-tied P.tied p.receiver p.sender node e at has runs (bus_of_answer name p.kind) (sent_by_packet p e)
           (after_packet p e) (rw d refl) (rw d refl))
       here node e at has false d =
+          let known : is_current p e ≡ true =
+          subst (λ (o : Option End). is_current_at p o ≡ true) (is-end midst p.receiver p.sender node e at has) current
+          in
           grown midst P p.receiver p.sender node e (after_packet p e) (bus_of_answer name p.kind) (sent_by_packet p e)
           (p ∷ came) (λ q before. inr before)
           (arrived_net p.receiver p.sender p P.net)
           (ap (λ o. P.net.flight ++ option_to_list (sent_by_packet p o))
           (is-net P.tied p.receiver p.sender node e at has runs))
           (arrive-tied P.tied p.receiver p.sender node e at has runs (bus_of_answer name p.kind) p refl refl
-          (P.tied.flight p stands) d)
-          (by_packet p (P.tied.flight p stands) (up P.tied p.receiver p.sender node e at has runs d) P.passes)
+          (P.tied.flight p stands) known d)
+          (by_packet p (P.tied.flight p stands)
+          (current-now P.tied p.receiver p.sender node e at has runs p refl refl known)
+          (up P.tied p.receiver p.sender node e at has runs d) P.passes)
           (own-end midst P p.receiver p.sender node e at has runs (sent_by_packet p e) (of-packet p e))
 
       by_end : (node : Node) → slice_get midst.nodes p.receiver ≡ Some node → (one : Option End)
@@ -371,15 +397,22 @@ module _ {a b : ℕ} {stopped : List Bool} {on : List Packet} {start : Net} wher
       by_node None at = missing (no-node midst p.receiver p.sender at)
       by_node (Some node) at = by_end node at (slice_get node.ends p.sender) refl
 
-  -- to one that doesn't run, it comes and is dropped
-  pub drop-passes : {came : List Packet} (p : Packet) → is_running stopped p.receiver ≡ false → (midst : Midst)
+  -- to one that doesn't run, or whose end knows others, it comes and is dropped
+  pub drop-passes : {came : List Packet} (p : Packet) → IsAmong p on → (midst : Midst)
+      → (is_running stopped p.receiver && is_current_at p (end_at midst.nodes p.receiver p.sender)) ≡ false
       → IsPassing a b stopped on start came midst
       → IsPassing a b stopped on start (p ∷ came) midst
-  drop-passes {came = came} p rests midst P = record {
+  drop-passes {came = came} p stands midst rests P = record {
     net = P.net;
     tied = P.tied;
-    passes = by_drop p (λ live. let bad : true ≡ false = sym (P.tied.stood p.receiver ∙ ap not rests) ∙ live.0 in
-        absurd cc) P.passes;
+    passes = by_drop p (λ now live. (let runs : is_running stopped p.receiver ≡ true =
+        from-not (is_running stopped p.receiver) (sym (P.tied.stood p.receiver) ∙ live.0) in
+        let one = P.tied.shape p.receiver p.sender (running-low stopped p.receiver P.few runs)
+        (P.senders p (P.tied.flight p stands)) in
+        let comes : (is_running stopped p.receiver && is_current_at p (end_at midst.nodes p.receiver p.sender)) ≡ true =
+        and_from (is_running stopped p.receiver) (is_current_at p (end_at midst.nodes p.receiver p.sender)) runs
+        (ap (is_current_at p) one.1 ∙ current-there P.tied p one.0 one.1 now) in
+        let bad : true ≡ false = sym comes ∙ rests in absurd cc)) P.passes;
     held = λ q among. held-more on came (p ∷ came) midst q (λ before. inr before) (P.held q among);
     senders = P.senders;
     few = P.few;
@@ -405,10 +438,11 @@ module _ {a b : ℕ} {stopped : List Bool} {on : List Packet} {start : Net} wher
 
   pub come-passes : {came : List Packet} (name : BusName) (p : Packet) → IsAmong p on
       → is_running stopped p.receiver ≡ true → (midst : Midst)
+      → is_current_at p (end_at midst.nodes p.receiver p.sender) ≡ true
       → IsPassing a b stopped on start came midst → IsPassing a b stopped on start (p ∷ came) (arrived name p midst)
-  come-passes name p stands runs midst P =
+  come-passes name p stands runs midst current P =
       watched-passes p.receiver (heard_of p.sender p.kind) (at_end p.receiver p.sender (arrive_at name p) midst)
-      (end-comes name p stands runs midst P)
+      (end-comes name p stands runs midst current P)
 
   -- a node cuts off a processor that has stopped
   pub cut-passes : {came : List Packet} (x y : ℕ) → is_running stopped x ≡ true → slice_get stopped y ≡ Some true

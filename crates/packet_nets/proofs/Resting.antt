@@ -60,6 +60,7 @@ module _ {a b : ℕ} {stopped : List Bool} {start : Net} {came : List Packet} (w
   rest-net = record {
     tied = record {
       shape = rests.shape;
+      names = rests.names;
       whole = whole-goes rest-lost P.tied.whole;
       stood = rests.stood;
       ends = rests.ends;

@@ -1,7 +1,7 @@
 -- Ticks, declarations and the beginning.
 use Rattle.std.proofs.Common.{◌≡◌, ◌≢◌, ◌≤◌, ◌<◌, ℕ, zero, suc, ◌+◌, Bool, true, false, not, if◌then◌else◌, ◌&&◌, ◌==◌}
 use Rattle.std.proofs.Common.{nat_lt, List, [], ◌∷◌, ◌++◌, length, map, drop, replicate, Option, Some, None, slice_get}
-use Rattle.std.proofs.Common.{refl, ap, sym, subst, ◌∙◌, arith}
+use Rattle.std.proofs.Common.{refl, ap, sym, subst, ◌∙◌, arith, inl}
 use Rattle.std.specs.List.{list_all}
 use Rattle.std.specs.Option.{option_and_then}
 use Rattle.std.specs.Cmp.Lexicographic.{pointwise}
@@ -12,7 +12,7 @@ use Rattle.std.proofs.lemmas.Option.{slice_get_within}
 use Rattle.tal_tree.specs.declared.site.Site.{Site}
 use Rattle.packet_words.specs.declared.packet.Packet.{Packet}
 use Rattle.link_control.specs.Ends.{End, new_end}
-use Rattle.channel_laws.specs.Net.{Net, IsWhole, quiet_net}
+use Rattle.channel_laws.specs.Net.{Net, IsNamed, IsWhole, quiet_net}
 use Rattle.channel_laws.proofs.Nets.{whole-quiet}
 use Rattle.alive_regroup.specs.declared.neighbour.Neighbour.{Neighbour}
 use Rattle.alive_regroup.specs.declared.neighbour.Neighbour.TheVariants.{Absent}
@@ -100,71 +100,78 @@ report-fits site stopped x watch set places runs is told = by (does_check watch)
         both {a = a} {b = b} e h = rw (e, h) refl
 
     by : (test : Bool) → does_check watch ≡ test
-        → (if test then set_to_tell watch.told (silent_set (map neighbour_after_check watch.neighbours)) else None)
+        → (if test then set_to_tell watch.due watch.told (silent_set (map neighbour_after_check watch.neighbours))
+        else None)
         ≡ Some set → Fits site (Reporting x set)
     by false e is = absurd cc
     by true e is =
-        changed (pointwise beq watch.told.members (silent_set (map neighbour_after_check watch.neighbours)).members) is
+        changed (not watch.due && pointwise beq watch.told.members
+        (silent_set (map neighbour_after_check watch.neighbours)).members) is
       where
         changed : (test : Bool) → (if test then None else Some
             (silent_set (map neighbour_after_check watch.neighbours))) ≡ Some set → Fits site (Reporting x set)
         changed true is = absurd cc
         changed false is = known e (sym (some-same is))
 
-module _ {site : Site} {stopped : List Bool} {on : List Packet} {owed sent : List Parcel} (x : ℕ)
+module _ {site : Site} {stopped : List Bool} {reloads : List ℕ} {on : List Packet} {owed sent : List Parcel} (x : ℕ)
     (runs : is_running stopped x ≡ true) where
   -- nodes tell each other something that is no letter
   pub other-ties : (told : NodeMessage) (midst : Midst) (ys : List ℕ)
-      → ((y : ℕ) (midst : Midst) → Ties site stopped on midst owed sent
-      → Ties site stopped on (sends x y told midst) owed sent)
-      → Ties site stopped on midst owed sent → Ties site stopped on (sends_all x told ys midst) owed sent
+      → ((y : ℕ) (midst : Midst) → Ties site stopped reloads on midst owed sent
+      → Ties site stopped reloads on (sends x y told midst) owed sent)
+      → Ties site stopped reloads on midst owed sent
+      → Ties site stopped reloads on (sends_all x told ys midst) owed sent
   other-ties told midst ys keeps T = each-ties (λ y. sends x y told) keeps ys midst T
 
   report-ties : (midst : Midst) (set : Option ProcessorSet)
-      → ((one : ProcessorSet) → set ≡ Some one → Fits site (Reporting x one)) → Ties site stopped on midst owed sent
-      → Ties site stopped on (reports site.processors x set midst) owed sent
+      → ((one : ProcessorSet) → set ≡ Some one → Fits site (Reporting x one))
+      → Ties site stopped reloads on midst owed sent
+      → Ties site stopped reloads on (reports site.processors x set midst) owed sent
   report-ties midst None fits T = T
   report-ties midst (Some set) fits T =
       other-ties (Reporting x set) midst (others site.processors x)
-      (λ y midst T. subst (λ o. Ties site stopped on (sends x y (Reporting x set) midst) o sent) (append-nil owed)
+      (λ y midst T. subst (λ o. Ties site stopped reloads on (sends x y (Reporting x set) midst) o sent)
+      (append-nil owed)
       (sends-ties midst x y (Reporting x set) runs (fits set refl) tt T)) T
 
-  pub ticked-ties : (midst : Midst) → Ties site stopped on midst owed sent
-      → Ties site stopped on (ticked site.processors x midst) owed sent
+  pub ticked-ties : (midst : Midst) → Ties site stopped reloads on midst owed sent
+      → Ties site stopped reloads on (ticked site.processors x midst) owed sent
   ticked-ties midst T =
       each-ties (λ y. at_end x y (tick_at x y)) (λ y midst T. tick-ties midst x y runs T) all_nodes
       (checks site.processors x (tells_alive site.processors x midst))
       (checked_too (tells_alive site.processors x midst) (alive (x == terminal_node)))
     where
-      alive : (test : Bool) → Ties site stopped on
+      alive : (test : Bool) → Ties site stopped reloads on
           (if test then midst else for_each (λ y. at_end x y alive_at) (others site.processors x) midst) owed sent
       alive true = T
       alive false = each-ties (λ y. at_end x y alive_at) (λ y midst T. live-ties midst x y runs T)
           (others site.processors x) midst T
 
-      checked_too : (midst : Midst) → Ties site stopped on midst owed sent
-          → Ties site stopped on (checks site.processors x midst) owed sent
+      checked_too : (midst : Midst) → Ties site stopped reloads on midst owed sent
+          → Ties site stopped reloads on (checks site.processors x midst) owed sent
       checked_too midst T = by (slice_get midst.nodes x) refl
         where
           by : (one : Option Node) → slice_get midst.nodes x ≡ one
-              → Ties site stopped on (at_node (check_at site.processors x) one midst) owed sent
+              → Ties site stopped reloads on (at_node (check_at site.processors x) one midst) owed sent
           by None e = T
           by (Some node) e =
               report-ties (watch_changed x after_tick node midst) (told_by_tick node.watch)
               (λ one told. report-fits site stopped x node.watch one T.places runs (T.watches x node e) told)
-              (subst (λ (o : Option Node). Ties site stopped on (at_node (watch_changed x after_tick) o midst) owed
+              (subst (λ (o : Option Node). Ties site stopped reloads on (at_node (watch_changed x after_tick) o midst)
+              owed
               sent) e
               (watched-ties midst x after_tick (λ watch is. ticked-watch is) T))
 
   -- a stopped processor is declared down to all others
   pub down-ties : (midst : Midst) (processor : ℕ) → processor ≤ 15 → slice_get stopped processor ≡ Some true
-      → Ties site stopped on midst owed sent
-      → Ties site stopped on (declares site.processors x processor midst) owed sent
+      → Ties site stopped reloads on midst owed sent
+      → Ties site stopped reloads on (declares site.processors x processor midst) owed sent
   down-ties midst processor few gone T =
       other-ties (Declaring processor) midst (others site.processors x ++ terminal_node ∷ [])
-      (λ y midst T. subst (λ o. Ties site stopped on (sends x y (Declaring processor) midst) o sent) (append-nil owed)
+      (λ y midst T. subst (λ o. Ties site stopped reloads on (sends x y (Declaring processor) midst) o sent)
+      (append-nil owed)
       (sends-ties midst x y (Declaring processor) runs
-      (record { within = few; known = place-within site stopped processor true T.places gone }) gone T)) T
+      (record { within = few; known = place-within site stopped processor true T.places gone }) (inl gone) T)) T
 
 -- no node pulls its own line, and each line is a processor's
 pub held-other : (node : ℕ) (watch : Watching) (from more processor : ℕ) → from + more ≤ 16
@@ -207,7 +214,20 @@ size-numbers : (b : Bool) (n : ℕ) → length (replicate n b) ≡ n
 size-numbers b zero = refl
 size-numbers b (suc n) = ap suc (size-numbers b n)
 
-pub begins : (site : Site) → TiesAtRest site (replicate site.processors false) (wires_at_boot site.processors) [] []
+-- each node watches the processors of its site
+pub begun-watch : (processors x : ℕ) → IsWatch processors x (begun x processors)
+begun-watch processors x = record {
+  me = refl;
+  size = refl;
+  past = λ k one at far. first-is (at_first x processors) 16 k one at ∙ first k (nat_lt k processors) refl far;
+}
+  where
+    first : (k : ℕ) (test : Bool) → nat_lt k processors ≡ test → processors ≤ k → at_first x processors k ≡ Absent
+    first k true e far = let low = leb-true (suc k) processors e in absurd (omega (arith, low, far))
+    first k false e far = rw e refl
+
+pub begins : (site : Site) → TiesAtRest site (replicate site.processors false) (replicate site.processors 0)
+    (wires_at_boot site.processors) [] []
 begins site = record {
   net = record (quiet_net (λ x. 0)) { stopped = λ x. not (is_running (replicate site.processors false) x) };
   tied = record {
@@ -219,6 +239,8 @@ begins site = record {
           ∙ numbered (λ other. new_end x other never_reloaded) 0 17 y (omega (arith, few))
           ∙ ap (λ k. Some (new_end x k never_reloaded)) (omega arith),
     );
+    names = λ x y e is. subst (IsNamed (λ x. 0) x y) (has_end x y e is)
+        (record { here = refl; there = refl; incarnation = refl });
     whole = record {
       joint = quiet.joint;
       named = quiet.named;
@@ -233,7 +255,8 @@ begins site = record {
   };
   owes = record { pushed = λ x y words among. absurd among; owes = λ x y open_too. refl };
   watches = λ x node at. subst (λ (w : Watching). IsWatch site.processors x w)
-      (sym (ap (λ (m : Node). m.watch) (first-is (node_at_boot site.processors) 17 x node at))) (watch x);
+      (sym (ap (λ (m : Node). m.watch) (first-is (node_at_boot site.processors) 17 x node at)))
+      (begun-watch site.processors x);
   places = size-numbers false site.processors;
 }
   where
@@ -249,19 +272,6 @@ begins site = record {
         by (Some node) at is =
             sym (first-is (λ other. new_end x other never_reloaded) 17 y e
             (sym (ap (λ (m : Node). slice_get m.ends y) (first-is (node_at_boot site.processors) 17 x node at)) ∙ is))
-
-    watch : (x : ℕ) → IsWatch site.processors x (begun x site.processors)
-    watch x = record {
-      me = refl;
-      size = refl;
-      past = λ k one at far. first-is (at_first x site.processors) 16 k one at
-          ∙ first k (nat_lt k site.processors) refl far;
-    }
-      where
-        first : (k : ℕ) (test : Bool) → nat_lt k site.processors ≡ test → site.processors ≤ k
-            → at_first x site.processors k ≡ Absent
-        first k true e far = let low = leb-true (suc k) site.processors e in absurd (omega (arith, low, far))
-        first k false e far = rw e refl
 
 pub begins-net : (site : Site) → (n : Net) × IsNet (replicate site.processors false) (wires_at_boot site.processors) n
 unfolding begins

@@ -1,7 +1,7 @@
 -- The tie of midst to a net, kept step by step.
 use Rattle.std.proofs.lemmas.Bool.{eqb-true}
 use Rattle.std.proofs.lemmas.Option.{slice_get_within}
-use Rattle.world_semantics.proofs.Lists.{set-there, set-other}
+use Rattle.world_semantics.proofs.Lists.{set-there, set-other, some-same}
 use Rattle.std.proofs.Common.{◌≡◌, ◌≤◌, ◌⊎◌, inl, inr, ℕ, Bool, true, false, not, if◌then◌else◌, ◌==◌, List, [], ◌∷◌}
 use Rattle.std.proofs.Common.{◌++◌, Option, Some, None, slice_get, slice_set, refl, ap, sym, subst, ◌∙◌, eq-eqb, length}
 use Rattle.std.proofs.Common.{arith}
@@ -13,7 +13,7 @@ use Rattle.packet_words.specs.declared.bus_name.BusName.TheVariants as bus
 use Rattle.packet_words.specs.declared.packet.Packet.{Packet}
 use Rattle.link_control.specs.Ends.{End, after_down}
 use Rattle.alive_regroup.specs.Watching.{Watching}
-use Rattle.channel_laws.specs.Net.{Net, IsWhole, put, stopped_net, marked_net, stops, marks}
+use Rattle.channel_laws.specs.Net.{Net, IsNamed, IsWhole, put, stopped_net, marked_net, stops, marks}
 use Rattle.channel_laws.proofs.Nets.{put-same, put-all, whole-goes}
 use Rattle.world_semantics.specs.World.{is_running, runs_by, terminal_node}
 use Rattle.packet_wires.specs.Nodes.{Node, end_at, with_end}
@@ -75,6 +75,23 @@ place x y a b = by (same a x) (same b y)
     by (are e) (differ n) = there (λ _ h. n h)
     by (differ n) h = there (λ e _. n e)
 
+-- each end bears its names, where one was changed that bears its own
+names-set : (reloads : ℕ → ℕ) (nodes : List Node) (x y : ℕ) (node : Node) (e0 e : End)
+    → slice_get nodes x ≡ Some node → slice_get node.ends y ≡ Some e0
+    → ((a b : ℕ) (d : End) → end_at nodes a b ≡ Some d → IsNamed reloads a b d) → IsNamed reloads x y e
+    → (a b : ℕ) (d : End) → end_at (with_end x y node e nodes) a b ≡ Some d → IsNamed reloads a b d
+names-set reloads nodes x y node e0 e at has all named a b d is = by (place x y a b)
+  where
+    by : Place x y a b → IsNamed reloads a b d
+    by (here s u) =
+        let one : end_at (with_end x y node e nodes) x y ≡ Some d =
+        subst (λ c. end_at (with_end x y node e nodes) x c ≡ Some d) u
+        (subst (λ c. end_at (with_end x y node e nodes) c b ≡ Some d) s is) in
+        subst (λ c. IsNamed reloads c b d) (sym s)
+        (subst (λ c. IsNamed reloads x c d) (sym u)
+        (subst (IsNamed reloads x y) (some-same (sym (end-new nodes x y node e0 e at has) ∙ one)) named))
+    by (there m) = all a b d (sym (end-other nodes x y node e0 e at has a b m) ∙ is)
+
 -- What is sent
 
 pub any-nodes : (name : BusName) (sent : Option Packet) (midst : Midst)
@@ -104,12 +121,15 @@ module _ {stopped : List Bool} {on : List Packet} {midst : Midst} {n : Net} (t :
   end-is = t.ends x y e0 runs (end-was midst.nodes x y node e0 e at has)
 
   pub end-tied : (name : BusName) (sent : Option Packet) (next : Net) → IsWhole next → next.stopped ≡ n.stopped
-      → next.ends ≡ put x y e n.ends
+      → next.reloads ≡ n.reloads → next.ends ≡ put x y e n.ends
       → next.flight ≡ n.flight ++ option_to_list sent → e.down ≡ e0.down
       → IsTied stopped on (any_goes_over name sent (end_changed x y node e midst)) next
-  end-tied name sent next whole stood ends flight down = record {
+  end-tied name sent next whole stood reloads ends flight down = record {
     shape = λ a b low few. subst (λ (ns : List Node). (e : End) × (end_at ns a b ≡ Some e)) (sym nodes)
         (shape a b low few);
+    names = λ a b d is. subst (λ (r : ℕ → ℕ). IsNamed r a b d) (sym reloads)
+        (names-set n.reloads midst.nodes x y node e0 e at has t.names named a b d
+        (subst (λ (ns : List Node). end_at ns a b ≡ Some d) nodes is));
     whole = whole;
     stood = λ a. ap (λ (f : ℕ → Bool). f a) stood ∙ t.stood a;
     ends = λ a b d r is. ap (λ (f : ℕ → ℕ → End). f a b) ends
@@ -125,6 +145,11 @@ module _ {stopped : List Bool} {on : List Packet} {midst : Midst} {n : Net} (t :
     where
       nodes : (any_goes_over name sent (end_changed x y node e midst)).nodes ≡ with_end x y node e midst.nodes
       nodes = any-nodes name sent (end_changed x y node e midst)
+
+      named : IsNamed n.reloads x y e
+      named = subst (λ (r : ℕ → ℕ). IsNamed r x y e) reloads
+          (subst (IsNamed next.reloads x y) (ap (λ (f : ℕ → ℕ → End). f x y) ends ∙ put-same x y e n.ends)
+          (whole.named x y))
 
       shape : (a b : ℕ) → a ≤ 16 → b ≤ 16 → (d : End) × (end_at (with_end x y node e midst.nodes) a b ≡ Some d)
       shape a b low few = by (place x y a b)
@@ -180,6 +205,7 @@ watched-tied {stopped = stopped} {on = on} {midst = midst} {n = n} x change t = 
     by (Some node) e = record {
       shape = λ a b low few. let was =
           t.shape a b low few in (was.0, end-watch midst.nodes x node (change node.watch) e a b ∙ was.1);
+      names = λ a b d is. t.names a b d (sym (end-watch midst.nodes x node (change node.watch) e a b) ∙ is);
       whole = t.whole;
       stood = t.stood;
       ends = λ a b d r is. t.ends a b d r (sym (end-watch midst.nodes x node (change node.watch) e a b) ∙ is);
@@ -196,6 +222,7 @@ kept-tied : {stopped : List Bool} {on still : List Packet} {midst : Midst} {n : 
     → IsTied stopped still (record midst { out = out }) n
 kept-tied out from going t = record {
   shape = t.shape;
+  names = t.names;
   whole = t.whole;
   stood = t.stood;
   ends = t.ends;
@@ -277,6 +304,7 @@ module _ (stopped : List Bool) (processor : ℕ) (runs : slice_get stopped proce
       → IsTied later on midst (stopped_net processor n)
   stop-tied {on = on} {midst = midst} {n = n} t = record {
     shape = t.shape;
+    names = t.names;
     whole = whole-goes (stops processor) t.whole;
     stood = λ a. by a (a == processor) refl;
     ends = λ a b d r is. t.ends a b d (stop-running a r) is;
@@ -306,6 +334,9 @@ module _ {stopped : List Bool} {on : List Packet} {midst : Midst} {n : Net} (t :
   pub down-tied : IsTied stopped on (end_changed x y node (after_down e0) midst) (marked_net x y n)
   down-tied = record {
     shape = shape;
+    names = names-set n.reloads midst.nodes x y node e0 e at has t.names
+        (let was = t.names x y e0 (end-was midst.nodes x y node e0 e at has) in
+        record { here = was.here; there = was.there; incarnation = was.incarnation });
     whole = whole-goes (marks x y (t.stood y ∙ ap not (gone-rests stopped y gone))) t.whole;
     stood = t.stood;
     ends = has_end;

@@ -4,7 +4,7 @@ use Rattle.std.specs.Option.{unwrap_or}
 use Rattle.gd_words.specs.Members.{IsAmong}
 use Rattle.packet_words.specs.declared.packet.Packet.{Packet}
 use Rattle.link_control.specs.Ends.{End}
-use Rattle.channel_laws.specs.Net.{Net, IsWhole}
+use Rattle.channel_laws.specs.Net.{Net, IsNamed, IsWhole}
 use Rattle.world_semantics.specs.World.{is_running}
 use Rattle.alive_regroup.specs.declared.neighbour.Neighbour.{Neighbour}
 use Rattle.alive_regroup.specs.declared.neighbour.Neighbour.TheVariants.{Absent}
@@ -17,11 +17,12 @@ abbrev pub stands : List Bool → ℕ → Bool
 stands stopped x = unwrap_or (slice_get stopped x) false
 
 -- the wires in the midst of an event are those of a net, while these packets are on the buses: between nodes up to 16
--- each has an end with each; the net is whole, and its nodes have stopped where the world's don't run; the ends of a
--- node that runs are the net's; what is on the buses and what the event has sent is in flight in the net, which forgets
--- no packet; and who is cut off has stopped
+-- each has an end with each, which bears its names; the net is whole, and its nodes have stopped where the world's
+-- don't run; the ends of a node that runs are the net's; what is on the buses and what the event has sent is in flight
+-- in the net, which forgets no packet; and who is cut off has stopped
 pub record IsTied (stopped : List Bool) (on : List Packet) (midst : Midst) (n : Net) : Type 0 where
   pub shape : (x y : ℕ) → x ≤ 16 → y ≤ 16 → (e : End) × (end_at midst.nodes x y ≡ Some e)
+  pub names : (x y : ℕ) (e : End) → end_at midst.nodes x y ≡ Some e → IsNamed n.reloads x y e
   pub whole : IsWhole n
   pub stood : (x : ℕ) → n.stopped x ≡ not (is_running stopped x)
   pub ends : (x y : ℕ) (e : End) → is_running stopped x ≡ true → end_at midst.nodes x y ≡ Some e → n.ends x y ≡ e

@@ -1,6 +1,9 @@
--- How far one event brings the numbers at each end.
+-- How far one event brings the numbers at each end, where the ends bear how often nodes were loaded again.
 use Rattle.std.proofs.Common.{◌≡◌, ◌≤◌, ℕ, ◌+◌, ◌*◌, ◌==◌, nat_lt, ℤ, Bool, true, false, if◌then◌else◌, List}
-use Rattle.std.proofs.Common.{[], ◌∷◌, ◌++◌, length, Option, Some, None, slice_get, slice_set, refl, arith}
+use Rattle.std.proofs.Common.{[], ◌∷◌, ◌++◌, length, Option, Some, None, slice_get, slice_set, refl, arith, sym}
+use Rattle.std.proofs.Common.{◌||◌, ◌∙◌, ap, map}
+use Rattle.std.proofs.lemmas.Bool.{eqb-true, eqb-false}
+use Rattle.std.specs.Option.{unwrap_or}
 use Rattle.packet_words.specs.declared.bus_name.BusName.{BusName}
 use Rattle.packet_words.specs.declared.bus_name.BusName.TheVariants as bus
 use Rattle.packet_words.specs.declared.packet.Packet.{Packet}
@@ -10,7 +13,7 @@ use Rattle.packet_words.specs.declared.piece.Piece.{Piece}
 use Rattle.packet_words.specs.Buses.{other_bus}
 use Rattle.packet_words.specs.Pieces.{joined}
 use Rattle.link_control.specs.declared.channel.Resent.{Resent}
-use Rattle.link_control.specs.Ends.{End, Sending, after_down}
+use Rattle.link_control.specs.Ends.{End, Receiving, Sending, after_down, end_after_reload, incarnation_after, next_end}
 use Rattle.link_control.specs.Ends.{after_kind, after_packet, after_push, after_tick, begun, is_ended_by, is_idle}
 use Rattle.link_control.specs.Ends.{is_next, is_none, moved_on, numbered_at, packet_of, after_push_of}
 use Rattle.link_control.specs.Ends.{sent_by_packet, sent_by_push, sent_by_tick}
@@ -18,25 +21,27 @@ use Rattle.alive_regroup.specs.declared.set.ProcessorSet.{ProcessorSet}
 use Rattle.alive_regroup.specs.Watching as watching
 use Rattle.alive_regroup.specs.Watching.{Watching, changed_at, told_by_tick}
 use Rattle.world_semantics.specs.World.{is_running, terminal_node}
-use Rattle.world_semantics.proofs.Lists.{set-all}
+use Rattle.world_semantics.proofs.Lists.{map-all, set-all, set-other, set-there}
 use Rattle.message_layout.specs.Messages.{NodeMessage, Reporting, Declaring}
 use Rattle.packet_wires.specs.Parcels.{Parcel}
 use Rattle.message_layout.specs.Layout.{words_of}
-use Rattle.packet_wires.specs.Nodes.{Node, all_nodes, others, with_end, with_watch}
+use Rattle.packet_wires.specs.Nodes.{Node, all_nodes, node_after_reload, others, with_end, with_watch}
 use Rattle.packet_wires.specs.Wires as wires
 use Rattle.packet_wires.specs.Wires.{Midst, goes_over, any_goes_over, goes_again, at_node, at_end_of, at_end}
 use Rattle.packet_wires.specs.Wires.{end_changed, watch_changed, learns, for_each, push_at, sends, sends_all, posted}
 use Rattle.packet_wires.specs.Wires.{all_posted, bus_of_answer, heard_of, arrive_at, arrived, alive_at, tells_alive}
 use Rattle.packet_wires.specs.Wires.{reports, check_at, checks, tick_at, down_at, cut_off, declares}
+use Rattle.site_machine.specs.Needs.{BearsReloads, times_loaded}
 
--- between events: at most so many pieces were numbered at an end, and at most so many kept there
-abbrev pub RestsAt : ℕ → End → Type 0
-RestsAt n e = (e.sending.numbered ≤ n) × (e.receiving.kept ≤ n)
+-- between events: at most so many pieces were numbered at an end, and at most so many kept there; and the end bears how
+-- often its nodes were loaded again
+abbrev pub RestsAt : ℕ → List ℕ → End → Type 0
+RestsAt n reloads e = (e.sending.numbered ≤ n) × (e.receiving.kept ≤ n) × BearsReloads reloads e
 
 -- in the midst of the next event: one more at most, and a piece may be numbered only where none was yet
-abbrev pub GoesTo : ℕ → End → Type 0
-GoesTo n e = (e.sending.numbered ≤ n + 1) × (e.receiving.kept ≤ n + 1)
-    × (e.down ≡ false → is_idle e.sending ≡ true → e.sending.numbered ≤ n)
+abbrev pub GoesTo : ℕ → List ℕ → End → Type 0
+GoesTo n reloads e = (e.sending.numbered ≤ n + 1) × (e.receiving.kept ≤ n + 1)
+    × (e.down ≡ false → is_idle e.sending ≡ true → e.sending.numbered ≤ n) × BearsReloads reloads e
 
 -- what holds of each end of a node
 abbrev pub OfNode : (End → Type 0) → Node → Type 0
@@ -52,47 +57,51 @@ busy : (message : List ℤ) (queue : List (List ℤ)) → is_none (queue ++ mess
 busy message [] idle = cc
 busy message (first ∷ queue) idle = cc
 
-module _ (n : ℕ) where
-  push-goes : (message : List ℤ) (e : End) → GoesTo n e → GoesTo n (after_push message e)
+module _ (n : ℕ) (reloads : List ℕ) where
+  push-goes : (message : List ℤ) (e : End) → GoesTo n reloads e → GoesTo n reloads (after_push message e)
   push-goes message e goes = by e.down refl
     where
       queued : e.down ≡ false → (test : Bool) → is_idle e.sending ≡ test
-          → GoesTo n (record e {
+          → GoesTo n reloads (record e {
             sending = if test then begun (message ∷ []) e.sending.numbered else record e.sending
                 { queue = e.sending.queue ++ message ∷ [] };
           })
-      queued up true idle = let most = goes.2 up idle in (omega (arith, most), goes.1, λ same none. absurd cc)
-      queued up false idle = (goes.0, goes.1, λ same none. absurd (busy message e.sending.queue none))
+      queued up true idle = let most = goes.2 up idle in (omega (arith, most), goes.1, λ same none. absurd cc, record { sender = goes.3.sender; receiver = goes.3.receiver })
+      queued up false idle = (goes.0, goes.1, λ same none. absurd (busy message e.sending.queue none), record { sender = goes.3.sender; receiver = goes.3.receiver })
 
       by : (down : Bool) → e.down ≡ down
-          → GoesTo n (if down then e else record e { sending = after_push_of message e.sending })
+          → GoesTo n reloads (if down then e else record e { sending = after_push_of message e.sending })
       by true is = goes
       by false is = queued is (is_idle e.sending) refl
 
-  tick-goes : (e : End) → GoesTo n e → GoesTo n (after_tick e)
+  tick-goes : (e : End) → GoesTo n reloads e → GoesTo n reloads (after_tick e)
   tick-goes e goes = by e.down (is_idle e.sending) e.sending.waited
     where
+      bears : {sending : Sending} → BearsReloads reloads (record e { sending = sending })
+      bears = record { sender = goes.3.sender; receiver = goes.3.receiver }
+
       by : (down idle waited : Bool)
-          → GoesTo n (if down then e else record e {
+          → GoesTo n reloads (if down then e else record e {
             sending = if idle then e.sending else if waited then record e.sending
                 { resend_bus = other_bus e.sending.resend_bus } else record e.sending { waited = true };
           })
       by true idle waited = goes
-      by false true waited = goes
-      by false false true = goes
-      by false false false = goes
+      by false true waited = (goes.0, goes.1, goes.2, bears)
+      by false false true = (goes.0, goes.1, goes.2, bears)
+      by false false false = (goes.0, goes.1, goes.2, bears)
 
-  down-goes : (e : End) → GoesTo n e → GoesTo n (after_down e)
-  down-goes e goes = (goes.0, goes.1, λ up idle. absurd cc)
+  down-goes : (e : End) → GoesTo n reloads e → GoesTo n reloads (after_down e)
+  down-goes e goes =
+      (goes.0, goes.1, λ up idle. absurd cc, record { sender = goes.3.sender; receiver = goes.3.receiver })
 
-  pub rest-goes : (e : End) → RestsAt n e → GoesTo n e
+  pub rest-goes : (e : End) → RestsAt n reloads e → GoesTo n reloads e
   rest-goes e rests =
       let sent = rests.0 in
       let came = rests.1 in
-      (omega (arith, sent), omega (arith, came), λ up idle. sent)
+      (omega (arith, sent), omega (arith, came), λ up idle. sent, rests.2)
 
-  pub goes-rest : (e : End) → GoesTo n e → RestsAt (n + 1) e
-  goes-rest e goes = (goes.0, goes.1)
+  pub goes-rest : (e : End) → GoesTo n reloads e → RestsAt (n + 1) reloads e
+  goes-rest e goes = (goes.0, goes.1, goes.3)
 
   -- what goes on at the sender's end
   abbrev Moves : Sending → Type 0
@@ -111,27 +120,33 @@ module _ (n : ℕ) where
       further true = (omega (arith, low), λ idle. absurd cc)
       further false = begun-moves queue s.numbered low
 
-  packet-goes : (packet : Packet) (e : End) → RestsAt n e → GoesTo n (after_packet packet e)
+  packet-goes : (packet : Packet) (e : End) → RestsAt n reloads e → GoesTo n reloads (after_packet packet e)
   packet-goes packet e rests = by e.down packet.kind
     where
+      bears : {sending : Sending} {receiving : Receiving}
+          → BearsReloads reloads (record e { sending = sending; receiving = receiving })
+      bears = record { sender = rests.2.sender; receiver = rests.2.receiver }
+
       keeps : (number : ℕ) (piece : Piece) (test : Bool)
-          → GoesTo n (record e {
+          → GoesTo n reloads (record e {
             receiving = if test then record { kept = e.receiving.kept + 1; part = joined piece e.receiving.part } else
                 e.receiving;
           })
       keeps number piece true =
-          let all = rest-goes e rests in let came = rests.1 in (all.0, omega (arith, came), all.2)
-      keeps number piece false = rest-goes e rests
+          let all = rest-goes e rests in
+          let came = rests.1 in
+          (all.0, omega (arith, came), all.2, bears)
+      keeps number piece false = let all = rest-goes e rests in (all.0, all.1, all.2, bears)
 
       ends : (test : Bool)
-          → GoesTo n (record e { sending = if test then moved_on e.sending.queue e.sending else e.sending })
+          → GoesTo n reloads (record e { sending = if test then moved_on e.sending.queue e.sending else e.sending })
       ends true =
           let moves = on-moves e.sending e.sending.queue rests.0 in
           let came = rests.1 in
-          (moves.0, omega (arith, came), λ up. moves.1)
-      ends false = rest-goes e rests
+          (moves.0, omega (arith, came), λ up. moves.1, bears)
+      ends false = let all = rest-goes e rests in (all.0, all.1, all.2, bears)
 
-      by : (down : Bool) (k : PacketKind) → GoesTo n (if down then e else after_kind k e)
+      by : (down : Bool) (k : PacketKind) → GoesTo n reloads (if down then e else after_kind k e)
       by true k = rest-goes e rests
       by false kind.Alive = rest-goes e rests
       by false (kind.Piece number piece) = keeps number piece (is_next number e.receiving)
@@ -139,23 +154,23 @@ module _ (n : ℕ) where
 
 -- Ends of nodes
 
-module _ (n : ℕ) where
+module _ (n : ℕ) (reloads : List ℕ) where
   abbrev pub AllGo : List Node → Type 0
-  AllGo nodes = OfEnds (GoesTo n) nodes
+  AllGo nodes = OfEnds (GoesTo n reloads) nodes
 
   abbrev pub Keeps : (Midst → Midst) → Type 0
   Keeps part = (midst : Midst) → AllGo midst.nodes → AllGo (part midst).nodes
 
-  all-set : (x y : ℕ) (node : Node) (e : End) (nodes : List Node) → slice_get nodes x ≡ Some node → GoesTo n e
+  all-set : (x y : ℕ) (node : Node) (e : End) (nodes : List Node) → slice_get nodes x ≡ Some node → GoesTo n reloads e
       → AllGo nodes → AllGo (with_end x y node e nodes)
   all-set x y node e nodes there goes all =
-      set-all (λ k one. OfNode (GoesTo n) one) nodes x (record node { ends = slice_set node.ends y e }) all
-      (set-all (λ k one. GoesTo n one) node.ends y e (all x node there) goes)
+      set-all (λ k one. OfNode (GoesTo n reloads) one) nodes x (record node { ends = slice_set node.ends y e }) all
+      (set-all (λ k one. GoesTo n reloads one) node.ends y e (all x node there) goes)
 
   all-watch : (x : ℕ) (node : Node) (watch : Watching) (nodes : List Node) → slice_get nodes x ≡ Some node
       → AllGo nodes → AllGo (with_watch x node watch nodes)
   all-watch x node watch nodes there all =
-      set-all (λ k one. OfNode (GoesTo n) one) nodes x (record node { watch = watch }) all (all x node there)
+      set-all (λ k one. OfNode (GoesTo n reloads) one) nodes x (record node { watch = watch }) all (all x node there)
 
   any-same : (name : BusName) (told : Option Packet) (midst : Midst) → AllGo midst.nodes
       → AllGo (any_goes_over name told midst).nodes
@@ -200,13 +215,13 @@ module _ (n : ℕ) where
   pushing-goes x y words midst all =
       all-end x y (push_at x y words) midst all
       (λ node e there is. any-same bus.X (sent_by_push words e) (end_changed x y node (after_push words e) midst)
-      (all-set x y node (after_push words e) midst.nodes there (push-goes n words e (all x node there y e is)) all))
+      (all-set x y node (after_push words e) midst.nodes there (push-goes n reloads words e (all x node there y e is)) all))
 
   ticking-goes : (x y : ℕ) → Keeps (at_end x y (tick_at x y))
   ticking-goes x y midst all =
       all-end x y (tick_at x y) midst all (λ node e there is.
       again-same (sent_by_tick e) (end_changed x y node (after_tick e) midst)
-      (all-set x y node (after_tick e) midst.nodes there (tick-goes n e (all x node there y e is)) all))
+      (all-set x y node (after_tick e) midst.nodes there (tick-goes n reloads e (all x node there y e is)) all))
 
   alive-goes : (x y : ℕ) → Keeps (at_end x y alive_at)
   alive-goes x y midst all = all-end x y alive_at midst all (λ node e there is. by e e.down)
@@ -220,10 +235,10 @@ module _ (n : ℕ) where
   downing-goes : (x y : ℕ) → Keeps (at_end x y (down_at x y))
   downing-goes x y midst all =
       all-end x y (down_at x y) midst all (λ node e there is.
-      all-set x y node (after_down e) midst.nodes there (down-goes n e (all x node there y e is)) all)
+      all-set x y node (after_down e) midst.nodes there (down-goes n reloads e (all x node there y e is)) all)
 
   -- a packet comes first in its event, while all ends rest
-  pub arrived-goes : (name : BusName) (packet : Packet) (midst : Midst) → OfEnds (RestsAt n) midst.nodes
+  pub arrived-goes : (name : BusName) (packet : Packet) (midst : Midst) → OfEnds (RestsAt n reloads) midst.nodes
       → AllGo (arrived name packet midst).nodes
   arrived-goes name packet midst rest =
       learns-go packet.receiver (heard_of packet.sender packet.kind)
@@ -232,10 +247,10 @@ module _ (n : ℕ) where
       (λ node e there is. any-same (bus_of_answer name packet.kind) (sent_by_packet packet e)
       (end_changed packet.receiver packet.sender node (after_packet packet e) midst)
       (all-set packet.receiver packet.sender node (after_packet packet e) midst.nodes there
-      (packet-goes n packet e (rest packet.receiver node there packet.sender e is)) all)))
+      (packet-goes n reloads packet e (rest packet.receiver node there packet.sender e is)) all)))
     where
       all : AllGo midst.nodes
-      all x node there y e is = rest-goes n e (rest x node there y e is)
+      all x node there y e is = rest-goes n reloads e (rest x node there y e is)
 
   sends-all-goes : (x : ℕ) (message : NodeMessage) (ys : List ℕ) → Keeps (sends_all x message ys)
   sends-all-goes x message = each-goes (λ y. sends x y message) (λ y. pushing-goes x y (words_of message))
@@ -290,3 +305,62 @@ module _ (n : ℕ) where
   pub declares-go : (processors x processor : ℕ) → Keeps (declares processors x processor)
   declares-go processors x processor =
       sends-all-goes x (Declaring processor) (others processors x ++ terminal_node ∷ [])
+
+-- Reloads
+
+kept-times : (counts : List ℕ) (x times node : ℕ) → (node == x) ≡ false
+    → times_loaded (slice_set counts x (times + 1)) node ≡ times_loaded counts node
+kept-times counts x times node e =
+    ap (λ found. unwrap_or found 0) (set-other counts x node (times + 1) (λ same. eqb-false node x e (sym same)))
+
+fresh-bears : (counts : List ℕ) (x times node incarnation : ℕ) → slice_get counts x ≡ Some times
+    → incarnation ≡ times_loaded counts node
+    → incarnation_after x node incarnation ≡ times_loaded (slice_set counts x (times + 1)) node
+fresh-bears counts x times node incarnation there is = by (node == x) refl
+  where
+    by : (test : Bool) → (node == x) ≡ test
+        → (if test then incarnation + 1 else incarnation) ≡ times_loaded (slice_set counts x (times + 1)) node
+    by true e =
+        let here : node ≡ x = eqb-true node x e in
+        let old : times_loaded counts node ≡ times =
+        ap (λ one. times_loaded counts one) here ∙ ap (λ found. unwrap_or found 0) there in
+        let new : times_loaded (slice_set counts x (times + 1)) node ≡ times + 1 =
+        ap (λ one. times_loaded (slice_set counts x (times + 1)) one) here
+        ∙ ap (λ found. unwrap_or found 0) (set-there counts x times (times + 1) there) in
+        omega (arith, is, old, new)
+    by false e = is ∙ sym (kept-times counts x times node e)
+
+-- after the node x was loaded again, an end of it or with it has numbered nothing, and each bears the new counts
+loaded-rests : (n : ℕ) (counts : List ℕ) (x times : ℕ) → slice_get counts x ≡ Some times → (e : End)
+    → RestsAt n counts e → RestsAt n (slice_set counts x (times + 1)) (end_after_reload x e)
+loaded-rests n counts x times there e rests = by (e.here == x) (e.there == x) refl refl
+  where
+    after : List ℕ
+    after = slice_set counts x (times + 1)
+
+    bears : BearsReloads after (next_end x e)
+    bears = record {
+      sender = fresh-bears counts x times e.here e.incarnation.sender there rests.2.sender;
+      receiver = fresh-bears counts x times e.there e.incarnation.receiver there rests.2.receiver;
+    }
+
+    by : (first second : Bool) → (e.here == x) ≡ first → (e.there == x) ≡ second
+        → RestsAt n after (if first || second then next_end x e else e)
+    by true second here also = (omega arith, omega arith, bears)
+    by false true here also = (omega arith, omega arith, bears)
+    by false false here also = (
+      rests.0,
+      rests.1,
+      record {
+        sender = rests.2.sender ∙ sym (kept-times counts x times e.here here);
+        receiver = rests.2.receiver ∙ sym (kept-times counts x times e.there also);
+      },
+    )
+
+pub loaded-all-rest : (n : ℕ) (counts : List ℕ) (processors x times : ℕ) → slice_get counts x ≡ Some times
+    → (nodes : List Node) → OfEnds (RestsAt n counts) nodes
+    → OfEnds (RestsAt n (slice_set counts x (times + 1))) (map (node_after_reload processors x) nodes)
+loaded-all-rest n counts processors x times there nodes rest =
+    map-all (λ k node. OfNode (RestsAt n (slice_set counts x (times + 1))) node) (node_after_reload processors x) nodes
+    (λ k node is. map-all (λ y e. RestsAt n (slice_set counts x (times + 1)) e) (end_after_reload x) node.ends
+    (λ y e at. loaded-rests n counts x times there e (rest k node is y e at)))

@@ -11,7 +11,7 @@ use Rattle.packet_wires.specs.Runs.{IsPlayed}
 use Rattle.packets_played.specs.packets_laws.proofs.Going.{played-site}
 use Rattle.packets_played.specs.packets_laws.proofs.Runs.{played-post}
 use Rattle.site_machine.specs.Needs.{IsReady, SendsWithin}
-use Rattle.packet_numbers.proofs.Events.{left-after}
+use Rattle.packet_numbers.proofs.Events.{bear-after, left-after}
 use Rattle.packet_numbers.proofs.Rooms.{room-of}
 use Rattle.packet_numbers.proofs.Sendings.{sends-within}
 
@@ -27,6 +27,7 @@ is-ready site events s fit small out few played =
       room = room-of site events (record { world = s.world; owed = post.0; sent = post.1 }) fit
           (laid-apart site out) few post.2;
       numbers = left-after played (omega (arith, few));
+      bears = bear-after played;
       messages = subst (λ one. SendsWithin one s.world) (sym (played-site played))
           (sends-within site fit small out events (record { world = s.world; owed = post.0; sent = post.1 }) few
           post.2);

@@ -10,23 +10,23 @@ use Rattle.checkpoint_image.specs.declared.receive.OpenerBlock.{OpenerBlock}
 use Rattle.world_semantics.specs.declared.which.Which.{Which}
 use Rattle.world_semantics.specs.declared.which.Which.TheVariants.{First, Second}
 use Rattle.world_semantics.specs.Follows.{runs}
-use Rattle.world_semantics.specs.Messages.{Sending, Running, Entering, Handing, Stopping, NotingDown}
+use Rattle.world_semantics.specs.Messages.{Sending, Running, Entering, Handing, Stopping, NotingDown, Reloading}
 use Rattle.world_semantics.specs.Rules.{Change}
 use Rattle.world_semantics.specs.Running.{Done, run_done, sendings_of, world_after}
 use Rattle.world_semantics.specs.World.{Copy, Pair, World, copy_of}
+use Rattle.world_semantics.proofs.Members.{among-filter}
 use Rattle.world_semantics.proofs.Outcomes.{run-outcome}
 use Rattle.computed_changes.specs.Laws.{FitsWhereItComes, HasCopiesApart}
 use Rattle.computed_changes.proofs.Entered.{enter-only}
 use Rattle.computed_changes.proofs.Outcomes.{run-only}
-use Rattle.computed_changes.proofs.Stopped.{stop-only, mark-only}
+use Rattle.computed_changes.proofs.Stopped.{stop-only, mark-only, reload-only}
 use Rattle.packets_played.specs.takeover_laws.specs.Fit.{IsFit}
 use Rattle.letters.specs.Again.{sent_again}
 use Rattle.letters.specs.Posts.{Post, HasPlayed, NotesLetters, PlaysEvent, after_change, no_mark, one_mark, played_more}
 use Rattle.letters.specs.Posts.{played_none, plays_again, plays_drop, plays_enter, plays_fail, plays_hand, plays_loss}
 use Rattle.letters.specs.Posts.{plays_mark, plays_no_enter, plays_no_fail, plays_no_run, plays_no_tick, plays_nothing}
 use Rattle.letters.specs.Posts.{plays_repeat, plays_run, plays_tick, plays_tick_stop, post_after_down, post_at_boot}
-use Rattle.letters.specs.Posts.{plays_drive}
-use Rattle.letters.specs.Posts.{with_letters}
+use Rattle.letters.specs.Posts.{after_reloading, plays_drive, plays_no_reload, plays_reload, with_letters}
 use Rattle.letters.specs.Routes.{Letter, letters_of}
 use Rattle.letters.proofs.Owed.{taken-there}
 use Rattle.letters.proofs.Worlds.{played-run}
@@ -38,11 +38,14 @@ use Rattle.number_laws.specs.message_wires.specs.Runs as whole
 use Rattle.number_laws.specs.number_ranges.specs.HasRoom.{CopyHasRoom, TerminalHasRoom, WorldHasRoom}
 use Rattle.number_laws.proofs.Each.{Each, each-all, each-append, each-more}
 use Rattle.number_laws.proofs.Hands.{enter-within, handed-within}
-use Rattle.number_laws.proofs.Marks.{again-within, mark-within, stop-within}
-use Rattle.number_laws.proofs.Played.{kinds_of, played-within}
+use Rattle.number_laws.proofs.Marks.{AnyWatchersWithin, again-within, mark-watchers, mark-within, stop-watchers}
+use Rattle.number_laws.proofs.Marks.{stop-within}
+use Rattle.number_laws.proofs.Played.{kinds_of, kinds-site, played-within}
+use Rattle.number_laws.proofs.Reloads.{reload-within}
 use Rattle.number_laws.proofs.Runs.{run-within}
 use Rattle.number_laws.proofs.Within.{AnyWithin, AreSendings, CopyWithin, DoneWithin, MessageWithin, PairWithin}
-use Rattle.number_laws.proofs.Within.{TerminalWithin, WorldWithin, message-more, world-more}
+use Rattle.number_laws.proofs.Within.{TerminalWithin, WatchersWithin, WorldWithin, message-more, watchers-within}
+use Rattle.number_laws.proofs.Within.{world-more}
 
 each-among : {A : Type 0} (P : A → Type 0) (xs : List A) (x : A) → Each P xs → IsAmong x xs → P x
 each-among P [] x each among = absurd among
@@ -99,23 +102,29 @@ module _ (site : Site) where
       → IsLow n (with_letters (letters_of site next sendings) (record post { world = next; owed = owed }))
   done-low n post next owed sendings sent done = letters-low n post next owed sendings sent done.world done.sendings
 
-  -- Marks and stops raise no number
+  -- Stops raise no number, and marks the eras alone of copies that watched
 
-  mark-low : (n node processor : ℕ) (post : Post) (next : World) (sendings : List Sending) → IsLow n post
+  mark-low : (n before node processor : ℕ) (post : Post) (next : World) (sendings : List Sending) → before < n
+      → WatchersWithin before post.world.processes → IsLow n post
       → Change site post.world (NotingDown node processor) sendings next
       → IsLow n (post_after_down site node processor sendings next post)
-  mark-low n node processor post next sendings low change =
+  mark-low n before node processor post next sendings less watchers low change =
       letters-low n post next _ (sendings ++ sent_again site post.world next node processor) low.sent done.world
       (each-append _ sendings _ done.sendings (again-within n (kinds_of site) site post.world node processor next))
     where
       done : DoneWithin n (kinds_of site) (record { world = next; sendings = sendings })
       done = subst (AnyWithin n (kinds_of site)) (mark-only node processor post.world next sendings change)
-          (mark-within n (kinds_of site) post.world low.world node processor)
+          (mark-within n (kinds_of site) post.world low.world before node processor less watchers)
 
-  marks-low : (n : ℕ) {node : ℕ} {post end : Post} → IsLow n post → NotesLetters site node post end → IsLow n end
-  marks-low n low no_mark = low
-  marks-low n {node = node} {post = post} low (one_mark {sendings = sendings} {next = next} processor change more) =
-      marks-low n (mark-low n node processor post next sendings low change) more
+  marks-low : (n before : ℕ) {node : ℕ} {post end : Post} → before < n → WatchersWithin before post.world.processes
+      → IsLow n post → NotesLetters site node post end → IsLow n end
+  marks-low n before less watchers low no_mark = low
+  marks-low n before {node = node} {post = post} less watchers low
+      (one_mark {sendings = sendings} {next = next} processor change more) =
+      marks-low n before less
+      (subst (AnyWatchersWithin before) (mark-only node processor post.world next sendings change)
+      (mark-watchers before post.world node processor watchers))
+      (mark-low n before node processor post next sendings less watchers low change) more
 
   stop-low : (n processor : ℕ) (post : Post) (next : World) → IsLow n post
       → Change site post.world (Stopping processor) [] next → IsLow n (record post { world = next })
@@ -125,6 +134,18 @@ module _ (site : Site) where
       done = subst (AnyWithin n (kinds_of site)) (stop-only processor post.world next [] change)
           (stop-within n (kinds_of site) post.world low.world processor)
 
+  reload-low : (n processor : ℕ) (post : Post) (next : World) → IsLow n post
+      → Change site post.world (Reloading processor) [] next → IsLow (n + 1) (after_reloading processor next post)
+  reload-low n processor post next low change = record {
+    world = done.world;
+    sent = λ letter among.
+        sent-more n (n + 1) post.sent (omega arith) low.sent letter (among-filter letter _ post.sent among).0;
+  }
+    where
+      done : DoneWithin (n + 1) (kinds_of site) (record { world = next; sendings = [] })
+      done = subst (AnyWithin (n + 1) (kinds_of site)) (reload-only processor post.world next [] change)
+          (reload-within n (kinds_of site) post.world low.world site (kinds-site site) processor)
+
   -- Events
 
   module _ (fit : IsFit site) (apart : HasCopiesApart site) (events : List Event) (post : Post)
@@ -132,6 +153,9 @@ module _ (site : Site) where
       (low : IsLow (length events) post) where
     later : IsLow (length events + 1) post
     later = low-more (length events) (length events + 1) post (omega arith) low
+
+    watchers : WatchersWithin (length events) post.world.processes
+    watchers = watchers-within (length events) (kinds_of site) post.world low.world
 
     run-low : (number : ℕ) (next : World) (sendings : List Sending)
         → Change site post.world (Running number) sendings next
@@ -190,17 +214,25 @@ module _ (site : Site) where
     plays-low next (plays_again {sendings = sendings} {next = w} letter among change) =
         hand-low letter w sendings post.owed among change
     plays-low next (plays_mark {sendings = sendings} {next = w} node processor change) =
-        mark-low (length events + 1) node processor post w sendings later change
+        mark-low (length events + 1) (length events) node processor post w sendings (omega arith) watchers later
+        change
     plays-low next plays_loss = later
     plays-low next plays_repeat = later
     plays-low next plays_drive = later
     plays-low next plays_no_tick = later
-    plays-low next (plays_tick running marks) = marks-low (length events + 1) later marks
+    plays-low next (plays_tick running marks) =
+        marks-low (length events + 1) (length events) (omega arith) watchers later marks
     plays-low next (plays_tick_stop {between = between} processor running other change marks) =
-        marks-low (length events + 1) (stop-low (length events + 1) processor post between later change) marks
+        marks-low (length events + 1) (length events) (omega arith)
+        (subst (AnyWatchersWithin (length events)) (stop-only processor post.world between [] change)
+        (stop-watchers (length events) post.world processor watchers))
+        (stop-low (length events + 1) processor post between later change) marks
     plays-low next (plays_fail {processor = processor} {next = w} change) =
         stop-low (length events + 1) processor post w later change
     plays-low next (plays_no_fail idle) = later
+    plays-low next (plays_reload {processor = processor} {next = w} change) =
+        reload-low (length events) processor post w low change
+    plays-low next (plays_no_reload idle) = later
 
   begins-low : IsLow 0 (post_at_boot site)
   begins-low = record {
@@ -230,7 +262,7 @@ copy-room n disc copy low is = record {
       (λ block few. omega (arith, few, low)) copy.core.receive.openers is.0.taken);
   write = let few = is.0.state.1 in omega (arith, few, low);
   number = let few = is.1 in omega (arith, few, low);
-  era = λ watches. let first = is.2 watches in omega (arith, first);
+  era = let few = is.2 in omega (arith, few, low);
   position = let few = is.3 in omega (arith, few, low);
 }
 

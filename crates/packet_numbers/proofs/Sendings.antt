@@ -1,8 +1,7 @@
 -- What a world of a run sends next keeps to the layout.
-use Rattle.std.proofs.Common.{◌≡◌, ◌<◌, inl, inr, ℕ, zero, suc, ◌==◌, Bool, true, false, if◌then◌else◌, List, []}
-use Rattle.std.proofs.Common.{◌∷◌, ◌++◌, length, map, Option, Some, None, slice_get, slice_set, option_map, refl, sym}
-use Rattle.std.proofs.Common.{ap, subst, ◌∙◌, arith, length-append, option_and_then}
-use Rattle.std.proofs.lemmas.Bool.{eqb-true}
+use Rattle.std.proofs.Common.{◌≡◌, ◌<◌, inl, inr, ℕ, ◌==◌, Bool, true, false, List, []}
+use Rattle.std.proofs.Common.{◌∷◌, ◌++◌, length, map, Option, Some, None, slice_get, option_map, refl, sym}
+use Rattle.std.proofs.Common.{nat_lt, subst, arith, length-append, option_and_then}
 use Rattle.std.proofs.lemmas.List.Elements.{All-cons, All-nil}
 use Rattle.gd_words.specs.Members.{IsAmong}
 use Rattle.gd_words.specs.declared.message.Request.{Request}
@@ -22,27 +21,27 @@ use Rattle.message_layout.specs.change_layout.specs.declared.message.ChangeMessa
 use Rattle.message_layout.specs.change_layout.specs.sync_ids.specs.Changes.{fits_change}
 use Rattle.checkpoint_image.specs.Receive.{repeated}
 use Rattle.world_semantics.specs.declared.role.Role.{Role}
-use Rattle.world_semantics.specs.declared.role.Role.TheVariants.{Acting, Watching, Gone}
+use Rattle.world_semantics.specs.declared.role.Role.TheVariants.{Acting, Watching, Blank, Gone}
 use Rattle.world_semantics.specs.declared.which.Which.{Which}
-use Rattle.world_semantics.specs.declared.which.Which.TheVariants.{First, Second}
 use Rattle.world_semantics.specs.Core.{Core}
-use Rattle.world_semantics.specs.World.{Copy, Pair, Terminal, World, copy_of, terminal_node}
+use Rattle.world_semantics.specs.Kept.{own_acts}
+use Rattle.world_semantics.specs.World.{Pair, Terminal, World, copy_of, other_of, terminal_node}
 use Rattle.world_semantics.specs.Messages.{Message, Asking, Replying, Checkpointing, Taking, Sending, Cause}
-use Rattle.world_semantics.specs.Messages.{Running, Entering, NotingDown}
+use Rattle.world_semantics.specs.Messages.{Running, Entering, NotingDown, Stopping, sent_at}
 use Rattle.world_semantics.specs.Passes.{taken_of}
 use Rattle.world_semantics.specs.Records.{records_of}
-use Rattle.world_semantics.specs.Rules.{Change, stopped_copy, stopped_pair}
+use Rattle.world_semantics.specs.Rules.{Change}
 use Rattle.world_semantics.specs.Running.{Done, Stepped, in_world, run_done}
 use Rattle.world_semantics.specs.Follows.{IsRun}
 use Rattle.world_semantics.proofs.Fair.{fair-of, run-fair}
 use Rattle.world_semantics.proofs.KeptReplies.{repeated-sent}
 use Rattle.world_semantics.proofs.Members.{among-map}
 use Rattle.world_semantics.proofs.Ran.{run-may}
-use Rattle.world_semantics.proofs.Reached.{run-marks, run-roles, gone-is}
+use Rattle.world_semantics.proofs.Reached.{run-kept, run-marks, run-roles, run-steady}
 use Rattle.world_semantics.proofs.Sendings.{run-sends}
 use Rattle.computed_changes.specs.Changed.{change_brought_to, change_done, change_step}
-use Rattle.computed_changes.specs.Checkpoints.{applied_step, checkpoint_step, core_as, is_of_last, taken_step}
-use Rattle.computed_changes.specs.Checkpoints.{taken_step_where}
+use Rattle.computed_changes.specs.Checkpoints.{applied_step, applied_step_where, checkpoint_step, core_as}
+use Rattle.computed_changes.specs.Checkpoints.{is_of_last, taken_step, taken_step_where}
 use Rattle.computed_changes.specs.Entered.{enter_done}
 use Rattle.computed_changes.specs.Fitting.{depths_of}
 use Rattle.computed_changes.specs.Handed.{brought, brought_to, copy_in, handed_done, replied_done, step_by}
@@ -50,14 +49,13 @@ use Rattle.computed_changes.specs.Laws.{IsSent}
 use Rattle.computed_changes.specs.Replies.{awaits, awaits_at, printed_at, printed_done, printed_where, reply_step}
 use Rattle.computed_changes.specs.Replies.{reply_step_where}
 use Rattle.computed_changes.specs.Requests.{repeated_at, request_step}
-use Rattle.computed_changes.specs.Stopped.{stopped_world}
+use Rattle.computed_changes.specs.Stopped.{stop_done}
 use Rattle.computed_changes.proofs.Entered.{enter-may}
 use Rattle.computed_changes.proofs.Reached.{run-sent}
 use Rattle.computed_changes.proofs.Stopped.{stop-may, mark-may}
 use Rattle.packets_played.specs.takeover_laws.specs.Fit.{IsFit}
 use Rattle.packets_played.specs.takeover_laws.proofs.Kept.{IsGood, run-keeps}
 use Rattle.packets_played.specs.awaited_requests.specs.Seats.{IsLaidOut}
-use Rattle.packets_played.specs.awaited_requests.proofs.Seats.{run-seats}
 use Rattle.letters.specs.Again.{sent_again}
 use Rattle.letters.specs.Posts.{Post, HasPlayed, PlaysEvent, played_more, plays_run, plays_enter, plays_mark}
 use Rattle.letters.specs.Posts.{plays_fail, after_change, post_after_down}
@@ -67,6 +65,7 @@ use Rattle.packets_played.specs.letter_laws.proofs.Again.{IsAgain, by_copy, by_t
 use Rattle.packets_played.specs.letter_laws.proofs.Awaited.{acting-done}
 use Rattle.packets_played.specs.letter_laws.proofs.Given.{message-of}
 use Rattle.packets_played.specs.letter_laws.proofs.Honest.{played-honest}
+use Rattle.packets_played.specs.letter_laws.proofs.Reached.{stop-is}
 use Rattle.packets_played.specs.letter_laws.proofs.Replies.{kept-sent}
 use Rattle.message_layout.specs.Messages.{NodeMessage, Carrying, Changing}
 use Rattle.message_layout.specs.Layout.{Fits, IsCarriedWithin, IsTakenWithin, IsWithin}
@@ -93,36 +92,6 @@ all-among w (sending ∷ sendings) holds =
 none-within : (w : World) → AreWithin w []
 none-within w = All-nil (λ (sending : Sending). IsSentWithin w sending.message)
 
--- A processor that stops again, or isn't there, changes nothing
-
-set-still : (stopped : List Bool) (processor : ℕ) → (slice_get stopped processor ≡ Some false → ⊥)
-    → slice_set stopped processor true ≡ stopped
-set-still [] processor ran = refl
-set-still (true ∷ stopped) zero ran = refl
-set-still (false ∷ stopped) zero ran = absurd (ran refl)
-set-still (one ∷ stopped) (suc processor) ran = ap (λ rest. one ∷ rest) (set-still stopped processor ran)
-
-map-still : (f : Pair → Pair) (pairs : List Pair)
-    → ((number : ℕ) (pair : Pair) → slice_get pairs number ≡ Some pair → f pair ≡ pair) → map f pairs ≡ pairs
-map-still f [] still = refl
-map-still f (pair ∷ pairs) still =
-    ap (λ one. one ∷ map f pairs) (still 0 pair refl)
-    ∙ ap (λ rest. pair ∷ rest) (map-still f pairs (λ number one there. still (suc number) one there))
-
-copy-still : (processor : ℕ) (copy : Copy) → (copy.processor ≡ processor → copy.role ≡ Gone)
-    → stopped_copy processor copy ≡ copy
-copy-still processor copy gone = by (copy.processor == processor) refl
-  where
-    by : (test : Bool) → (copy.processor == processor) ≡ test
-        → record copy { role = if test then Gone else copy.role } ≡ copy
-    by true same = ap (λ role. record copy { role = role }) (sym (gone (eqb-true copy.processor processor same)))
-    by false same = refl
-
-not-past : (stopped : List Bool) (processor : ℕ) → processor < length stopped → slice_get stopped processor ≡ None → ⊥
-not-past [] processor low none = omega (arith, low)
-not-past (one ∷ stopped) zero low none = cc
-not-past (one ∷ stopped) (suc processor) low none = not-past stopped processor (omega (arith, low)) none
-
 -- Worlds of posts
 
 module _ (site : Site) (fit : IsFit site) (small : IsSmall site) (out : IsLaidOut site) where
@@ -144,7 +113,7 @@ module _ (site : Site) (fit : IsFit site) (small : IsSmall site) (out : IsLaidOu
       → IsSentWithin post.world message
   goes-within events post few played message sent new = (
     sent-within events post few played message sent,
-    by (form_of post.world message) (form-newest post.world (played-run played) message new),
+    by (form_of post.world message) (form-newest post.world fit.seats (played-run played) message new),
   )
     where
       by : (content : NodeMessage) → IsFormOf post.world message content → IsWithin content
@@ -201,6 +170,8 @@ module _ (site : Site) (fit : IsFit site) (small : IsSmall site) (out : IsLaidOu
         good = record {
           roles = run-roles run;
           stopped = run-marks run;
+          steady = run-steady run;
+          seated = (run-kept fit.seats run).seated;
           invariant = run-keeps site fit (events ++ event ∷ []) after.world (few-more event) run;
         }
 
@@ -280,6 +251,7 @@ module _ (site : Site) (fit : IsFit site) (small : IsSmall site) (out : IsLaidOu
         → slice_get post.world.processes request.process ≡ Some pair → (role : Role)
         → AnyStep (request_step k pair (records_of post.world) request role)
     request-within request k pair there Watching = λ w. none-within w
+    request-within request k pair there Blank = λ w. none-within w
     request-within request k pair there Gone = tt
     request-within request k pair there Acting =
         let fair = fair-of request.process post.world.replies k pair
@@ -296,6 +268,7 @@ module _ (site : Site) (fit : IsFit site) (small : IsSmall site) (out : IsLaidOu
     reply-within : (reply : Reply) (number : ℕ) (k : Which) (pair : Pair) (role : Role)
         → AnyStep (reply_step site number k pair (records_of post.world) reply role)
     reply-within reply number k pair Watching = tt
+    reply-within reply number k pair Blank = tt
     reply-within reply number k pair Gone = tt
     reply-within reply number k pair Acting =
         by (awaits site number (copy_of k pair).core reply (process.point (copy_of k pair).core.state))
@@ -337,10 +310,19 @@ module _ (site : Site) (fit : IsFit site) (small : IsSmall site) (out : IsLaidOu
         by : (core : Option Core)
             → AnyStep (option_map (applied_step number k pair (records_of post.world) message) core)
         by None = tt
-        by (Some core) = λ w.
-            All-cons (λ (one : Sending). IsSentWithin w one.message)
-            (record { node = (copy_of k pair).processor; message = Taking (taken_of message) }) [] (within, within)
-            (none-within w)
+        by (Some core) = tells (nat_lt (copy_of (other_of k) pair).position (own_acts number post.world.kept))
+          where
+            told : (w : World) → AreWithin w
+                (sent_at (copy_of k pair).processor (Taking (taken_of message) ∷ []))
+            told w =
+                All-cons (λ (one : Sending). IsSentWithin w one.message)
+                (record { node = (copy_of k pair).processor; message = Taking (taken_of message) }) []
+                (within, within) (none-within w)
+
+            tells : (behind : Bool)
+                → AnyStep (Some (applied_step_where number k pair (records_of post.world) message core behind))
+            tells true = told
+            tells false = told
 
     -- and so is one that comes as what changed
     change-within : (change : ChangeMessage) → IsWithin (Changing change) → (k : Which) (pair : Pair)
@@ -362,6 +344,7 @@ module _ (site : Site) (fit : IsFit site) (small : IsSmall site) (out : IsLaidOu
     taken-within : (taken : TakenMessage) (k : Which) (pair : Pair) (role : Role)
         → AnyStep (taken_step k pair (records_of post.world) taken role)
     taken-within taken k pair Watching = tt
+    taken-within taken k pair Blank = tt
     taken-within taken k pair Gone = tt
     taken-within taken k pair Acting =
         by (is_of_last (copy_of k pair).sent (copy_of k pair).era (copy_of k pair).number taken)
@@ -413,44 +396,6 @@ module _ (site : Site) (fit : IsFit site) (small : IsSmall site) (out : IsLaidOu
         → change_done site node change post.world ≡ Some done → AreWithin done.world done.sendings
     changed-within node change done fits e = subst AnyDone e (changed-any node change fits) done.world
 
-    -- Stops that come to nothing
-
-    world-still : (processor : ℕ) → (slice_get post.world.stopped processor ≡ Some false → ⊥)
-        → stopped_world processor post.world ≡ post.world
-    world-still processor ran =
-        let gone = set-still post.world.stopped processor ran in
-        let pairs = map-still (stopped_pair processor) post.world.processes (λ number pair there.
-        let first = copy-still processor pair.first (has-gone number pair there First) in
-        let second = copy-still processor pair.second (has-gone number pair there Second) in
-        ap (λ one. record pair { first = one; second = stopped_copy processor pair.second }) first
-        ∙ ap (λ two. record pair { second = two }) second) in
-        ap (λ stopped. record post.world {
-          stopped = stopped;
-          processes = map (stopped_pair processor) post.world.processes;
-        }) gone
-        ∙ ap (λ processes. record post.world { processes = processes }) pairs
-      where
-        run : IsRun site events post.world
-        run = played-run played
-
-        low : (number : ℕ) (pair : Pair) → slice_get post.world.processes number ≡ Some pair → (k : Which)
-            → (copy_of k pair).processor < length post.world.stopped
-        low number pair there First = ((run-seats site events post.world out run).pairs number pair there).first
-        low number pair there Second = ((run-seats site events post.world out run).pairs number pair there).second
-
-        has-gone : (number : ℕ) (pair : Pair) → slice_get post.world.processes number ≡ Some pair → (k : Which)
-            → (copy_of k pair).processor ≡ processor → (copy_of k pair).role ≡ Gone
-        has-gone number pair there k same = by (slice_get post.world.stopped processor) refl
-          where
-            by : (found : Option Bool) → slice_get post.world.stopped processor ≡ found
-                → (copy_of k pair).role ≡ Gone
-            by None is = absurd (not-past post.world.stopped processor
-                (subst (λ p. p < length post.world.stopped) same (low number pair there k)) is)
-            by (Some false) is = absurd (ran is)
-            by (Some true) is =
-                (gone-is post.world.stopped pair (run-roles run number pair there) k).1
-                (subst (λ p. slice_get post.world.stopped p ≡ Some true) (sym same) is)
-
   -- All of it
 
   module _ (events : List Event) (post : Post) (few : length events < 4294967294)
@@ -458,26 +403,15 @@ module _ (site : Site) (fit : IsFit site) (small : IsSmall site) (out : IsLaidOu
     less : length events < 4294967295
     less = omega (arith, few)
 
-    pulled-within : (processor : ℕ) → MarksWithin site (stopped_world processor post.world)
-    pulled-within processor = by (slice_get post.world.stopped processor) refl
-      where
-        still : (slice_get post.world.stopped processor ≡ Some false → ⊥)
-            → MarksWithin site (stopped_world processor post.world)
-        still ran =
-            subst (MarksWithin site) (sym (world-still events post less played processor ran))
-            (marks-within events post less played)
-
-        by : (found : Option Bool) → slice_get post.world.stopped processor ≡ found
-            → MarksWithin site (stopped_world processor post.world)
-        by None is = still (λ ran. let same = sym is ∙ ran in cc)
-        by (Some true) is = still (λ ran. let same = sym is ∙ ran in cc)
-        by (Some false) is =
-            let change = stop-may site processor post.world
-            (record { world = stopped_world processor post.world; sendings = [] }) (rw is refl) in
-            let one = length-append events (Fail processor ∷ []) in
-            marks-within (events ++ Fail processor ∷ [])
-            (record post { world = stopped_world processor post.world }) (omega (arith, one, few))
-            (played_more played (plays_fail change))
+    pulled-within : (processor : ℕ) (done : Done) → stop_done processor post.world ≡ Some done
+        → MarksWithin site done.world
+    pulled-within processor done e =
+        let change = stop-may site processor post.world done e in
+        let none = (stop-is post.world done.world processor done.sendings change).none in
+        let one = length-append events (Fail processor ∷ []) in
+        marks-within (events ++ Fail processor ∷ []) (record post { world = done.world }) (omega (arith, one, few))
+        (played_more played (plays_fail
+        (subst (λ sendings. Change site post.world (Stopping processor) sendings done.world) none change)))
 
     pub sends-within : SendsWithin site post.world
     sends-within = record {

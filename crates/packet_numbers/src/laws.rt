@@ -42,7 +42,8 @@ pub fn the_world_has_room()
 {}
 
 /// Whatever fewer than 4,294,967,294 events play over packets on a fit site within its limits, the state is ready for
-/// the next event: the world has room, each end has numbers left, and what is sent next keeps to the layout.
+/// the next event: the world has room, each end has numbers left and bears how often its nodes were loaded again, and
+/// what is sent next keeps to the layout.
 pub fn what_is_played_is_ready()
     ensures { (site : Site) (events : List Event) (s : Packeted) → IsFit site → IsSmall site → IsLaidOut site
         → length events < 4294967294 → IsPlayed site events s → IsReady s }

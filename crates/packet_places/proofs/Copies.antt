@@ -1,7 +1,9 @@
 -- What changes of the world are computed changes copies in one processor alone, and sends from there.
-use Rattle.std.proofs.Common.{◌≡◌, ◌≢◌, ℕ, ℤ, Bool, true, false, if◌then◌else◌, nat_lt, ◌==◌, List, [], ◌∷◌, ◌++◌, map}
+use Rattle.std.proofs.Common.{◌≡◌, ◌≢◌, ℕ, ◌+◌, ℤ, Bool, true, false, not, ◌&&◌, if◌then◌else◌, nat_lt, ◌==◌, List, []}
+use Rattle.std.proofs.Common.{◌∷◌, ◌++◌, map}
 use Rattle.std.proofs.Common.{Option, Some, None, slice_get, slice_set, option_map, option_and_then, refl, sym, ap}
 use Rattle.std.proofs.Common.{subst, ◌∙◌}
+use Rattle.std.proofs.Math.Bool.{and-true}
 use Rattle.std.proofs.lemmas.Bool.{eqb-true}
 use Rattle.gd_words.specs.Members.{IsAmong}
 use Rattle.gd_words.specs.declared.message.Request.{Request}
@@ -19,7 +21,7 @@ use Rattle.plain_semantics.specs.Machine.{next_request}
 use Rattle.checkpoint_image.specs.declared.message.ImageMessage.{ImageMessage}
 use Rattle.checkpoint_image.specs.declared.message.TakenMessage.{TakenMessage}
 use Rattle.world_semantics.specs.declared.role.Role.{Role}
-use Rattle.world_semantics.specs.declared.role.Role.TheVariants.{Acting, Watching, Gone}
+use Rattle.world_semantics.specs.declared.role.Role.TheVariants.{Acting, Watching, Blank, Gone}
 use Rattle.world_semantics.specs.declared.which.Which.{Which}
 use Rattle.world_semantics.specs.declared.which.Which.TheVariants.{First, Second}
 use Rattle.world_semantics.specs.Core.{Core}
@@ -29,12 +31,16 @@ use Rattle.world_semantics.specs.Kept.{own_acts}
 use Rattle.world_semantics.specs.Messages.{Message, Asking, Replying, Checkpointing, Taking, Sending, sent_at}
 use Rattle.world_semantics.specs.Own.{around}
 use Rattle.checkpoint_image.specs.Receive.{waits, came, repeated, all_repeated}
-use Rattle.world_semantics.specs.Passes.{checkpoint_of, after_sending, taken_of, kept_at_checkpoint}
-use Rattle.world_semantics.specs.Rules.{entered_request, taker, pair_after_down, pair_at_down, told_at_down}
-use Rattle.world_semantics.specs.Rules.{takeover_sendings}
+use Rattle.world_semantics.specs.Passes.{after_getting, after_sending, after_sent, after_told, checkpoint_of, kept_at}
+use Rattle.world_semantics.specs.Passes.{point_at, taken_of}
+use Rattle.world_semantics.specs.Rules.{entered_request, taker, pair_after_down, pair_at_down, renewal_after_down}
+use Rattle.world_semantics.specs.Rules.{renewals_ended, takeover_sendings, told_at_down}
 use Rattle.world_semantics.specs.Records.{records_of}
-use Rattle.world_semantics.specs.Running.{Done, Own, Stepped, own_at, run_pair, first_step, run_done, step_of_copy}
-use Rattle.world_semantics.proofs.Lifted.{lifted, mark_done, own_done, own_made, passed_done, run_as, run_at, sent_done}
+use Rattle.world_semantics.specs.Running.{Done, Own, Stepped, ending_step, first_step, in_world, own_at, run_done}
+use Rattle.world_semantics.specs.Running.{run_pair, sending_step, step_of_copy}
+use Rattle.world_semantics.specs.Shares.{acts_at}
+use Rattle.world_semantics.proofs.Lifted.{ended_done, free_at, lifted, made_if, mark_done, own_done, own_made}
+use Rattle.world_semantics.proofs.Lifted.{passed_done, renewing_at, run_as, run_at, sent_done}
 use Rattle.world_semantics.proofs.Lists.{Changed, is_new, is_same, changed, mapped, some-same}
 use Rattle.world_semantics.proofs.Members.{among-map, among-flat_map}
 use Rattle.world_semantics.proofs.Roles.{taker-is}
@@ -43,8 +49,9 @@ use Rattle.computed_changes.specs.Fitting.{depths_of, put_fitting}
 use Rattle.computed_changes.specs.Checkpoints.{is_next_for, is_of_last}
 use Rattle.computed_changes.specs.Handed.{brought_to, handed_done, replied_done, step_by}
 use Rattle.computed_changes.specs.Replies.{awaits, awaits_at, copy_got, printed_at, printed_done, printed_where}
-use Rattle.computed_changes.proofs.Lifted.{acknowledged_where, applied_done, applied_made, applied_where, asked_done}
-use Rattle.computed_changes.proofs.Lifted.{checkpoint_done, got_done, got_where, taken_done}
+use Rattle.computed_changes.specs.Requests.{early_step}
+use Rattle.computed_changes.proofs.Lifted.{acknowledged_where, applied_as, applied_done, applied_made, applied_where}
+use Rattle.computed_changes.proofs.Lifted.{asked_done, checkpoint_done, got_done, got_where, taken_done}
 use Rattle.computed_changes.specs.Stopped.{world_at_down}
 use Rattle.packet_places.specs.Places.{KeepsItsOwn}
 
@@ -68,6 +75,7 @@ keeps-same copy = record {
   number = refl;
   sent = refl;
   acknowledged = refl;
+  renewal = refl;
   core = refl;
   waiting = refl;
 }
@@ -148,10 +156,9 @@ module _ (w : World) (number : ℕ) (k : Which) (pair : Pair) (there : slice_get
   passed-at true = alone _ _ refl (λ sending among. absurd among)
   passed-at false = alone _ _ refl (λ sending among. absurd among)
 
-  mark-at : (pass sent : Bool) → AnyAt (copy_of k pair).processor w (mark_done number k pair w pass sent)
-  mark-at true sent = passed-at (nat_lt (copy_of k pair).position (own_acts number w.kept))
-  mark-at false true = tt
-  mark-at false false =
+  -- it sends a checkpoint, or what it has sent comes to its end
+  sent-at-it : IsDoneAt (copy_of k pair).processor w (sent_done number k pair w)
+  sent-at-it =
       one-changed (after_sending (copy_of k pair))
       (record pair { checkpoints = checkpoint_of number (copy_of k pair) ∷ pair.checkpoints })
       (others k (checkpoint_of number (copy_of k pair) ∷ pair.checkpoints)) (sent_done number k pair w) refl
@@ -162,27 +169,53 @@ module _ (w : World) (number : ℕ) (k : Which) (pair : Pair) (there : slice_get
       others First all = keeps-same pair.second
       others Second all = keeps-same pair.first
 
+  mark-at : (pass sent : Bool) → AnyAt (copy_of k pair).processor w (mark_done number k pair w pass sent)
+  mark-at true sent = passed-at (nat_lt (copy_of k pair).position (own_acts number w.kept))
+  mark-at false true = tt
+  mark-at false false = sent-at-it
+
+  sends-at : (may : Bool)
+      → AnyAt (copy_of k pair).processor w (made_if number w may (sending_step number k pair (records_of w)))
+  sends-at true = sent-at-it
+  sends-at false = tt
+
+  ends-at : (may : Bool)
+      → AnyAt (copy_of k pair).processor w (made_if number w may (ending_step number k pair (records_of w)))
+  ends-at true = alone (after_sent (copy_of k pair)) (ended_done number k pair w) refl (λ sending among. absurd among)
+  ends-at false = tt
+
+  renews-at : (stands : Point) → AnyAt (copy_of k pair).processor w (renewing_at number k pair w stands)
+  renews-at point.Inner = sends-at _
+  renews-at point.Take = sends-at _
+  renews-at point.Ask = sends-at _
+  renews-at point.Answer = sends-at _
+  renews-at point.Device = sends-at _
+  renews-at point.AtCheckpoint = sends-at _
+  renews-at point.Ended = sends-at _
+  renews-at point.Await = tt
+
+  free-at : (site : Site) (stands : Point) (sent renewal : Bool)
+      → AnyAt (copy_of k pair).processor w (free_at site number k pair w stands sent renewal)
+  free-at site stands true renewal = ends-at (may_pass w.marks k pair)
+  free-at site stands false true = renews-at stands
+  free-at site stands false false =
+      own-any (own_at site number (copy_of k pair).core (around (copy_of k pair) pair w) stands)
+
   run-at-point : (site : Site) (stands : Point)
       → AnyAt (copy_of k pair).processor w (run_at site number k pair w stands)
   run-at-point site point.AtCheckpoint = mark-at (may_pass w.marks k pair) (copy_of k pair).sent
-  run-at-point site point.Inner =
-      own-any (own_at site number (copy_of k pair).core (around (copy_of k pair) pair w) point.Inner)
-  run-at-point site point.Take =
-      own-any (own_at site number (copy_of k pair).core (around (copy_of k pair) pair w) point.Take)
-  run-at-point site point.Ask =
-      own-any (own_at site number (copy_of k pair).core (around (copy_of k pair) pair w) point.Ask)
-  run-at-point site point.Await =
-      own-any (own_at site number (copy_of k pair).core (around (copy_of k pair) pair w) point.Await)
-  run-at-point site point.Answer =
-      own-any (own_at site number (copy_of k pair).core (around (copy_of k pair) pair w) point.Answer)
-  run-at-point site point.Device =
-      own-any (own_at site number (copy_of k pair).core (around (copy_of k pair) pair w) point.Device)
-  run-at-point site point.Ended =
-      own-any (own_at site number (copy_of k pair).core (around (copy_of k pair) pair w) point.Ended)
+  run-at-point site point.Inner = free-at site point.Inner (copy_of k pair).sent (copy_of k pair).renewal
+  run-at-point site point.Take = free-at site point.Take (copy_of k pair).sent (copy_of k pair).renewal
+  run-at-point site point.Ask = free-at site point.Ask (copy_of k pair).sent (copy_of k pair).renewal
+  run-at-point site point.Await = free-at site point.Await (copy_of k pair).sent (copy_of k pair).renewal
+  run-at-point site point.Answer = free-at site point.Answer (copy_of k pair).sent (copy_of k pair).renewal
+  run-at-point site point.Device = free-at site point.Device (copy_of k pair).sent (copy_of k pair).renewal
+  run-at-point site point.Ended = free-at site point.Ended (copy_of k pair).sent (copy_of k pair).renewal
 
   run-role : (site : Site) (role : Role) → AnyAt (copy_of k pair).processor w (run_as site number k pair w role)
   run-role site Acting = run-at-point site (process.point (copy_of k pair).core.state)
   run-role site Watching = tt
+  run-role site Blank = tt
   run-role site Gone = tt
 
   -- a reply that comes to the copy
@@ -195,9 +228,17 @@ module _ (w : World) (number : ℕ) (k : Which) (pair : Pair) (there : slice_get
       by true = alone (copy_got number reply.words w.kept (copy_of k pair)) _ refl (λ sending among. absurd among)
       by false = tt
   got-at site reply Watching = tt
+  got-at site reply Blank = tt
   got-at site reply Gone = tt
 
 -- A request, a checkpoint, or that one was taken, at a copy of the process that it names
+
+early-at : (w : World) (request : Request) (k : Which) (pair : Pair)
+    → slice_get w.processes request.process ≡ Some pair
+    → IsDoneAt (copy_of k pair).processor w (in_world request.process w (early_step k pair (records_of w) request))
+early-at w request k pair there =
+    alone w request.process k pair there (record (copy_of k pair) { waiting = waits (copy_of k pair).waiting request })
+    _ refl (λ sending among. absurd among)
 
 asked-at : (w : World) (request : Request) (k : Which) (pair : Pair)
     → slice_get w.processes request.process ≡ Some pair → (role : Role)
@@ -206,9 +247,8 @@ asked-at w request k pair there Acting =
     alone w request.process k pair there (record (copy_of k pair)
     { waiting = came (copy_of k pair).core.receive (copy_of k pair).waiting request }) _ refl
     (sent-from (copy_of k pair).processor (map Replying (repeated (copy_of k pair).core.receive request)))
-asked-at w request k pair there Watching =
-    alone w request.process k pair there (record (copy_of k pair) { waiting = waits (copy_of k pair).waiting request })
-    _ refl (λ sending among. absurd among)
+asked-at w request k pair there Watching = early-at w request k pair there
+asked-at w request k pair there Blank = early-at w request k pair there
 asked-at w request k pair there Gone = tt
 
 others-freed : (pair : Pair) (k : Which) (position base : ℕ) (takens : List TakenMessage)
@@ -224,6 +264,7 @@ others-freed pair First position base takens =
       number = refl;
       sent = refl;
       acknowledged = refl;
+      renewal = refl;
       core = refl;
       waiting = refl;
     }
@@ -235,15 +276,31 @@ others-freed pair Second position base takens =
       number = refl;
       sent = refl;
       acknowledged = refl;
+      renewal = refl;
       core = refl;
       waiting = refl;
     }
 
-applied-core : (w : World) (message : ImageMessage) (k : Which) (pair : Pair)
-    → slice_get w.processes message.process ≡ Some pair → (core : Core)
-    → IsDoneAt (copy_of k pair).processor w (applied_done message k pair w core)
-applied-core w message k pair there core =
-    one-changed w message.process k pair there (record (copy_of k pair) { core = core; number = message.number })
+-- where the other copy is behind the kept acts, nothing of it changes
+others-still : (pair : Pair) (k : Which) (base : ℕ) (takens : List TakenMessage)
+    → KeepsItsOwn (copy_of (other_of k) pair) (copy_of (other_of k) (record pair { base = base; takens = takens }))
+others-still pair First base takens = keeps-same pair.second
+others-still pair Second base takens = keeps-same pair.first
+
+applied-as : (w : World) (message : ImageMessage) (k : Which) (pair : Pair)
+    → slice_get w.processes message.process ≡ Some pair → (core : Core) (behind : Bool)
+    → IsDoneAt (copy_of k pair).processor w (applied_as message k pair w core behind)
+applied-as w message k pair there core true =
+    one-changed w message.process k pair there (after_getting message.number core (copy_of k pair))
+    (record pair {
+      base = (copy_of (other_of k) pair).position
+          + own_acts message.process (acts_at message.process (point_at (copy_of (other_of k) pair)));
+      takens = taken_of message ∷ pair.takens;
+    })
+    (others-still pair k _ (taken_of message ∷ pair.takens)) (applied_as message k pair w core true) refl
+    (sent-from (copy_of k pair).processor (Taking (taken_of message) ∷ []))
+applied-as w message k pair there core false =
+    one-changed w message.process k pair there (after_getting message.number core (copy_of k pair))
     (with_copy (other_of k)
     (record (copy_of (other_of k) pair) {
       position =
@@ -251,22 +308,28 @@ applied-core w message k pair there core =
       held = [];
     })
     (record pair {
-      base = own_acts message.process
-          (kept_at_checkpoint message.process (copy_of (other_of k) pair) w.kept);
+      base = own_acts message.process (kept_at message.process (copy_of (other_of k) pair) w.kept);
       takens =
           taken_of message ∷ pair.takens;
     }))
     (others-freed pair k (own_acts message.process ((copy_of (other_of k) pair).held ++ w.kept))
-    (own_acts message.process (kept_at_checkpoint message.process (copy_of (other_of k) pair) w.kept))
+    (own_acts message.process (kept_at message.process (copy_of (other_of k) pair) w.kept))
     (taken_of message ∷ pair.takens))
-    (applied_done message k pair w core) refl (sent-from (copy_of k pair).processor (Taking (taken_of message) ∷ []))
+    (applied_as message k pair w core false) refl
+    (sent-from (copy_of k pair).processor (Taking (taken_of message) ∷ []))
 
-applied-at : (site : Site) (w : World) (message : ImageMessage) (k : Which) (pair : Pair)
-    → slice_get w.processes message.process ≡ Some pair → (role : Role)
-    → AnyAt (copy_of k pair).processor w (checkpoint_done site message k pair w role)
-applied-at site w message k pair there Acting = tt
-applied-at site w message k pair there Gone = tt
-applied-at site w message k pair there Watching = by (is_next_for (copy_of k pair).era (copy_of k pair).number message)
+applied-core : (w : World) (message : ImageMessage) (k : Which) (pair : Pair)
+    → slice_get w.processes message.process ≡ Some pair → (core : Core)
+    → IsDoneAt (copy_of k pair).processor w (applied_done message k pair w core)
+applied-core w message k pair there core =
+    applied-as w message k pair there core
+    (nat_lt (copy_of (other_of k) pair).position (own_acts message.process w.kept))
+
+next-at : (site : Site) (w : World) (message : ImageMessage) (k : Which) (pair : Pair)
+    → slice_get w.processes message.process ≡ Some pair
+    → AnyAt (copy_of k pair).processor w
+    (applied_where site message k pair w (is_next_for (copy_of k pair).era (copy_of k pair).number message))
+next-at site w message k pair there = by (is_next_for (copy_of k pair).era (copy_of k pair).number message)
   where
     put : (core : Option Core) → AnyAt (copy_of k pair).processor w (applied_made message k pair w core)
     put None = tt
@@ -275,6 +338,14 @@ applied-at site w message k pair there Watching = by (is_next_for (copy_of k pai
     by : (test : Bool) → AnyAt (copy_of k pair).processor w (applied_where site message k pair w test)
     by false = tt
     by true = put (put_fitting (depths_of site message.process) (copy_of k pair).core message.image)
+
+applied-at : (site : Site) (w : World) (message : ImageMessage) (k : Which) (pair : Pair)
+    → slice_get w.processes message.process ≡ Some pair → (role : Role)
+    → AnyAt (copy_of k pair).processor w (checkpoint_done site message k pair w role)
+applied-at site w message k pair there Acting = tt
+applied-at site w message k pair there Gone = tt
+applied-at site w message k pair there Watching = next-at site w message k pair there
+applied-at site w message k pair there Blank = next-at site w message k pair there
 
 taken-at : (w : World) (taken : TakenMessage) (k : Which) (pair : Pair)
     → slice_get w.processes taken.process ≡ Some pair → (role : Role)
@@ -285,9 +356,10 @@ taken-at w taken k pair there Acting =
     by : (test : Bool) → AnyAt (copy_of k pair).processor w (acknowledged_where taken k pair w test)
     by false = tt
     by true =
-        alone w taken.process k pair there (record (copy_of k pair) { acknowledged = true }) _ refl
+        alone w taken.process k pair there (after_told (copy_of k pair)) _ refl
         (λ sending among. absurd among)
 taken-at w taken k pair there Watching = tt
+taken-at w taken k pair there Blank = tt
 taken-at w taken k pair there Gone = tt
 
 -- Runs
@@ -423,6 +495,42 @@ marked-there node processor w = record {
         (all_repeated (copy_of k pair).core.receive (copy_of k pair).waiting)) sending among
         ∙ (taker-is node processor pair k is).there
 
+    -- elsewhere no renewal ends
+    elsewhere : (copy other : Copy) → copy.processor ≢ node
+        → (renewal_after_down node processor other copy).renewal ≡ copy.renewal
+    elsewhere copy other away = by (copy.processor == node) refl
+      where
+        by : (here : Bool) → (copy.processor == node) ≡ here
+            → (copy.renewal && not (here && other.processor == processor)) ≡ copy.renewal
+        by true here = absurd (away (eqb-true copy.processor node here))
+        by false here = and-true copy.renewal
+
+    ended : (k : Which) (before pair : Pair) → KeepsItsOwn (copy_of k before) (copy_of k pair)
+        → (copy_of k before).processor ≢ node
+        → KeepsItsOwn (copy_of k before) (copy_of k (renewals_ended node processor pair))
+    ended First before pair keeps away = record {
+      processor = keeps.processor;
+      role = keeps.role;
+      era = keeps.era;
+      number = keeps.number;
+      sent = keeps.sent;
+      acknowledged = keeps.acknowledged;
+      renewal = elsewhere pair.first pair.second (λ here. away (sym keeps.processor ∙ here)) ∙ keeps.renewal;
+      core = keeps.core;
+      waiting = keeps.waiting;
+    }
+    ended Second before pair keeps away = record {
+      processor = keeps.processor;
+      role = keeps.role;
+      era = keeps.era;
+      number = keeps.number;
+      sent = keeps.sent;
+      acknowledged = keeps.acknowledged;
+      renewal = elsewhere pair.second pair.first (λ here. away (sym keeps.processor ∙ here)) ∙ keeps.renewal;
+      core = keeps.core;
+      waiting = keeps.waiting;
+    }
+
     pick : (k j : Which) (pair : Pair) → (copy_of k pair).processor ≡ node → (copy_of j pair).processor ≢ node
         → KeepsItsOwn (copy_of j pair) (copy_of j (pair_after_down (Some k) pair))
     pick First First pair here away = absurd (away here)
@@ -433,6 +541,7 @@ marked-there node processor w = record {
       number = refl;
       sent = refl;
       acknowledged = refl;
+      renewal = refl;
       core = refl;
       waiting = refl;
     }
@@ -443,6 +552,7 @@ marked-there node processor w = record {
       number = refl;
       sent = refl;
       acknowledged = refl;
+      renewal = refl;
       core = refl;
       waiting = refl;
     }
@@ -462,4 +572,5 @@ marked-there node processor w = record {
         let same : pair ≡ before = some-same (sym at ∙ there) in
         subst (λ (p : Pair). KeepsItsOwn (copy_of k before) (copy_of k p)) (sym is)
         (subst (λ (p : Pair). KeepsItsOwn (copy_of k before) (copy_of k (pair_at_down node processor p))) (sym same)
-        (kept k before away (taker node processor before) refl))
+        (ended k before (pair_after_down (taker node processor before) before)
+        (kept k before away (taker node processor before) refl) away))

@@ -11,7 +11,7 @@ use Rattle.alive_regroup.specs.Watching as watching
 use Rattle.alive_regroup.specs.Watching.{changed_at}
 use Rattle.world_semantics.specs.declared.which.Which.{Which}
 use Rattle.world_semantics.specs.declared.which.Which.TheVariants.{First, Second}
-use Rattle.world_semantics.specs.World.{Copy, Pair, World, terminal_node, is_running, copy_of}
+use Rattle.world_semantics.specs.World.{Copy, Pair, World, terminal_node, is_running, is_whole, copy_of}
 use Rattle.world_semantics.specs.Messages.{Checkpointing, Sending}
 use Rattle.std.proofs.lemmas.Bool.{eqb-true}
 use Rattle.world_semantics.specs.declared.role.Role.TheVariants.{Gone}
@@ -23,13 +23,13 @@ use Rattle.computed_changes.specs.Entered.{enter_done}
 use Rattle.computed_changes.specs.Changed.{change_done}
 use Rattle.computed_changes.specs.Handed.{handed_done}
 use Rattle.computed_changes.proofs.Changed.{change-each}
-use Rattle.computed_changes.specs.Stopped.{stop_done, stop_where, stopped_world, marked_where, mark_where, may_note}
+use Rattle.computed_changes.specs.Stopped.{stop_done, stop_if, stop_where, stopped_world, marked_where, mark_where}
+use Rattle.computed_changes.specs.Stopped.{may_note}
 use Rattle.computed_changes.specs.Stopped.{world_at_down}
 use Rattle.letters.specs.Routes.{letters_of}
 use Rattle.letters.specs.Again.{sent_again}
 use Rattle.letter_laws.proofs.Given.{letter-from}
-use Rattle.machine_states.specs.States.{Played, Makes, Skips, Would, SecondStop}
-use Rattle.message_wires.specs.Play.{has_stopped}
+use Rattle.machine_states.specs.States.{Played, Makes, Skips, Would}
 use Rattle.message_layout.specs.Messages.{NodeMessage, Carrying, Changing, Reporting, Declaring}
 use Rattle.message_layout.specs.Reading.{understood}
 use Rattle.packet_wires.specs.Nodes.{end_at}
@@ -37,8 +37,9 @@ use Rattle.packet_wires.specs.Parcels.{Parcel, parcel_of, parcels_of}
 use Rattle.packet_wires.specs.Wires.{Wires, Midst, bus_named, goes_over, arrived, learns, ticked, cut_off}
 use Rattle.packet_wires.specs.Play.{Packeted, Underway, begun, after_done, made_by, after_any, after_marked, marked_by}
 use Rattle.packet_wires.specs.Play.{marks, handed, handed_any, handed_words, completed, received, deliver_acted}
-use Rattle.packet_wires.specs.Play.{lose_acted, repeat_acted, fail_acted, marks_and_declares, pulled, pulls, line_of}
-use Rattle.packet_wires.specs.Play.{pulls_its, tick_acted, packet_at, acted, taken_off, ended, play}
+use Rattle.packet_wires.specs.Play.{comes_in, lose_acted, repeat_acted, stop_acted, fail_acted, marks_and_declares}
+use Rattle.packet_wires.specs.Play.{pulled_first, pulled, pulls, line_of, pulls_its, tick_acted, packet_at, acted}
+use Rattle.packet_wires.specs.Play.{taken_off, ended, play}
 use Rattle.packet_places.specs.Places.{KeepsItsOwn, CopiesStay, StaysElsewhere}
 use Rattle.packet_places.proofs.Copies.{IsDoneAt, AnyAt, SomeAt, keeps-same, run-somewhere, enter-there, handed-there}
 use Rattle.packet_places.proofs.Copies.{marked-there}
@@ -197,7 +198,7 @@ over-stays node s wires (Would harm) keeps = tt
 
 deliver-found : (name : BusName) (s : Underway) (packet : Packet)
     → KeepsIf packet.receiver s (deliver_acted name s (Some packet))
-deliver-found name s packet = by (is_running s.world.stopped packet.receiver)
+deliver-found name s packet = by (comes_in packet s)
   where
     by : (test : Bool) → KeepsIf packet.receiver s (Makes (if test then received name packet s else s))
     by false = same-stays s
@@ -279,6 +280,7 @@ keeps-then first second = record {
   number = second.number ∙ first.number;
   sent = second.sent ∙ first.sent;
   acknowledged = second.acknowledged ∙ first.acknowledged;
+  renewal = second.renewal ∙ first.renewal;
   core = second.core ∙ first.core;
   waiting = second.waiting ∙ first.waiting;
 }
@@ -315,32 +317,39 @@ stopped-place : (processor : ℕ) (k : Which) (pair : Pair)
 stopped-place processor First pair = refl
 stopped-place processor Second pair = refl
 
-fail-keeps : (s : Underway) (processor node : ℕ) → KeepsIf node s (fail_acted processor s (stop_done processor s.world))
-fail-keeps s processor node = by (slice_get s.world.stopped processor) refl
+-- what holds where no stop is made, and where a processor that ran stops, holds of a stop
+stop-cases : (P : Option Done → Type 0) (processor : ℕ) (w : World) → P None
+    → (slice_get w.stopped processor ≡ Some false
+    → P (Some (record { world = stopped_world processor w; sendings = [] })))
+    → P (stop_done processor w)
+stop-cases P processor w none some = by (slice_get w.stopped processor) refl
   where
-    stops : slice_get s.world.stopped processor ≡ Some false → (test : Bool)
-        → KeepsIf node s (if test then Would (SecondStop processor) else Makes
-        (record s { world = stopped_world processor s.world }))
-    stops runs true = tt
-    stops runs false = record {
+    stops : slice_get w.stopped processor ≡ Some false → (whole : Bool) → P (stop_if processor w whole)
+    stops runs true = some runs
+    stops runs false = none
+
+    by : (found : Option Bool) → slice_get w.stopped processor ≡ found → P (stop_where processor w found)
+    by None runs = none
+    by (Some true) runs = none
+    by (Some false) runs = stops runs (is_whole w)
+
+fail-keeps : (s : Underway) (processor node : ℕ) (found : Option Bool) → KeepsIf node s (fail_acted processor s found)
+fail-keeps s processor node None = tt
+fail-keeps s processor node (Some true) = tt
+fail-keeps s processor node (Some false) =
+    stop-cases (λ done. KeepsIf node s (stop_acted processor s done)) processor s.world tt (λ runs. record {
       nodes = λ x n. refl;
       copies = λ number k before after there now away same.
           subst (λ (p : Pair). KeepsItsOwn (copy_of k before) (copy_of k p))
           (some-same (sym (map-there (stopped_pair processor) s.world.processes number before there) ∙ now))
           (stop-copies processor s.world runs k before same);
-    }
-
-    by : (found : Option Bool) → slice_get s.world.stopped processor ≡ found
-        → KeepsIf node s (fail_acted processor s (stop_where processor s.world found))
-    by None runs = tt
-    by (Some true) runs = tt
-    by (Some false) runs = stops runs (has_stopped s.world.stopped)
+    })
 
 pub fail-stays : (s next : Packeted) (processor node : ℕ) → play s (Fail processor) ≡ Makes next
     → StaysElsewhere node s next
 fail-stays s next processor node made =
     subst (StaysIf node s) made (over-stays node s s.wires (acted s (Fail processor))
-    (fail-keeps (begun s) processor node))
+    (fail-keeps (begun s) processor node (slice_get s.world.stopped processor)))
 
 -- What becomes of drives
 
@@ -377,27 +386,22 @@ tick-keeps s node = by (is_running s.world.stopped node)
     only : OnlyAt node s.wires (ticked s.site.processors node s.wires)
     only = ticked-only s.site.processors node s.wires
 
-    stops : (processor : ℕ) → slice_get s.world.stopped processor ≡ Some false → (test : Bool)
-        → KeepsIf node s (if test then Would (SecondStop processor)
-        else Makes (marks_and_declares node processor
-        (record s { world = stopped_world processor s.world; wires = ticked s.site.processors node s.wires })))
-    stops processor runs true = tt
-    stops processor runs false =
-        through s (ticked s.site.processors node s.wires) only
-        (held-stays node processor (record s { wires = ticked s.site.processors node s.wires }) runs)
-
-    pull : (processor : ℕ) (found : Option Bool) → slice_get s.world.stopped processor ≡ found
+    pull : (processor : ℕ) (found : Option Bool)
         → KeepsIf node s (pulled node processor (record s { wires = ticked s.site.processors node s.wires }) found)
-    pull processor None runs = wires-stay s (ticked s.site.processors node s.wires) only
-    pull processor (Some true) runs =
+    pull processor None = wires-stay s (ticked s.site.processors node s.wires) only
+    pull processor (Some true) =
         through s (ticked s.site.processors node s.wires) only
         (told-stay node processor (record s { wires = ticked s.site.processors node s.wires })).stays
-    pull processor (Some false) runs = stops processor runs (has_stopped s.world.stopped)
+    pull processor (Some false) =
+        stop-cases (λ done. KeepsIf node s (pulled_first node processor
+        (record s { wires = ticked s.site.processors node s.wires }) done)) processor s.world tt
+        (λ runs. through s (ticked s.site.processors node s.wires) only
+        (held-stays node processor (record s { wires = ticked s.site.processors node s.wires }) runs))
 
     line : (found : Option ℕ) → KeepsIf node s
         (pulls node (record s { wires = ticked s.site.processors node s.wires }) found)
     line None = wires-stay s (ticked s.site.processors node s.wires) only
-    line (Some processor) = pull processor (slice_get s.world.stopped processor) refl
+    line (Some processor) = pull processor (slice_get s.world.stopped processor)
 
     by : (test : Bool) → KeepsIf node s (if test then pulls_its node
         (record s { wires = ticked s.site.processors node s.wires }) else Skips)

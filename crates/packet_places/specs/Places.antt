@@ -13,6 +13,7 @@ pub record KeepsItsOwn (before after : Copy) : Type 0 where
   pub number : after.number ≡ before.number
   pub sent : after.sent ≡ before.sent
   pub acknowledged : after.acknowledged ≡ before.acknowledged
+  pub renewal : after.renewal ≡ before.renewal
   pub core : after.core ≡ before.core
   pub waiting : after.waiting ≡ before.waiting
 

@@ -4,19 +4,19 @@ use Rattle.std.proofs.Common.{slice_get, Option, Some, None, refl, ap, sym, subs
 use Rattle.std.proofs.lemmas.List.{append_assoc, append-nil}
 use Rattle.std.specs.List.{remove}
 use Rattle.schedule.specs.declared.event.Event.{Event}
-use Rattle.schedule.specs.declared.event.Event.TheVariants.{Run, Enter, Deliver, Lose, Repeat, Tick, Fail, Drive}
+use Rattle.schedule.specs.declared.event.Event.TheVariants.{Run, Enter, Deliver, Lose, Repeat, Tick, Fail, Reload}
+use Rattle.schedule.specs.declared.event.Event.TheVariants.{Drive}
 use Rattle.packet_words.specs.declared.bus_name.BusName.TheVariants as bus
 use Rattle.packet_words.specs.declared.packet.Packet.{Packet}
 use Rattle.bus_model.specs.Packets.{sent, has_room}
-use Rattle.world_semantics.specs.World.{is_running}
 use Rattle.world_semantics.specs.Running.{Done, run_done}
 use Rattle.computed_changes.specs.Entered.{enter_done}
-use Rattle.computed_changes.specs.Stopped.{stop_done}
-use Rattle.machine_states.specs.States.{Played, Makes, Skips, Would, SecondStop}
-use Rattle.message_wires.specs.Play.{has_stopped}
-use Rattle.packet_wires.specs.Wires.{Wires, Midst, bus_named, packets_over, all_put}
-use Rattle.packet_wires.specs.Play.{Packeted, Underway, begun, deliver_acted, ended, fail_acted, lose_acted}
-use Rattle.packet_wires.specs.Play.{made_by, over, packet_at, play, received, repeat_acted, taken_off, tick_acted}
+use Rattle.computed_changes.specs.Stopped.{reload_done, stop_done}
+use Rattle.machine_states.specs.States.{Played, Makes, Skips, Would}
+use Rattle.packet_wires.specs.Wires.{Wires, Midst, bus_named, packets_over, all_put, loaded_again}
+use Rattle.packet_wires.specs.Play.{Packeted, Underway, begun, comes_in, deliver_acted, ended, fail_acted, lose_acted}
+use Rattle.packet_wires.specs.Play.{made_by, over, packet_at, play, received, reload_acted, repeat_acted, stop_acted}
+use Rattle.packet_wires.specs.Play.{taken_off, tick_acted}
 use Rattle.round_laws.specs.Buses.{IsGrown, Leaves, HasBuses}
 use Rattle.packet_rounds.specs.Played.{buses_of, IsPlay}
 use Rattle.machine_states.proofs.Turning.{drive-cases}
@@ -113,14 +113,14 @@ leaves s (Deliver y k) = by (packet_at s (bus_named y) k) refl
         packet))
     by None is = deliver-skipped s y k is
     by (Some packet) is = deliver-made s y k
-        (if is_running s.world.stopped packet.receiver then received (bus_named y) packet (begun s) else begun s)
+        (if comes_in packet (begun s) then received (bus_named y) packet (begun s) else begun s)
 leaves s (Lose y k) = by (packet_at s (bus_named y) k) refl
   where
     by : (packet : Option Packet) → packet_at s (bus_named y) k ≡ packet
         → LeavesIf s (Lose y k) (ended (taken_off (Lose y k) s.wires) (lose_acted (begun s) packet))
     by None is = deliver-skipped s y k is
     by (Some packet) is = deliver-made s y k (begun s)
-leaves s (Fail processor) = by (stop_done processor s.world)
+leaves s (Fail processor) = by (slice_get s.world.stopped processor)
   where
     same : (bus : Bool) → buses_of s bus ≡ buses_of s bus
     same bus = refl
@@ -130,14 +130,32 @@ leaves s (Fail processor) = by (stop_done processor s.world)
     made done false = refl
     made done true = refl
 
-    first : (done : Done) (any : Bool) → LeavesIf s (Fail processor) (ended s.wires
-        (if any then Would (SecondStop processor) else Makes (record (begun s) { world = done.world })))
-    first done true = tt
-    first done false = made done
+    stops : (done : Option Done) → LeavesIf s (Fail processor) (ended s.wires (stop_acted processor (begun s) done))
+    stops None = tt
+    stops (Some done) = made done
 
-    by : (done : Option Done) → LeavesIf s (Fail processor) (ended s.wires (fail_acted processor (begun s) done))
+    by : (stopped : Option Bool)
+        → LeavesIf s (Fail processor) (ended s.wires (fail_acted processor (begun s) stopped))
     by None = same
-    by (Some done) = first done (has_stopped s.world.stopped)
+    by (Some true) = same
+    by (Some false) = stops (stop_done processor s.world)
+leaves s (Reload processor) = by (reload_done s.site processor s.world)
+  where
+    same : (bus : Bool) → buses_of s bus ≡ buses_of s bus
+    same bus = refl
+
+    made : (done : Done) (bus : Bool)
+        → buses_of (over s.wires (record (begun s) {
+          world = done.world;
+          wires = loaded_again s.site.processors processor (begun s).wires;
+        })) bus ≡ buses_of s bus
+    made done false = refl
+    made done true = refl
+
+    by : (done : Option Done)
+        → LeavesIf s (Reload processor) (ended s.wires (reload_acted processor (begun s) done))
+    by None = same
+    by (Some done) = made done
 leaves s (Drive event) =
     drive-cases event (begun s) (λ (played : Played Midst). LeavesIf s (Drive event) (ended s.wires played)) made
     (λ bus. refl) (λ process. tt)

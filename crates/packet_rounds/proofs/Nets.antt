@@ -8,7 +8,8 @@ use Rattle.std.specs.Option.{option_to_list}
 use Rattle.gd_words.specs.Members.{IsAmong}
 use Rattle.tal_tree.specs.declared.site.Site.{Site}
 use Rattle.schedule.specs.declared.event.Event.{Event}
-use Rattle.schedule.specs.declared.event.Event.TheVariants.{Run, Enter, Deliver, Lose, Repeat, Tick, Fail, Drive}
+use Rattle.schedule.specs.declared.event.Event.TheVariants.{Run, Enter, Deliver, Lose, Repeat, Tick, Fail, Reload}
+use Rattle.schedule.specs.declared.event.Event.TheVariants.{Drive}
 use Rattle.packet_words.specs.declared.packet.Packet.{Packet}
 use Rattle.world_semantics.specs.World.{is_running, runs_by, terminal_node}
 use Rattle.world_semantics.proofs.Lists.{set-there, set-other}
@@ -21,10 +22,10 @@ use Rattle.packet_wires.specs.Runs.{IsPlayed, played_none, played_more, skipped}
 use Rattle.packet_nets.proofs.Nodes.{Same, are, differ, same}
 use Rattle.packet_nets.proofs.Ticking.{begins-net}
 use Rattle.packet_nets.proofs.Tied.{running-stands}
-use Rattle.packets_laws.specs.Passing.{IsNetOf, TakesToDeliver, as_on_buses, delivered}
+use Rattle.packets_laws.specs.Passing.{IsNetOf, ReloadsNone, TakesToDeliver, as_on_buses, delivered}
 use Rattle.packets_laws.proofs.Going as going
 use Rattle.packets_laws.proofs.Going.{play-goes}
-use Rattle.packets_laws.proofs.Passing.{event-passes}
+use Rattle.packets_laws.proofs.Passing.{event-passes, reload-netted}
 use Rattle.round_laws.specs.Buses.{delivered_of}
 use Rattle.packet_rounds.specs.Played.{IsPlay, IsClearPlay, buses_of}
 
@@ -49,37 +50,45 @@ set-ran stopped k q runs = by (same k q)
     by (are is) = of (slice_get stopped k) refl is
     by (differ apart) = ap (runs_by q) (sym (set-other stopped k q true apart)) ∙ runs
 
--- what an event leaves of the site, and who ran before it
-pub record Remains (s next : Packeted) : Type 0 where
+-- what an event leaves of the site, and who ran before it, if it loads no processor again
+pub record Remains (event : Event) (s next : Packeted) : Type 0 where
   pub site : next.site ≡ s.site
   pub size : length next.world.stopped ≡ length s.world.stopped
-  pub ran : (q : ℕ) → is_running next.world.stopped q ≡ true → is_running s.world.stopped q ≡ true
+  pub ran : ReloadsNone event → (q : ℕ) → is_running next.world.stopped q ≡ true
+      → is_running s.world.stopped q ≡ true
 
-pub remains : (s : Packeted) (event : Event) (next : Packeted) → play s event ≡ Makes next → Remains s next
+pub remains : (s : Packeted) (event : Event) (next : Packeted) → play s event ≡ Makes next → Remains event s next
 remains s event next made = by (play s event) (play-goes s event) made
   where
-    by : (played : Played Wires) → going.Goes s played → played ≡ Makes next → Remains s next
+    by : (played : Played Wires) → going.Goes event s played → played ≡ Makes next → Remains event s next
     by _ going.skips is = absurd (cc)
     by _ (going.would_harm harm) is = absurd (cc)
     by _ (going.stops_none {next = made} site stopped) is =
         let same : made ≡ next = cc in
-        subst (Remains s) same (record {
+        subst (Remains event s) same (record {
           site = site;
           size = ap length stopped;
-          ran = λ q runs. subst (λ l. is_running l q ≡ true) stopped runs;
+          ran = λ none q runs. subst (λ l. is_running l q ≡ true) stopped runs;
         })
-    by _ (going.stops_one {next = made} processor site first stopped) is =
+    by _ (going.stops_one {next = made} processor site whole stopped) is =
         let same : made ≡ next = cc in
-        subst (Remains s) same (record {
+        subst (Remains event s) same (record {
           site = site;
           size = ap length stopped ∙ length-set s.world.stopped processor true;
-          ran = λ q runs. set-ran s.world.stopped processor q (subst (λ l. is_running l q ≡ true) stopped runs);
+          ran = λ none q runs. set-ran s.world.stopped processor q (subst (λ l. is_running l q ≡ true) stopped runs);
+        })
+    by _ (going.starts_one {next = made} processor loads site stopped) is =
+        let same : made ≡ next = cc in
+        subst (Remains event s) same (record {
+          site = site;
+          size = ap length stopped ∙ length-set s.world.stopped processor false;
+          ran = λ none q runs. absurd (subst ReloadsNone loads none);
         })
 
-pub ran-before : (s : Packeted) (event : Event) (next : Packeted) → IsPlay s event next → (q : ℕ)
+pub ran-before : (s : Packeted) (event : Event) (next : Packeted) → ReloadsNone event → IsPlay s event next → (q : ℕ)
     → is_running next.world.stopped q ≡ true → is_running s.world.stopped q ≡ true
-ran-before s event next (inl made) q runs = (remains s event next made).ran q runs
-ran-before s event next (inr skips) q runs =
+ran-before s event next none (inl made) q runs = (remains s event next made).ran none q runs
+ran-before s event next none (inr skips) q runs =
     subst (λ (t : Packeted). is_running t.world.stopped q ≡ true) skips.1 runs
 
 -- States
@@ -103,6 +112,26 @@ terminals-run stopped few = by (slice_get stopped 16) refl
     ) in
         omega (arith, bad))
 
+-- each event leads to the wires of a net
+net-on : (s : Packeted) (event : Event) (next : Packeted) (n : Net) → length s.world.stopped ≤ 16 → IsNetOf s n
+    → play s event ≡ Makes next → is_running next.world.stopped 16 ≡ true → (m : Net) × IsNetOf next m
+net-on s event next n few is made runs = by event made
+  where
+    plain : (event : Event) → ReloadsNone event → play s event ≡ Makes next → (m : Net) × IsNetOf next m
+    plain event none made =
+        let q = event-passes s event next n 16 16 few is none made runs runs in (as_on_buses next q.middle, q.net)
+
+    by : (event : Event) → play s event ≡ Makes next → (m : Net) × IsNetOf next m
+    by (Run number) made = plain (Run number) tt made
+    by (Enter terminal) made = plain (Enter terminal) tt made
+    by (Deliver y k) made = plain (Deliver y k) tt made
+    by (Lose y k) made = plain (Lose y k) tt made
+    by (Repeat y k) made = plain (Repeat y k) tt made
+    by (Tick node) made = plain (Tick node) tt made
+    by (Fail processor) made = plain (Fail processor) tt made
+    by (Reload processor) made = reload-netted s next processor n few is made
+    by (Drive event) made = plain (Drive event) tt made
+
 pub netted-on : (site : Site) → site.processors ≤ 16 → (s : Packeted) (event : Event) (next : Packeted)
     → play s event ≡ Makes next → IsNetted site s → IsNetted site next
 netted-on site few s event next made w =
@@ -110,10 +139,10 @@ netted-on site few s event next made w =
     let size = r.size ∙ w.size in
     let old = w.size in
     let runs = terminals-run next.world.stopped (omega (arith, few, size)) in
+    let on = net-on s event next w.net (omega (arith, few, old)) w.is made runs in
     record {
-      net = as_on_buses next (event-passes s event next w.net 16 16 (omega (arith, few, old)) w.is made runs
-          runs).middle;
-      is = (event-passes s event next w.net 16 16 (omega (arith, few, old)) w.is made runs runs).net;
+      net = on.0;
+      is = on.1;
       size = size;
       same = r.site ∙ w.same;
     }
@@ -159,6 +188,7 @@ comes-named s (Lose y k) came named bus p among = absurd among
 comes-named s (Repeat y k) came named bus p among = absurd among
 comes-named s (Tick node) came named bus p among = absurd among
 comes-named s (Fail processor) came named bus p among = absurd among
+comes-named s (Reload processor) came named bus p among = absurd among
 comes-named s (Drive event) came named bus p among = absurd among
 comes-named s (Deliver y k) came named bus p among = by y bus named among
   where
@@ -183,6 +213,7 @@ none-delivered s (Lose y k) skips p is = absurd (cc)
 none-delivered s (Repeat y k) skips p is = absurd (cc)
 none-delivered s (Tick node) skips p is = absurd (cc)
 none-delivered s (Fail processor) skips p is = absurd (cc)
+none-delivered s (Reload processor) skips p is = absurd (cc)
 none-delivered s (Drive event) skips p is = absurd (cc)
 none-delivered s (Deliver y k) skips p is = absurd (by (packet_at s (bus_named y) k) is skips)
   where
@@ -191,16 +222,20 @@ none-delivered s (Deliver y k) skips p is = absurd (by (packet_at s (bus_named y
     by None is skips = absurd (cc)
     by (Some q) is skips = absurd (cc)
 
+-- an event as those of rounds: it takes nothing off a bus that it doesn't deliver, and loads no processor again
+abbrev pub IsOfRounds : Event → Type 0
+IsOfRounds event = TakesToDeliver event × ReloadsNone event
+
 pub goes-through : (s : Packeted) (event : Event) (next : Packeted) (n : Net) (a b : ℕ) → length s.world.stopped ≤ 16
-    → IsNetOf s n → TakesToDeliver event → IsClearPlay s event next → is_running next.world.stopped a ≡ true
+    → IsNetOf s n → IsOfRounds event → IsClearPlay s event next → is_running next.world.stopped a ≡ true
     → is_running next.world.stopped b ≡ true → GoesThrough a b s event next n
 goes-through s event next n a b few is takes (clear, inl made) here there =
-    let q = event-passes s event next n a b few is made here there in record {
+    let q = event-passes s event next n a b few is takes.1 made here there in record {
       net = as_on_buses next q.middle;
       is = q.net;
       few = q.few;
       came = q.came;
-      passes = q.clear clear takes;
+      passes = q.clear clear takes.0;
       comes = comes-named s event q.came q.comes;
     }
 goes-through s event next n a b few is takes (clear, inr skips) here there =

@@ -26,16 +26,15 @@ use Rattle.channel_laws.specs.Rounds.{Passes, nothing, by_push, by_packet, by_dr
 use Rattle.channel_laws.specs.Rounds.{by_mark, IsRound, HasWaited, IsSent, IsAnswered, IsBroughtOn}
 use Rattle.channel_laws.specs.Way.{IsOutstanding, IsEnded}
 use Rattle.channel_laws.proofs.Rounds.{brought-on}
-use Rattle.machine_states.specs.States.{Played, Makes, Skips, Would, SecondStop}
+use Rattle.machine_states.specs.States.{Played, Makes, Skips, Would}
 use Rattle.packet_wires.specs.Nodes.{end_at}
 use Rattle.packet_wires.specs.Wires.{Wires, Midst, ticked}
-use Rattle.packet_wires.specs.Play.{Packeted, Underway, IsClear, begun, ended, line_of, marks_and_declares, play}
-use Rattle.packet_wires.specs.Play.{pulled}
+use Rattle.packet_wires.specs.Play.{Packeted, Underway, IsClear, begun, ended, line_of, play, pulled, pulled_first}
 use Rattle.packet_wires.specs.Play.{pulls, pulls_its}
-use Rattle.computed_changes.specs.Stopped.{stopped_world}
-use Rattle.message_wires.specs.Play.{has_stopped}
+use Rattle.computed_changes.specs.Stopped.{stop_done}
+use Rattle.world_semantics.specs.Running.{Done}
 use Rattle.packet_nets.proofs.Nodes.{Same, are, differ, same}
-use Rattle.packets_laws.specs.Passing.{IsNetOf, TakesToDeliver, as_on_buses}
+use Rattle.packets_laws.specs.Passing.{IsNetOf, as_on_buses}
 use Rattle.packets_laws.proofs.Passing.{tick-passed}
 use Rattle.round_laws.specs.Buses.{IsGrown, delivered_of, HasBuses}
 use Rattle.round_laws.specs.Rounds.{InRound, begins, goes_on, stops, IsWholeRound, AreRounds, no_round, one_more}
@@ -49,14 +48,14 @@ use Rattle.packet_rounds.specs.Pieces.{IsAcknowledged}
 use Rattle.packet_rounds.specs.Played.{IsClearPlay, buses_of, sizes_of}
 use Rattle.packet_rounds.proofs.Buses.{has-buses}
 use Rattle.packet_rounds.proofs.Kept.{acknowledged}
-use Rattle.packet_rounds.proofs.Nets.{GoesThrough, both-run, goes-through, netted, ran-before}
+use Rattle.packet_rounds.proofs.Nets.{GoesThrough, IsOfRounds, both-run, goes-through, netted, ran-before}
 
 -- what goes on, and then more
 passes-on : {a b : ℕ} {one other last : Net} {came later : List Packet} → Passes a b one came other
     → Passes a b other later last → Passes a b one (later ++ came) last
 passes-on p nothing = p
 passes-on p (by_push x y message some opened q) = by_push x y message some opened (passes-on p q)
-passes-on p (by_packet packet among opened q) = by_packet packet among opened (passes-on p q)
+passes-on p (by_packet packet among current opened q) = by_packet packet among current opened (passes-on p q)
 passes-on p (by_drop packet gone q) = by_drop packet gone (passes-on p q)
 passes-on p (by_tick x y opened q) = by_tick x y opened (passes-on p q)
 passes-on p (by_alive x y opened q) = by_alive x y opened (passes-on p q)
@@ -128,13 +127,13 @@ ticked-on a b start s event next t q = let r = t.round in record {
 }
 
 turn-takes : {sizes : Sizes} {x y : ℕ} {from to : Place} {event : Event} → Turns sizes x y from event to
-    → TakesToDeliver event
-turn-takes (enters terminal early low) = tt
-turn-takes (runs process early low) = tt
-turn-takes (delivers_x left some at) = tt
-turn-takes (delivers_y left empty some at) = tt
-turn-takes (ticks node low came at) = tt
-turn-takes (ends came all) = tt
+    → IsOfRounds event
+turn-takes (enters terminal early low) = (tt, tt)
+turn-takes (runs process early low) = (tt, tt)
+turn-takes (delivers_x left some at) = (tt, tt)
+turn-takes (delivers_y left empty some at) = (tt, tt)
+turn-takes (ticks node low came at) = (tt, tt)
+turn-takes (ends came all) = (tt, tt)
 
 -- its own tick, when all that was on the buses has come
 now-ticks : (a b : ℕ) (start : Net) (first : Packeted) → IsNetOf first start → (came : Bool → List Packet)
@@ -167,12 +166,11 @@ module _ (node : ℕ) (s : Underway) where
   pulled-acts : (processor : ℕ) (one : Option Bool) → pulled node processor s one ≡ Skips → ⊥
   pulled-acts processor None skips = absurd (cc)
   pulled-acts processor (Some true) skips = absurd (cc)
-  pulled-acts processor (Some false) skips = by (has_stopped s.world.stopped) skips
+  pulled-acts processor (Some false) skips = by (stop_done processor s.world) skips
     where
-      by : (any : Bool) → (if any then Would (SecondStop processor) else Makes
-          (marks_and_declares node processor (record s { world = stopped_world processor s.world }))) ≡ Skips → ⊥
-      by true skips = absurd (cc)
-      by false skips = absurd (cc)
+      by : (done : Option Done) → pulled_first node processor s done ≡ Skips → ⊥
+      by None skips = absurd (cc)
+      by (Some done) skips = absurd (cc)
 
   pulls-acts : (line : Option ℕ) → pulls node s line ≡ Skips → ⊥
   pulls-acts None skips = absurd (cc)
@@ -204,7 +202,7 @@ own-tick : (a b : ℕ) (start : Net) (first : Packeted) → IsNetOf first start 
     → is_running next.world.stopped a ≡ true → is_running next.world.stopped b ≡ true
     → StillToTick a b start came s ⊎ HasTicked a b start s → HasTicked a b start next
 own-tick a b start first is came s next few grown g here there (inr t) =
-    ticked-on a b start s (Tick a) next t (goes-through s (Tick a) next t.net a b few t.is tt g here there)
+    ticked-on a b start s (Tick a) next t (goes-through s (Tick a) next t.net a b few t.is (tt, tt) g here there)
 own-tick a b start first is came s next few grown (clear, inl made) here there (inl t) =
     now-ticks a b start first is came s next few grown clear made here there t
 own-tick a b start first is came s next few grown (clear, inr skips) here there (inl t) = absurd
@@ -219,9 +217,9 @@ round-ran : (sizes : Sizes) (first : Packeted) (came : Bool → List Packet) (at
     → is_running first.world.stopped q ≡ true
 round-ran sizes first _ _ _ begins q here = here
 round-ran sizes first _ _ _ (stops {came = came} {from = from} {s = s} {next = next} processor made g) q here =
-    round-ran sizes first came from s made q (ran-before s (Fail processor) next g.1 q here)
+    round-ran sizes first came from s made q (ran-before s (Fail processor) next tt g.1 q here)
 round-ran sizes first _ _ _ (goes_on {came = came} {from = from} {s = s} {next = next} event to made turn on g) q here =
-    round-ran sizes first came from s made q (ran-before s event next g.1 q here)
+    round-ran sizes first came from s made q (ran-before s event next (turn-takes turn).1 g.1 q here)
 
 rounds-ran : (sizes : Sizes) (first : Packeted) (k : ℕ) (s : Packeted)
     → AreRounds sizes buses_of IsClearPlay first k s → (q : ℕ) → is_running s.world.stopped q ≡ true
@@ -229,7 +227,7 @@ rounds-ran : (sizes : Sizes) (first : Packeted) (k : ℕ) (s : Packeted)
 rounds-ran sizes first _ _ no_round q here = here
 rounds-ran sizes first _ _ (one_more {k = k} {s = s} {next = next} rounds round) q here =
     rounds-ran sizes first k s rounds q (round-ran sizes s round.came round.from round.last round.made q
-    (ran-before round.last (Tick 16) next round.ended.1 q here))
+    (ran-before round.last (Tick 16) next tt round.ended.1 q here))
 
 module _ (sizes : Sizes) (a b : ℕ) (first : Packeted) (start : Net) (is : IsNetOf first start)
     (few : length first.world.stopped ≤ 16) where
@@ -243,7 +241,7 @@ module _ (sizes : Sizes) (a b : ℕ) (first : Packeted) (start : Net) (is : IsNe
       (still-due sizes buses_of IsClearPlay clear-buses first came at s made true)
 
   either-on : (came : Bool → List Packet) (s : Packeted) (event : Event) (next : Packeted)
-      → length s.world.stopped ≤ 16 → TakesToDeliver event
+      → length s.world.stopped ≤ 16 → IsOfRounds event
       → IsClearPlay s event next → is_running next.world.stopped a ≡ true → is_running next.world.stopped b ≡ true
       → StillToTick a b start came s ⊎ HasTicked a b start s
       → StillToTick a b start (λ bus. came bus ++ delivered_of bus event (buses_of s bus)) next
@@ -253,14 +251,14 @@ module _ (sizes : Sizes) (a b : ℕ) (first : Packeted) (start : Net) (is : IsNe
   either-on came s event next few takes g here there (inr t) =
       inr (ticked-on a b start s event next t (goes-through s event next t.net a b few t.is takes g here there))
 
-  done-on : (s : Packeted) (event : Event) (next : Packeted) → length s.world.stopped ≤ 16 → TakesToDeliver event
+  done-on : (s : Packeted) (event : Event) (next : Packeted) → length s.world.stopped ≤ 16 → IsOfRounds event
       → IsClearPlay s event next → is_running next.world.stopped a ≡ true → is_running next.world.stopped b ≡ true
       → HasTicked a b start s → HasTicked a b start next
   done-on s event next few takes g here there t =
       ticked-on a b start s event next t (goes-through s event next t.net a b few t.is takes g here there)
 
   few-on : (came : Bool → List Packet) (s : Packeted) (event : Event) (next : Packeted)
-      → length s.world.stopped ≤ 16 → TakesToDeliver event
+      → length s.world.stopped ≤ 16 → IsOfRounds event
       → IsClearPlay s event next → is_running next.world.stopped a ≡ true → is_running next.world.stopped b ≡ true
       → StillToTick a b start came s ⊎ HasTicked a b start s → length next.world.stopped ≤ 16
   few-on came s event next few takes g here there (inl t) =
@@ -285,7 +283,7 @@ module _ (sizes : Sizes) (a b : ℕ) (first : Packeted) (start : Net) (is : IsNe
       by (are own) = own-tick a b start first is came s next k.few (grown-by came from s made all)
           (subst (λ q. IsClearPlay s (Tick q) next) (sym own) g) here there k.so_far
       by (differ other) =
-          done-on s (Tick node) next k.few tt g here there (k.ticked (omega (arith, past, at, other)))
+          done-on s (Tick node) next k.few (tt, tt) g here there (k.ticked (omega (arith, past, at, other)))
 
   under-way : (came : Bool → List Packet) (at : Place) (s : Packeted)
       → InRound sizes buses_of IsClearPlay first came at s
@@ -297,21 +295,23 @@ module _ (sizes : Sizes) (a b : ℕ) (first : Packeted) (start : Net) (is : IsNe
     ticked = λ low. no-tick a low;
   }
   under-way _ _ _ (stops {came = came} {from = from} {s = s} {next = next} processor made g) here there =
-      let k = under-way came from s made (ran-before s (Fail processor) next g.1 a here)
-      (ran-before s (Fail processor) next g.1 b there) in
+      let k = under-way came from s made (ran-before s (Fail processor) next tt g.1 a here)
+      (ran-before s (Fail processor) next tt g.1 b there) in
       record {
-        few = few-on came s (Fail processor) next k.few tt g here there k.so_far;
+        few = few-on came s (Fail processor) next k.few (tt, tt) g here there k.so_far;
         so_far = by k.few k.so_far;
-        ticked = λ low. done-on s (Fail processor) next k.few tt g here there (k.ticked low);
+        ticked = λ low. done-on s (Fail processor) next k.few (tt, tt) g here there (k.ticked low);
       }
     where
       by : length s.world.stopped ≤ 16 → StillToTick a b start came s ⊎ HasTicked a b start s
           → StillToTick a b start came next ⊎ HasTicked a b start next
       by few (inl t) = inl (still-same a b start came s (Fail processor) next t
-          (goes-through s (Fail processor) next t.net a b few t.is tt g here there))
-      by few (inr t) = inr (done-on s (Fail processor) next few tt g here there t)
+          (goes-through s (Fail processor) next t.net a b few t.is (tt, tt) g here there))
+      by few (inr t) = inr (done-on s (Fail processor) next few (tt, tt) g here there t)
   under-way _ _ _ (goes_on {came = came} {from = from} {s = s} {next = next} event to made turn on g) here there =
-      let k = under-way came from s made (ran-before s event next g.1 a here) (ran-before s event next g.1 b there) in
+      let none = (turn-takes turn).1 in
+      let k = under-way came from s made (ran-before s event next none g.1 a here)
+      (ran-before s event next none g.1 b there) in
       record {
         few = few-on came s event next k.few (turn-takes turn) g here there k.so_far;
         so_far = either-on came s event next k.few (turn-takes turn) g here there k.so_far;
@@ -324,14 +324,14 @@ module _ (sizes : Sizes) (a b : ℕ) (first : Packeted) (start : Net) (is : IsNe
       → is_running next.world.stopped b ≡ true → HasTicked a b start next × (length next.world.stopped ≤ 16)
   whole-round next r which here there = (
     by which r.turn,
-    few-on r.came r.last (Tick 16) next k.few tt r.ended here
+    few-on r.came r.last (Tick 16) next k.few (tt, tt) r.ended here
         there
         k.so_far,
   )
     where
       k : IsUnderWay a b start r.came r.from r.last
-      k = under-way r.came r.from r.last r.made (ran-before r.last (Tick 16) next r.ended.1 a here)
-          (ran-before r.last (Tick 16) next r.ended.1 b there)
+      k = under-way r.came r.from r.last r.made (ran-before r.last (Tick 16) next tt r.ended.1 a here)
+          (ran-before r.last (Tick 16) next tt r.ended.1 b there)
 
       all-ticked : {x y : ℕ} {from to : Place} {event : Event} → Turns sizes x y from event to → event ≡ Tick 16
           → is_before to ≡ true → AllCame x y from × (sizes.processors ≤ ticked_in from)
@@ -345,7 +345,7 @@ module _ (sizes : Sizes) (a b : ℕ) (first : Packeted) (start : Net) (is : IsNe
       by : (a < sizes.processors) ⊎ (a ≡ 16) → TurnsIn sizes buses_of r.last r.from (Tick 16) place.Before
           → HasTicked a b start next
       by (inl low) turn = let past = (all-ticked turn refl refl).1 in
-          done-on r.last (Tick 16) next k.few tt r.ended here there (k.ticked (omega (arith, low, past)))
+          done-on r.last (Tick 16) next k.few (tt, tt) r.ended here there (k.ticked (omega (arith, low, past)))
       by (inr own) turn = own-tick a b start first is r.came r.last next k.few
           (grown-by r.came r.from r.last r.made (all-ticked turn refl refl).0)
           (subst (λ q. IsClearPlay r.last (Tick q) next) (sym own) r.ended) here there k.so_far
@@ -354,8 +354,8 @@ module _ (sizes : Sizes) (a b : ℕ) (first : Packeted) (start : Net) (is : IsNe
 abbrev HasCome : ℕ → ℕ → ℕ → ℕ → Net → Type 0
 HasCome n a b zero m = Unit {0}
 HasCome n a b (suc zero) m = HasWaited n (m.ends a b).sending
-HasCome n a b (suc (suc zero)) m = IsSent n a b (m.ends a b).sending m.flight
-HasCome n a b (suc (suc (suc zero))) m = IsAnswered n a b (m.ends a b).sending m.flight
+HasCome n a b (suc (suc zero)) m = IsSent m.reloads n a b (m.ends a b).sending m.flight
+HasCome n a b (suc (suc (suc zero))) m = IsAnswered m.reloads n a b (m.ends a b).sending m.flight
 HasCome n a b (suc (suc (suc (suc k)))) m = IsEnded n (m.ends a b).sending
 
 comes-on : (n a b k : ℕ) (one next : Net) → IsBroughtOn n a b one next → HasCome n a b k one
@@ -396,7 +396,7 @@ module _ (sizes : Sizes) (n a b : ℕ) (first : Packeted) (start : Net) (is : Is
     where
       ran : (q : ℕ) → is_running next.world.stopped q ≡ true → is_running s.world.stopped q ≡ true
       ran q here = round-ran sizes s round.came round.from round.last round.made q
-          (ran-before round.last (Tick 16) next round.ended.1 q here)
+          (ran-before round.last (Tick 16) next tt round.ended.1 q here)
 
 -- four whole clear rounds or more end a piece
 pub rounds-end : (sizes : Sizes) (n a b k : ℕ) (first s : Packeted) (start : Net) → IsNetOf first start

@@ -35,7 +35,7 @@ pub fn run(
 }
 
 /// How many processors, processes and terminals a site has.
-fn sizes_of(site: &Site) -> Sizes
+pub fn sizes_of(site: &Site) -> Sizes
     requires { IsStartable site.now }
     ensures { result ≡ sizes_of site.now }
 {

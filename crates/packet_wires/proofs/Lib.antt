@@ -1,4 +1,5 @@
 pub mod Held
+pub mod Reloaded
 pub mod Rooms
 pub mod Served
 pub mod Stopped

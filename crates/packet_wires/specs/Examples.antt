@@ -122,6 +122,24 @@ taken_over = end_of before_third_piece ticks_alone
 abbrev pub after_takeover : List Event
 after_takeover = times 9 (next_x ∷ []) ++ times 12 (run ∷ []) ++ times 8 (next_x ∷ []) ++ run ∷ []
 
+-- The node of the terminals hears that processor 0 is down, and asks processor 1; then processor 0 is loaded again.
+-- What was sent from it and to it before is still on bus X
+
+abbrev pub loaded_0 : Packeted
+loaded_0 = end_of taken_over (event.Deliver false 6 ∷ event.Reload 0 ∷ [])
+
+-- the third piece of processor 0, four I'm-alive packets to it and the report to it come, and nothing answers them
+abbrev pub without_old : Packeted
+without_old = end_of loaded_0 (times 6 (next_x ∷ []))
+
+-- the process runs in processor 1, and sends all that it has over the new channel
+abbrev pub renewing : Packeted
+renewing = end_of without_old (run ∷ [])
+
+-- it came, and that was told
+abbrev pub renewed : Packeted
+renewed = end_of renewing (times 12 (next_x ∷ []))
+
 -- Three processors, of which one is muted: all its packets are lost. The others report it, and processor 0 pulls its
 -- line when it has the report of processor 2
 

@@ -1,12 +1,13 @@
 -- What the nodes of a site have: their ends of channels, and what they know of the processors. Processors that share no
 -- memory and send each other packets are Bartlett's; a channel for each ordered pair of nodes, and a node of its own
 -- for the terminals, are this project's own rules.
+use Rattle.std.specs.Prelude.{if◌then◌else◌}
 use Rattle.std.specs.Prelude.{ℕ, zero, suc, ◌+◌, ◌==◌, not, List, [], ◌∷◌, map, slice_get, slice_set, Option}
 use Rattle.std.specs.List.{filter}
 use Rattle.std.specs.Option.{option_and_then}
 use Rattle.packet_words.specs.declared.packet.Incarnation.{Incarnation}
-use Rattle.link_control.specs.Ends.{End, new_end}
-use Rattle.alive_regroup.specs.Watching.{Watching, begun}
+use Rattle.link_control.specs.Ends.{End, new_end, end_after_reload}
+use Rattle.alive_regroup.specs.Watching.{Watching, begun, after_up}
 
 -- a node has an end of a channel with each node, itself included, by the other one's number; and it watches the
 -- processors
@@ -28,7 +29,7 @@ all_nodes = numbers 0 17
 abbrev pub others : ℕ → ℕ → List ℕ
 others processors node = filter (λ other. not (other == node)) (numbers 0 processors)
 
--- no node was ever loaded anew
+-- no node was ever loaded again
 abbrev pub never_reloaded : Incarnation
 never_reloaded = record { sender = 0; receiver = 0 }
 
@@ -40,6 +41,14 @@ node_at_boot processors node = record {
 
 abbrev pub nodes_at_boot : ℕ → List Node
 nodes_at_boot processors = map (node_at_boot processors) all_nodes
+
+-- a node after the processor x was loaded again: each end of x and with x is a new one; x knows of the others what it
+-- knew at the beginning, and each other node knows that x is up
+abbrev pub node_after_reload : ℕ → ℕ → Node → Node
+node_after_reload processors x node = record {
+  ends = map (end_after_reload x) node.ends;
+  watch = if node.watch.me == x then begun x processors else after_up x node.watch;
+}
 
 -- the end that x has of its channel with y
 abbrev pub end_at : List Node → ℕ → ℕ → Option End

@@ -1,16 +1,17 @@
 -- What each event makes of a state in the machine over packets: the world of copies, with both buses and the nodes
 -- under it. It takes its packet off a bus; then it changes world and nodes, which see no bus; and when it is over, what
 -- it sent is put on the buses.
-use Rattle.std.specs.Prelude.{◌≤◌, ℕ, ◌+◌, Bool, true, false, ℤ, if◌then◌else◌, List, [], ◌++◌, length, slice_get}
+use Rattle.std.specs.Prelude.{◌≤◌, ℕ, ◌+◌, ◌&&◌, Bool, true, false, ℤ, if◌then◌else◌, List, [], ◌++◌, length, slice_get}
 use Rattle.std.specs.Prelude.{Option, Some, None}
 use Rattle.std.specs.Option.{option_and_then, option_map}
 use Rattle.tal_tree.specs.declared.site.Site.{Site}
 use Rattle.schedule.specs.declared.event.Event.{Event}
-use Rattle.schedule.specs.declared.event.Event.TheVariants.{Run, Enter, Deliver, Lose, Repeat, Tick, Fail, Drive}
+use Rattle.schedule.specs.declared.event.Event.TheVariants.{Run, Enter, Deliver, Lose, Repeat, Tick, Fail, Reload}
+use Rattle.schedule.specs.declared.event.Event.TheVariants.{Drive}
 use Rattle.packet_words.specs.declared.packet.Packet.{Packet}
 use Rattle.packet_words.specs.declared.packet.PacketKind.{PacketKind}
 use Rattle.packet_words.specs.declared.bus_name.BusName.{BusName}
-use Rattle.link_control.specs.Ends.{End, handed_by_packet}
+use Rattle.link_control.specs.Ends.{End, handed_by_packet, is_current}
 use Rattle.alive_regroup.specs.Watching as watching
 use Rattle.alive_regroup.specs.Watching.{changed_at}
 use Rattle.message_layout.specs.world_semantics.specs.World.{boot, is_running}
@@ -18,13 +19,12 @@ use Rattle.message_layout.specs.world_semantics.specs.Running.{Done, run_done}
 use Rattle.message_wires.specs.computed_changes.specs.Changed.{change_done}
 use Rattle.message_wires.specs.computed_changes.specs.Entered.{enter_done}
 use Rattle.message_wires.specs.computed_changes.specs.Handed.{handed_done}
-use Rattle.message_wires.specs.computed_changes.specs.Stopped.{stop_done, stopped_world, down_done}
+use Rattle.message_wires.specs.computed_changes.specs.Stopped.{stop_done, down_done, reload_done}
 use Rattle.message_wires.specs.letters.specs.Routes.{letters_of}
 use Rattle.message_wires.specs.letters.specs.Again.{sent_again}
 use Rattle.message_wires.specs.machine_states.specs.Drives.{drives_at_boot}
 use Rattle.message_wires.specs.machine_states.specs.States.{State, Played, Makes, Skips, Would}
 use Rattle.message_wires.specs.machine_states.specs.States.{SecondStop, drive_played}
-use Rattle.message_wires.specs.Play.{has_stopped}
 use Rattle.message_layout.specs.Messages.{NodeMessage, Carrying, Changing, Reporting, Declaring}
 use Rattle.message_layout.specs.Reading.{understood}
 use Rattle.packet_wires.specs.Nodes.{end_at}
@@ -32,7 +32,7 @@ use Rattle.packet_wires.specs.Lines.{line_pulled}
 use Rattle.packet_wires.specs.Parcels.{parcels_of}
 use Rattle.packet_wires.specs.Wires.{Wires, Outgoing, Midst, nothing_sent, wires_at_boot, on_bus, bus_named}
 use Rattle.packet_wires.specs.Wires.{without_packet, packets_over, with_sent, goes_over, all_posted, arrived, learns}
-use Rattle.packet_wires.specs.Wires.{ticked, cut_off, declares}
+use Rattle.packet_wires.specs.Wires.{ticked, cut_off, declares, loaded_again}
 
 -- a state over packets
 abbrev pub Packeted : Type 0
@@ -129,11 +129,22 @@ received name packet s =
     handed_words packet.receiver (completed packet (end_at s.wires.nodes packet.receiver packet.sender))
     (record s { wires = arrived name packet s.wires })
 
--- a packet that is delivered comes to its receiver; one that has stopped drops it
+-- whether a packet bears the incarnations that an end knows, where there is one
+abbrev pub is_current_at : Packet → Option End → Bool
+is_current_at packet None = false
+is_current_at packet (Some e) = is_current packet e
+
+-- whether a packet comes in at its receiver: that runs, and the packet was sent since its sender and its receiver were
+-- loaded last
+abbrev pub comes_in : Packet → Underway → Bool
+comes_in packet s =
+    is_running s.world.stopped packet.receiver
+    && is_current_at packet (end_at s.wires.nodes packet.receiver packet.sender)
+
+-- a packet that is delivered comes in at its receiver, or is dropped there
 abbrev pub deliver_acted : BusName → Underway → Option Packet → Played Midst
 deliver_acted name s None = Skips
-deliver_acted name s (Some packet) =
-    Makes (if is_running s.world.stopped packet.receiver then received name packet s else s)
+deliver_acted name s (Some packet) = Makes (if comes_in packet s then received name packet s else s)
 
 -- a packet that is lost comes to nobody
 abbrev pub lose_acted : Underway → Option Packet → Played Midst
@@ -147,11 +158,21 @@ repeat_acted name s (Some packet) = Makes (record s { wires = goes_over name pac
 
 -- Stops and ticks
 
--- a processor stops, where it is the first
-abbrev pub fail_acted : ℕ → Underway → Option Done → Played Midst
+-- a processor that hasn't stopped stops, but not in a world that isn't whole
+abbrev pub stop_acted : ℕ → Underway → Option Done → Played Midst
+stop_acted processor s None = Would (SecondStop processor)
+stop_acted processor s (Some done) = Makes (record s { world = done.world })
+
+abbrev pub fail_acted : ℕ → Underway → Option Bool → Played Midst
 fail_acted processor s None = Skips
-fail_acted processor s (Some done) =
-    if has_stopped s.world.stopped then Would (SecondStop processor) else Makes (record s { world = done.world })
+fail_acted processor s (Some true) = Skips
+fail_acted processor s (Some false) = stop_acted processor s (stop_done processor s.world)
+
+-- a processor is loaded again, and nothing is sent
+abbrev pub reload_acted : ℕ → Underway → Option Done → Played Midst
+reload_acted processor s None = Skips
+reload_acted processor s (Some done) =
+    Makes (record s { world = done.world; wires = loaded_again s.site.processors processor s.wires })
 
 -- a node tells the others that a processor is down
 abbrev pub declared : ℕ → ℕ → Underway → Underway
@@ -161,13 +182,15 @@ declared node processor s = record s { wires = declares s.site.processors node p
 abbrev pub marks_and_declares : ℕ → ℕ → Underway → Underway
 marks_and_declares node processor s = declared node processor (marks node processor s)
 
--- a line is pulled: it stops its processor, where that one runs and none has stopped
+-- a line is pulled: it stops its processor, if that one runs, but not in a world that isn't whole
+abbrev pub pulled_first : ℕ → ℕ → Underway → Option Done → Played Midst
+pulled_first node processor s None = Would (SecondStop processor)
+pulled_first node processor s (Some done) = Makes (marks_and_declares node processor (record s { world = done.world }))
+
 abbrev pub pulled : ℕ → ℕ → Underway → Option Bool → Played Midst
 pulled node processor s None = Makes s
 pulled node processor s (Some true) = Makes (marks_and_declares node processor s)
-pulled node processor s (Some false) =
-    if has_stopped s.world.stopped then Would (SecondStop processor)
-    else Makes (marks_and_declares node processor (record s { world = stopped_world processor s.world }))
+pulled node processor s (Some false) = pulled_first node processor s (stop_done processor s.world)
 
 abbrev pub pulls : ℕ → Underway → Option ℕ → Played Midst
 pulls node s None = Makes s
@@ -200,7 +223,8 @@ acted s (Deliver y k) = deliver_acted (bus_named y) (begun s) (packet_at s (bus_
 acted s (Lose y k) = lose_acted (begun s) (packet_at s (bus_named y) k)
 acted s (Repeat y k) = repeat_acted (bus_named y) (begun s) (packet_at s (bus_named y) k)
 acted s (Tick node) = tick_acted node (begun s)
-acted s (Fail processor) = fail_acted processor (begun s) (stop_done processor s.world)
+acted s (Fail processor) = fail_acted processor (begun s) (slice_get s.world.stopped processor)
+acted s (Reload processor) = reload_acted processor (begun s) (reload_done s.site processor s.world)
 acted s (Drive event) = drive_played event (begun s)
 
 -- the wires without the packet that an event delivers or loses
@@ -212,6 +236,7 @@ taken_off (Lose y k) wires = without_packet (bus_named y) k wires
 taken_off (Repeat y k) wires = wires
 taken_off (Tick node) wires = wires
 taken_off (Fail processor) wires = wires
+taken_off (Reload processor) wires = wires
 taken_off (Drive event) wires = wires
 
 abbrev pub ended : Wires → Played Midst → Played Wires

@@ -19,11 +19,11 @@ use Rattle.alive_regroup.specs.Watching.{Watching, changed_at, told_by_tick}
 use Rattle.message_layout.specs.world_semantics.specs.World.{is_running, terminal_node}
 use Rattle.message_layout.specs.Messages.{NodeMessage, Reporting, Declaring}
 use Rattle.message_layout.specs.Layout.{words_of}
-use Rattle.packet_wires.specs.Nodes.{Node, nodes_at_boot, all_nodes, others, with_end, with_watch}
+use Rattle.packet_wires.specs.Nodes.{Node, nodes_at_boot, all_nodes, others, with_end, with_watch, node_after_reload}
 use Rattle.packet_wires.specs.Parcels.{Parcel}
 
--- the packets on bus X and those on bus Y, each in their order; and the nodes 0 to 16. What a stopped node had stays as
--- it was, and nothing looks at it
+-- the packets on bus X and those on bus Y, each in their order; and the nodes 0 to 16. What a stopped node has is not
+-- looked at, until it is loaded again
 pub record Wires : Type 0 where
   pub x : List Packet
   pub y : List Packet
@@ -236,3 +236,10 @@ cut_off x y midst = learns x (changed_at y watching.neighbour_after_down) (at_en
 abbrev pub declares : ℕ → ℕ → ℕ → Midst → Midst
 declares processors x processor midst =
     sends_all x (Declaring processor) (others processors x ++ terminal_node ∷ []) midst
+
+-- Reloads
+
+-- a processor of a site with so many is loaded again: all channels of it and with it are new, at both ends, and it is
+-- expected to be heard of. Nothing is sent, and what is on the buses stays there
+abbrev pub loaded_again : ℕ → ℕ → Midst → Midst
+loaded_again processors x midst = record midst { nodes = map (node_after_reload processors x) midst.nodes }

@@ -2,12 +2,17 @@
 ghost use Rattle.std.specs.Prelude.{◌≡◌, pos, true, false, [], ◌∷◌};
 ghost use Rattle.schedule.specs.declared.event.Event.TheVariants as event;
 ghost use Rattle.message_layout.specs.world_semantics.specs.Examples.{reply};
+ghost use Rattle.message_layout.specs.world_semantics.specs.World.{is_whole};
+ghost use Rattle.message_wires.specs.machine_states.specs.States.{SecondStop, Would};
 ghost use Rattle.packet_wires.specs.Idle.{is_idle};
-ghost use Rattle.packet_wires.specs.Sights.{acknowledged, alive, buses_from, end_of, last, seen};
+ghost use Rattle.packet_wires.specs.Play.{play};
+ghost use Rattle.packet_wires.specs.Sights.{acknowledged, alive, buses_from, end_of, last, piece, seen};
 ghost use Rattle.packet_wires.specs.Examples.{adder_at_boot, after_four, after_takeover, before_third_piece};
 ghost use Rattle.packet_wires.specs.Examples.{buses_alone, buses_held, buses_of_lost, buses_to_checkpoint};
 ghost use Rattle.packet_wires.specs.Examples.{buses_to_reply, down_twice, held, lost_piece, rounds, served, taken_over};
-ghost use Rattle.packet_wires.specs.Examples.{three_at_boot, ticks_alone, up_to_checkpoint, up_to_reply};
+ghost use Rattle.packet_wires.specs.Examples.{loaded_0, renewed, renewing, three_at_boot, ticks_alone};
+ghost use Rattle.packet_wires.specs.Examples.{up_to_checkpoint};
+ghost use Rattle.packet_wires.specs.Examples.{up_to_reply, without_old};
 
 /// A request is served with nothing lost: one piece of the request, three of the checkpoint, one that it was taken, and
 /// one of the reply, each acknowledged before the next one of its channel goes. Then nothing is left to do.
@@ -33,6 +38,19 @@ pub fn a_checkpoint_in_part_is_thrown_away()
     ensures marked { taken_over.world.marks ≡ record { node = 1; down = 0 } ∷ [] }
     ensures shown { (end_of taken_over after_takeover).world.shown ≡ reply 0 (pos 5) ∷ [] }
     ensures idle { is_idle (end_of taken_over after_takeover) ≡ true }
+{}
+
+/// A processor is loaded again while packets of before are on bus X: each of them is dropped where it comes, and
+/// nothing answers it. The process then sends all that it has over a new channel. Until it came, no other processor
+/// stops; and then one may.
+pub fn what_was_sent_before_a_reload_is_dropped()
+    ensures stopped { loaded_0.world.stopped ≡ false ∷ false ∷ [] }
+    ensures marks { loaded_0.world.marks ≡ [] }
+    ensures dropped { (seen without_old).x ≡ acknowledged 16 1 1 ∷ last 16 1 1 ∷ [] }
+    ensures sends { (seen renewing).x ≡ acknowledged 16 1 1 ∷ last 16 1 1 ∷ piece 1 0 1 ∷ [] }
+    ensures second { play renewing (event.Fail 1) ≡ Would (SecondStop 1) }
+    ensures whole { is_whole renewed.world ≡ true }
+    ensures stops { (end_of renewed (event.Fail 1 ∷ [])).world.stopped ≡ false ∷ true ∷ [] }
 {}
 
 /// Of three processors one is muted. At their fourth ticks the others report it, and at its fifth tick processor 0 has

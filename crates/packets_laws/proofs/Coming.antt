@@ -6,11 +6,12 @@ use Rattle.packet_words.specs.declared.bus_name.BusName.{BusName}
 use Rattle.packet_words.specs.declared.packet.Packet.{Packet}
 use Rattle.world_semantics.specs.Messages.{Message}
 use Rattle.world_semantics.specs.World.{World, is_running}
+use Rattle.world_semantics.proofs.Roles.{both-true}
 use Rattle.letters.specs.Routes.{Letter}
 use Rattle.message_layout.specs.Messages.{NodeMessage, Carrying, Changing, Reporting, Declaring}
 use Rattle.packet_wires.specs.Nodes.{end_at}
 use Rattle.packet_wires.specs.Parcels.{Parcel}
-use Rattle.packet_wires.specs.Play.{Packeted, completed, packet_at}
+use Rattle.packet_wires.specs.Play.{Packeted, begun, comes_in, completed, is_current_at, packet_at}
 use Rattle.packet_wires.specs.Wires.{arrived, nothing_sent}
 use Rattle.channel_laws.specs.Net.{Net}
 use Rattle.packet_nets.specs.Owing.{IsContent, IsTrueOf, content_of, on_both}
@@ -53,17 +54,18 @@ module _ (events : List Event) (s : Packeted) (owed sent : List Letter) (held : 
   told-letter (Declaring processor) own among = absurd cc
 
   told-other : (told : NodeMessage) → content_of told ≡ None
-      → IsTrueOf s.world.stopped held.posted p.sender p.receiver told → WasTold s.world sent p.sender p.receiver told
+      → IsTrueOf s.world.stopped s.world.reloads held.posted p.sender p.receiver told
+      → WasTold s.world sent p.sender p.receiver told
   told-other (Carrying message) none right = absurd cc
   told-other (Changing change) none right = absurd cc
   told-other (Reporting node silent) none right = tt
   told-other (Declaring processor) none right = right
 
   pub comes-right : (name : BusName) (k : ℕ) (words : List ℤ)
-      → packet_at s name k ≡ Some p → is_running s.world.stopped p.receiver ≡ true
+      → packet_at s name k ≡ Some p → comes_in p (begun s) ≡ true
       → completed p (end_at s.wires.nodes p.receiver p.sender) ≡ Some words
       → WasSentInWords s.site s.world sent p.sender p.receiver words
-  comes-right name k words at runs is =
+  comes-right name k words at comes is =
       subst Right is (of all.net (completed p (end_at s.wires.nodes p.receiver p.sender)) all.arrived)
     where
       Right : Option (List ℤ) → Type 0
@@ -71,7 +73,8 @@ module _ (events : List Event) (s : Packeted) (owed sent : List Letter) (held : 
       Right (Some words) = WasSentInWords s.site s.world sent p.sender p.receiver words
 
       of : (next : Net) (h : Option (List ℤ))
-          → Arrives s.site s.world.stopped held.parcels held.posted next p.sender p.receiver h → Right h
+          → Arrives s.site s.world.stopped s.world.reloads held.parcels held.posted next p.sender p.receiver h
+          → Right h
       of next None (hands_none o) = tt
       of next (Some words) (hands_other told reads fits right none o) =
           (told, reads, fits, told-other told none right)
@@ -80,7 +83,13 @@ module _ (events : List Event) (s : Packeted) (owed sent : List Letter) (held : 
       of next (Some words) (hands_again content own reads fits among o) =
           (content, reads, fits, told-letter content own among)
 
-      all : Came s.site s.world.stopped (on_both s.wires) (arrived name p (nothing_sent s.wires.nodes)) held.parcels
+      both : (is_running s.world.stopped p.receiver ≡ true)
+          × (is_current_at p (end_at s.wires.nodes p.receiver p.sender) ≡ true)
+      both = both-true (is_running s.world.stopped p.receiver)
+          (is_current_at p (end_at s.wires.nodes p.receiver p.sender)) comes
+
+      all : Came s.site s.world.stopped s.world.reloads (on_both s.wires)
+          (arrived name p (nothing_sent s.wires.nodes)) held.parcels
           held.posted p.sender p.receiver (completed p (end_at s.wires.nodes p.receiver p.sender))
       all = came (nothing_sent s.wires.nodes) held.ties name p
-          (held.ties.tied.flight p (stands-there s name k p at)) runs
+          (held.ties.tied.flight p (stands-there s name k p at)) both.0 both.1

@@ -1,6 +1,6 @@
 -- Parcels stand for their letters, as the world goes on.
 use Rattle.std.proofs.Common.{◌≡◌, inl, inr, ℕ, ◌==◌, ◌&&◌, ◌||◌, not, Bool, true, false, if◌then◌else◌, List, []}
-use Rattle.std.proofs.Common.{◌∷◌, ◌++◌, Option, Some, None, refl, sym, ap₂, subst}
+use Rattle.std.proofs.Common.{◌∷◌, ◌++◌, Option, Some, None, refl, sym, ap, ap₂, subst, ◌∙◌}
 use Rattle.gd_words.specs.Members.{IsAmong}
 use Rattle.gd_words.proofs.Among.{among-either, among-left, among-right}
 use Rattle.tal_tree.specs.declared.site.Site.{Site}
@@ -9,9 +9,10 @@ use Rattle.checkpoint_image.specs.declared.message.ImageMessage.{ImageMessage}
 use Rattle.world_semantics.specs.Messages.{Message, Asking, Replying, Checkpointing, Taking, Cause, Sending}
 use Rattle.world_semantics.specs.Rules.{Change}
 use Rattle.world_semantics.specs.World.{World}
-use Rattle.world_semantics.proofs.Members.{among-map}
+use Rattle.world_semantics.proofs.Members.{among-filter, among-map}
 use Rattle.computed_changes.specs.Changed.{checkpoint_before}
 use Rattle.computed_changes.specs.Laws.{IsSent}
+use Rattle.letters.proofs.Owed.{filter-among}
 use Rattle.letters.specs.Posts as posts
 use Rattle.letters.specs.Routes.{Letter}
 use Rattle.letters.specs.Routes as routes
@@ -130,6 +131,41 @@ module _ (w : World) where
           (if not b then letter ∷ posts.without_those_between x y letters else posts.without_those_between x y letters)
       by true rest = rest
       by false rest = (all.0, rest)
+
+  -- and so are those from a node and to it
+
+  same-of : (x : ℕ) (parcel : Parcel) (letter : Letter) → StandsFor w parcel letter
+      → net.is_from_or_to x parcel ≡ posts.is_from_or_to x letter
+  same-of x parcel letter st = ap₂ (λ (s r : ℕ). s == x || r == x) st.sender st.receiver
+
+  pub stand-without-of : (x : ℕ) (parcels : List Parcel) (letters : List Letter) → AllStandFor w parcels letters
+      → AllStandFor w (net.without_those_of x parcels) (posts.without_those_of x letters)
+  stand-without-of x [] [] all = tt
+  stand-without-of x [] (letter ∷ letters) all = absurd all
+  stand-without-of x (parcel ∷ parcels) [] all = absurd all
+  stand-without-of x (parcel ∷ parcels) (letter ∷ letters) all =
+      subst (λ (b : Bool). AllStandFor w
+      (if not b then parcel ∷ net.without_those_of x parcels else net.without_those_of x parcels)
+      (posts.without_those_of x (letter ∷ letters))) (sym (same-of x parcel letter all.0))
+      (by (posts.is_from_or_to x letter) (stand-without-of x parcels letters all.1))
+    where
+      by : (b : Bool) → AllStandFor w (net.without_those_of x parcels) (posts.without_those_of x letters)
+          → AllStandFor w
+          (if not b then parcel ∷ net.without_those_of x parcels else net.without_those_of x parcels)
+          (if not b then letter ∷ posts.without_those_of x letters else posts.without_those_of x letters)
+      by true rest = rest
+      by false rest = (all.0, rest)
+
+  pub were-without-of : (x : ℕ) (parcels : List Parcel) (letters : List Letter) → WereSent w parcels letters
+      → WereSent w (net.without_those_of x parcels) (posts.without_those_of x letters)
+  were-without-of x parcels letters were parcel among =
+      let kept = among-filter parcel (λ one. not (net.is_from_or_to x one)) parcels among in
+      let one = were parcel kept.0 in (
+        one.0,
+        filter-among one.0 (λ letter. not (posts.is_from_or_to x letter)) letters one.1
+            (ap not (sym (same-of x parcel one.0 one.2)) ∙ kept.1),
+        one.2,
+      )
 
   -- New parcels
 

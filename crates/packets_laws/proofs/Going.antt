@@ -1,30 +1,36 @@
--- Which processors an event stops: at most one in a run.
-use Rattle.std.proofs.Common.{◌≡◌, ℕ, zero, suc, ℤ, Bool, true, false, if◌then◌else◌, List, [], ◌∷◌, replicate, Option}
+-- Which processors an event stops or starts: it stops one in a whole world alone, and starts the one alone that it
+-- loads again. So at most one has stopped.
+use Rattle.std.proofs.Common.{◌≡◌, ◌&&◌, ℕ, ℤ, nat_lt, Bool, true, false, if◌then◌else◌, List, Option}
 use Rattle.std.proofs.Common.{Some, None, slice_get, slice_set, refl, sym, subst, ◌∙◌}
 use Rattle.tal_tree.specs.declared.site.Site.{Site}
 use Rattle.schedule.specs.declared.event.Event.{Event}
-use Rattle.schedule.specs.declared.event.Event.TheVariants.{Run, Enter, Deliver, Lose, Repeat, Tick, Fail, Drive}
+use Rattle.schedule.specs.declared.event.Event.TheVariants.{Run, Enter, Deliver, Lose, Repeat, Tick, Fail, Reload}
+use Rattle.schedule.specs.declared.event.Event.TheVariants.{Drive}
 use Rattle.packet_words.specs.declared.bus_name.BusName.{BusName}
 use Rattle.packet_words.specs.declared.packet.Packet.{Packet}
 use Rattle.world_semantics.specs.Messages.{Checkpointing}
 use Rattle.world_semantics.specs.Running.{Done, run_done}
-use Rattle.world_semantics.specs.World.{boot, is_running}
+use Rattle.world_semantics.specs.Rules.{most_reloads}
+use Rattle.world_semantics.specs.World.{boot, is_noted_by_all, is_running, is_whole}
 use Rattle.computed_changes.specs.Entered.{enter_done}
 use Rattle.computed_changes.specs.Changed.{change_done}
 use Rattle.computed_changes.specs.Handed.{handed_done}
 use Rattle.computed_changes.proofs.Changed.{change-each}
-use Rattle.computed_changes.specs.Stopped.{down_done, stopped_world, stop_where, stop_done}
+use Rattle.computed_changes.specs.Stopped.{down_done, stopped_world, stop_if, reload_counted, reload_done, reload_if}
+use Rattle.computed_changes.specs.Stopped.{reload_where}
 use Rattle.letters.specs.Idle.{OneStops}
 use Rattle.machine_states.specs.States.{State, Played, Makes, Skips, Would, SecondStop, DiscLoss, Harm}
 use Rattle.message_wires_laws.specs.message_wires.specs.Play.{has_stopped}
 use Rattle.world_semantics.proofs.Lists.{Changed, is_new, is_same, changed}
+use Rattle.message_wires_laws.proofs.Going.{none-at-boot, none-stopped, whole-runs}
 use Rattle.message_wires_laws.proofs.Stopping.{StopsNone, run-none, enter-none, handed-none, mark-none}
 use Rattle.message_layout.specs.Messages.{NodeMessage, Carrying, Changing, Reporting, Declaring}
 use Rattle.message_layout.specs.Reading.{understood}
 use Rattle.packet_wires.specs.Play.{Packeted, Underway, begun, made_by, after_any, marked_by, marks, handed, handed_any}
 use Rattle.packet_wires.specs.Play.{handed_words, completed, received, deliver_acted, lose_acted, repeat_acted}
-use Rattle.packet_wires.specs.Play.{fail_acted, marks_and_declares, pulled, pulls, line_of, pulls_its, tick_acted}
-use Rattle.packet_wires.specs.Play.{packet_at, acted, taken_off, ended, play}
+use Rattle.packet_wires.specs.Play.{comes_in, stop_acted, fail_acted, reload_acted, pulled_first}
+use Rattle.packet_wires.specs.Play.{pulled, pulls, line_of, pulls_its, tick_acted, packet_at, acted, taken_off}
+use Rattle.packet_wires.specs.Play.{ended, play}
 use Rattle.packet_wires.specs.Nodes.{end_at}
 use Rattle.packet_wires.specs.Runs.{IsPlayed, played_none, played_more, skipped}
 use Rattle.packet_wires.specs.Wires.{Wires, Midst, bus_named, arrived, ticked}
@@ -35,18 +41,24 @@ pub record Stays (s next : Underway) : Type 0 where
   pub site : next.site ≡ s.site
   pub stopped : next.world.stopped ≡ s.world.stopped
 
--- an event stops no processor, or it stops one and none had stopped before
-pub data Goes {W V : Type 0} (s : State W) : Played V → Type 0 where
-  skips : Goes s Skips
-  would_harm : (harm : Harm) → Goes s (Would harm)
-  stops_none : {next : State V} → next.site ≡ s.site → next.world.stopped ≡ s.world.stopped → Goes s (Makes next)
-  stops_one : {next : State V} (processor : ℕ) → next.site ≡ s.site → has_stopped s.world.stopped ≡ false
+-- an event stops and starts no processor; or it stops one, and the world was whole; or it starts the one that it loads
+-- again
+pub data Goes {W V : Type 0} (event : Event) (s : State W) : Played V → Type 0 where
+  skips : Goes event s Skips
+  would_harm : (harm : Harm) → Goes event s (Would harm)
+  stops_none : {next : State V} → next.site ≡ s.site → next.world.stopped ≡ s.world.stopped
+      → Goes event s (Makes next)
+  stops_one : {next : State V} (processor : ℕ) → next.site ≡ s.site → is_whole s.world ≡ true
       → next.world.stopped ≡ slice_set s.world.stopped processor true
-      → Goes s (Makes next)
+      → Goes event s (Makes next)
+  starts_one : {next : State V} (processor : ℕ) → event ≡ Reload processor → next.site ≡ s.site
+      → next.world.stopped ≡ slice_set s.world.stopped processor false
+      → Goes event s (Makes next)
 
-made-goes : (s : Underway) (done : Option Done) → StopsNone s.world done → Goes s (made_by s done)
-made-goes s None none = skips
-made-goes s (Some done) none = stops_none refl none
+made-goes : (event : Event) (s : Underway) (done : Option Done) → StopsNone s.world done
+    → Goes event s (made_by s done)
+made-goes event s None none = skips
+made-goes event s (Some done) none = stops_none refl none
 
 pub marks-stay : (node processor : ℕ) (s : Underway) → Stays s (marks node processor s)
 marks-stay node processor s = by (down_done node processor s.world) (mark-none s.site s.world node processor)
@@ -80,87 +92,116 @@ words-stay node (Some words) s = by (understood s.site words)
     by None = record { site = refl; stopped = refl }
     by (Some told) = handed-stay node told s
 
-deliver-goes : (name : BusName) (s : Underway) (packet : Option Packet) → Goes s (deliver_acted name s packet)
-deliver-goes name s None = skips
-deliver-goes name s (Some p) = by (is_running s.world.stopped p.receiver)
+deliver-goes : (event : Event) (name : BusName) (s : Underway) (packet : Option Packet)
+    → Goes event s (deliver_acted name s packet)
+deliver-goes event name s None = skips
+deliver-goes event name s (Some p) = by (comes_in p s)
   where
-    by : (test : Bool) → Goes s (Makes (if test then received name p s else s))
+    by : (test : Bool) → Goes event s (Makes (if test then received name p s else s))
     by true =
         let stay = words-stay p.receiver (completed p (end_at s.wires.nodes p.receiver p.sender))
         (record s { wires = arrived name p s.wires }) in
         stops_none stay.site stay.stopped
     by false = stops_none refl refl
 
-fail-goes : (processor : ℕ) (s : Underway) → Goes s (fail_acted processor s (stop_done processor s.world))
-fail-goes processor s = by (slice_get s.world.stopped processor)
+fail-goes : (event : Event) (processor : ℕ) (s : Underway)
+    → Goes event s (fail_acted processor s (slice_get s.world.stopped processor))
+fail-goes event processor s = by (slice_get s.world.stopped processor) refl
   where
-    first : (test : Bool) → has_stopped s.world.stopped ≡ test
-        → Goes s (if test then Would (SecondStop processor)
-        else Makes (record s { world = stopped_world processor s.world }))
-    first true e = would_harm (SecondStop processor)
-    first false e = stops_one processor refl e refl
+    first : (whole : Bool) → is_whole s.world ≡ whole
+        → Goes event s (stop_acted processor s (stop_if processor s.world whole))
+    first true e = stops_one processor refl e refl
+    first false e = would_harm (SecondStop processor)
 
-    by : (stopped : Option Bool) → Goes s (fail_acted processor s (stop_where processor s.world stopped))
+    by : (stopped : Option Bool) → slice_get s.world.stopped processor ≡ stopped
+        → Goes event s (fail_acted processor s stopped)
+    by None e = skips
+    by (Some true) e = skips
+    by (Some false) e = rw e (first (is_whole s.world) refl)
+
+reload-goes : (processor : ℕ) (s : Underway)
+    → Goes (Reload processor) s (reload_acted processor s (reload_done s.site processor s.world))
+reload-goes processor s = by (slice_get s.world.stopped processor)
+  where
+    may : (times : ℕ) (test : Bool)
+        → Goes (Reload processor) s (reload_acted processor s (reload_if s.site processor times s.world test))
+    may times true = starts_one processor refl refl refl
+    may times false = skips
+
+    counted : (times : Option ℕ)
+        → Goes (Reload processor) s (reload_acted processor s (reload_counted s.site processor s.world times))
+    counted None = skips
+    counted (Some times) = may times (is_noted_by_all s.world processor && nat_lt times most_reloads)
+
+    by : (stopped : Option Bool)
+        → Goes (Reload processor) s (reload_acted processor s (reload_where s.site processor s.world stopped))
     by None = skips
-    by (Some true) = skips
-    by (Some false) = first (has_stopped s.world.stopped) refl
+    by (Some true) = counted (slice_get s.world.reloads processor)
+    by (Some false) = skips
 
-tick-goes : (node : ℕ) (s : Underway) → Goes s (tick_acted node s)
-tick-goes node s = by (is_running s.world.stopped node)
+tick-goes : (event : Event) (node : ℕ) (s : Underway) → Goes event s (tick_acted node s)
+tick-goes event node s = by (is_running s.world.stopped node)
   where
-    line : (midst : Midst) (line : Option ℕ) → Goes s (pulls node (record s { wires = midst }) line)
+    line : (midst : Midst) (line : Option ℕ) → Goes event s (pulls node (record s { wires = midst }) line)
     line midst None = stops_none refl refl
-    line midst (Some processor) = at (slice_get s.world.stopped processor)
+    line midst (Some processor) = at (slice_get s.world.stopped processor) refl
       where
-        first : (test : Bool) → has_stopped s.world.stopped ≡ test
-            → Goes s (if test then Would (SecondStop processor) else Makes
-            (marks_and_declares node processor (record s { world = stopped_world processor s.world; wires = midst })))
-        first true e = would_harm (SecondStop processor)
-        first false e =
+        first : (whole : Bool) → is_whole s.world ≡ whole
+            → Goes event s (pulled_first node processor (record s { wires = midst })
+            (stop_if processor s.world whole))
+        first true e =
             let stay = marks-stay node processor (record s
             { world = stopped_world processor s.world; wires = midst }) in
             stops_one processor stay.site e stay.stopped
+        first false e = would_harm (SecondStop processor)
 
-        at : (stopped : Option Bool) → Goes s (pulled node processor (record s { wires = midst }) stopped)
-        at None = stops_none refl refl
-        at (Some true) =
+        at : (stopped : Option Bool) → slice_get s.world.stopped processor ≡ stopped
+            → Goes event s (pulled node processor (record s { wires = midst }) stopped)
+        at None e = stops_none refl refl
+        at (Some true) e =
             let stay = marks-stay node processor (record s { wires = midst }) in stops_none stay.site stay.stopped
-        at (Some false) = first (has_stopped s.world.stopped) refl
+        at (Some false) e = rw e (first (is_whole s.world) refl)
 
-    by : (test : Bool) → Goes s (if test then pulls_its node
+    by : (test : Bool) → Goes event s (if test then pulls_its node
         (record s { wires = ticked s.site.processors node s.wires }) else Skips)
     by true = line (ticked s.site.processors node s.wires)
         (line_of node (record s { wires = ticked s.site.processors node s.wires }))
     by false = skips
 
-acted-goes : (s : Packeted) (event : Event) → Goes (begun s) (acted s event)
-acted-goes s (Run number) = made-goes (begun s) (run_done s.site number s.world) (run-none s.site s.world number)
-acted-goes s (Enter number) = made-goes (begun s) (enter_done s.site number s.world) (enter-none s.site s.world number)
-acted-goes s (Deliver y k) = deliver-goes (bus_named y) (begun s) (packet_at s (bus_named y) k)
+acted-goes : (s : Packeted) (event : Event) → Goes event (begun s) (acted s event)
+acted-goes s (Run number) =
+    made-goes (Run number) (begun s) (run_done s.site number s.world) (run-none s.site s.world number)
+acted-goes s (Enter number) =
+    made-goes (Enter number) (begun s) (enter_done s.site number s.world) (enter-none s.site s.world number)
+acted-goes s (Deliver y k) =
+    deliver-goes (Deliver y k) (bus_named y) (begun s) (packet_at s (bus_named y) k)
 acted-goes s (Lose y k) = by (packet_at s (bus_named y) k)
   where
-    by : (packet : Option Packet) → Goes (begun s) (lose_acted (begun s) packet)
+    by : (packet : Option Packet) → Goes (Lose y k) (begun s) (lose_acted (begun s) packet)
     by None = skips
     by (Some packet) = stops_none refl refl
 acted-goes s (Repeat y k) = by (packet_at s (bus_named y) k)
   where
-    by : (packet : Option Packet) → Goes (begun s) (repeat_acted (bus_named y) (begun s) packet)
+    by : (packet : Option Packet) → Goes (Repeat y k) (begun s) (repeat_acted (bus_named y) (begun s) packet)
     by None = skips
     by (Some packet) = stops_none refl refl
-acted-goes s (Tick node) = tick-goes node (begun s)
-acted-goes s (Fail processor) = fail-goes processor (begun s)
+acted-goes s (Tick node) = tick-goes (Tick node) node (begun s)
+acted-goes s (Fail processor) = fail-goes (Fail processor) processor (begun s)
+acted-goes s (Reload processor) = reload-goes processor (begun s)
 acted-goes s (Drive event) =
-    drive-cases event (begun s) (Goes (begun s)) (λ drives. stops_none refl refl) skips
+    drive-cases event (begun s) (Goes (Drive event) (begun s)) (λ drives. stops_none refl refl) skips
     (λ process. would_harm (DiscLoss process))
 
-pub play-goes : (s : Packeted) (event : Event) → Goes s (play s event)
+pub play-goes : (s : Packeted) (event : Event) → Goes event s (play s event)
 play-goes s event = by (acted s event) (acted-goes s event)
   where
-    by : (played : Played Midst) → Goes (begun s) played → Goes s (ended (taken_off event s.wires) played)
+    by : (played : Played Midst) → Goes event (begun s) played
+        → Goes event s (ended (taken_off event s.wires) played)
     by Skips skips = skips
     by (Would _) (would_harm harm) = would_harm harm
     by (Makes next) (stops_none same none) = stops_none same none
-    by (Makes next) (stops_one processor same first one) = stops_one processor same first one
+    by (Makes next) (stops_one processor same whole one) = stops_one processor same whole one
+    by (Makes next) (starts_one processor is same one) = starts_one processor is same one
 
 -- Over whole runs
 
@@ -174,18 +215,13 @@ played-site {site = site} (played_more {s = s} {next = next} event before e) =
     OfSite Skips = Unit {0}
     OfSite (Would harm) = Unit {0}
 
-    by : (played : Played Wires) → Goes s played → s.site ≡ site → OfSite played
+    by : (played : Played Wires) → Goes event s played → s.site ≡ site → OfSite played
     by Skips skips was = tt
     by (Would _) (would_harm harm) was = tt
     by (Makes made) (stops_none same none) was = same ∙ was
-    by (Makes made) (stops_one processor same first one) was = same ∙ was
+    by (Makes made) (stops_one processor same whole one) was = same ∙ was
+    by (Makes made) (starts_one processor is same one) was = same ∙ was
 played-site (skipped event before e) = played-site before
-
-none-stopped : (stopped : List Bool) (k : ℕ) → has_stopped stopped ≡ false → slice_get stopped k ≡ Some true → ⊥
-none-stopped [] k none at = cc
-none-stopped (true ∷ stopped) k none at = cc
-none-stopped (false ∷ stopped) zero none at = cc
-none-stopped (false ∷ stopped) (suc k) none at = none-stopped stopped k none at
 
 first-stopped : (stopped : List Bool) (processor one : ℕ) → has_stopped stopped ≡ false
     → slice_get (slice_set stopped processor true) one ≡ Some true → processor ≡ one
@@ -195,9 +231,14 @@ first-stopped stopped processor one none at = of (changed stopped processor true
     of (is_new here is) = here
     of (is_same other was) = absurd (none-stopped stopped one none was)
 
-none-at-boot : (processors : ℕ) → has_stopped (replicate processors false) ≡ false
-none-at-boot zero = refl
-none-at-boot (suc processors) = none-at-boot processors
+-- what a reload leaves stopped had stopped before
+still-stopped : (stopped : List Bool) (processor one : ℕ)
+    → slice_get (slice_set stopped processor false) one ≡ Some true → slice_get stopped one ≡ Some true
+still-stopped stopped processor one at = of (changed stopped processor false one true at)
+  where
+    of : Changed stopped processor false one true → slice_get stopped one ≡ Some true
+    of (is_new here is) = absurd (cc)
+    of (is_same other was) = was
 
 pub played-one : {site : Site} {events : List Event} {s : Packeted} → IsPlayed site events s → OneStops s.world
 played-one {site = site} played_none =
@@ -210,13 +251,17 @@ played-one (played_more {s = s} {next = next} event before e) =
     IsOne Skips = Unit {0}
     IsOne (Would harm) = Unit {0}
 
-    by : (played : Played Wires) → Goes s played → OneStops s.world → IsOne played
+    by : (played : Played Wires) → Goes event s played → OneStops s.world → IsOne played
     by Skips skips was = tt
     by (Would _) (would_harm harm) was = tt
     by (Makes made) (stops_none same none) was =
         subst (λ (stopped : List Bool). (one other : ℕ) → slice_get stopped one ≡ Some true
         → slice_get stopped other ≡ Some true → one ≡ other) (sym none) was
-    by (Makes made) (stops_one processor same first one) was =
+    by (Makes made) (stops_one processor same whole one) was =
+        let first = whole-runs s.world whole in
         rw one (λ a b at there. sym (first-stopped s.world.stopped processor a first at)
         ∙ first-stopped s.world.stopped processor b first there)
+    by (Makes made) (starts_one processor is same one) was =
+        rw one (λ a b at there. was a b (still-stopped s.world.stopped processor a at)
+        (still-stopped s.world.stopped processor b there))
 played-one (skipped event before e) = played-one before

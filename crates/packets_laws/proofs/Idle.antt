@@ -29,7 +29,7 @@ use Rattle.packet_nets.proofs.Tied.{running-low, running-stands}
 
 -- the site and the world of a state, with no wires under them
 abbrev bare : Packeted → MachineState
-bare s = record { site = s.site; world = s.world; wires = wires_at_boot; drives = s.drives }
+bare s = record { site = s.site; world = s.world; wires = wires_at_boot s.site.processors; drives = s.drives }
 
 -- a way whose sender holds nothing has handed over all that was pushed
 all-handed : (w : Way) → IsJoint w → w.sender.queue ≡ [] → w.out ≡ w.pushes
@@ -83,7 +83,8 @@ owed-between parcel (one ∷ owed) (inr among) none =
     by false g rest = rest (sym (between-no parcel.sender parcel.receiver one owed g) ∙ none)
 
 module _ (s : Packeted) (owed sent : List Letter) (parcels posted : List Parcel) (few : s.site.processors ≤ 16)
-    (stand : AllStandFor s.world parcels owed) (T : TiesAtRest s.site s.world.stopped s.wires parcels posted) where
+    (stand : AllStandFor s.world parcels owed)
+    (T : TiesAtRest s.site s.world.stopped s.world.reloads s.wires parcels posted) where
   -- quiet channels owe no parcel between nodes that run
   no-parcel : all_quiet s.world.stopped s.wires.nodes ≡ true → (parcel : Parcel) → IsAmong parcel parcels
       → is_running s.world.stopped parcel.sender ≡ true

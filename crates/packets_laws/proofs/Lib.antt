@@ -7,4 +7,5 @@ pub mod Newest
 pub mod Passing
 pub mod Pieces
 pub mod Playing
+pub mod Posting
 pub mod Runs

@@ -8,20 +8,21 @@ use Rattle.schedule.specs.declared.event.Event.{Event}
 use Rattle.change_layout.specs.Changing.{change_of}
 use Rattle.checkpoint_image.specs.declared.message.ImageMessage.{ImageMessage}
 use Rattle.world_semantics.specs.Follows.{IsRun}
+use Rattle.world_semantics.specs.Laws.{IsPlaced}
 use Rattle.world_semantics.specs.Messages.{Message, Asking, Replying, Checkpointing, Taking}
 use Rattle.world_semantics.specs.World.{Pair, World}
 use Rattle.computed_changes.specs.Changed.{checkpoint_before, last_of, one_before, sent_before}
 use Rattle.computed_changes.specs.Fitting.{depths_of}
 use Rattle.computed_changes.specs.Laws.{IsSent}
 use Rattle.computed_changes.proofs.Reached.{run-named}
-use Rattle.checkpoint_chains.specs.Chains.{IsChain, IsNewest, IsNextTo}
+use Rattle.checkpoint_chains.specs.Chains.{FollowsOn, IsChain, IsNewest, IsNextTo}
 use Rattle.checkpoint_chains.proofs.Chains.{run-chained}
 use Rattle.checkpoint_chains.proofs.Newest.{IsNewestIfOne}
 use Rattle.message_layout.specs.Messages.{Carrying, Changing}
 use Rattle.packet_wires.specs.Parcels.{form_after, form_of}
 use Rattle.packets_laws.specs.Carried.{IsFormOf}
 
-module _ {site : Site} {events : List Event} (w : World) (run : IsRun site events w) where
+module _ {site : Site} {events : List Event} (w : World) (placed : IsPlaced site) (run : IsRun site events w) where
   -- the first of an era goes whole
   pub first-goes : (message : ImageMessage) → message.number ≡ 1
       → form_of w (Checkpointing message) ≡ Carrying (Checkpointing message)
@@ -51,16 +52,11 @@ module _ {site : Site} {events : List Event} (w : World) (run : IsRun site event
       chain : (older : List ImageMessage) → newest.pair.checkpoints ≡ message ∷ older
           → IsChain (depths_of site message.process) (message ∷ older)
       chain older first = subst (IsChain (depths_of site message.process)) first
-          (run-chained site events w run message.process newest.pair newest.there).0
+          (run-chained site placed events w run message.process newest.pair newest.there).0
 
       by : (older : List ImageMessage) → newest.pair.checkpoints ≡ message ∷ older → Before older
       by [] first = absurd (later (chain [] first).0)
-      by (before ∷ older) first = (
-        before,
-        (newest.pair, ap (slice_get w.processes) named ∙ newest.there, among),
-        record { process = sym named; number = (chain (before ∷ older) first).0.0 },
-        at (message.number == 1) refl,
-      )
+      by (before ∷ older) first = follows (chain (before ∷ older) first).0
         where
           among : IsAmong before newest.pair.checkpoints
           among = subst (IsAmong before) (sym first) (inr (inl refl))
@@ -73,6 +69,15 @@ module _ {site : Site} {events : List Event} (w : World) (run : IsRun site event
               ≡ Changing (change_of before message)
           at true is = absurd (later (eqb-true message.number 1 is))
           at false is = refl
+
+          follows : FollowsOn (depths_of site message.process) message (before ∷ older) → Before (before ∷ older)
+          follows (inr one) = absurd (later one.1)
+          follows (inl next) = (
+            before,
+            (newest.pair, ap (slice_get w.processes) named ∙ newest.there, among),
+            record { process = sym named; era = next.0; number = next.1 },
+            at (message.number == 1) refl,
+          )
 
   newest-goes : (message : ImageMessage) → IsNewest w message
       → IsFormOf w (Checkpointing message) (form_of w (Checkpointing message))

@@ -1,5 +1,5 @@
--- Each event goes on in the net of its state.
-use Rattle.std.proofs.Common.{◌≡◌, ◌≢◌, ◌≤◌, ◌⊎◌, inl, inr, ℕ, zero, suc, ◌+◌, ℤ, Bool, true, false, if◌then◌else◌}
+-- Each event that loads no processor again goes on in the net of its state; and a reload is one step of that net.
+use Rattle.std.proofs.Common.{◌≡◌, ◌≢◌, ◌≤◌, ◌⊎◌, inl, inr, ℕ, zero, suc, ◌+◌, ℤ, Bool, true, false, not, if◌then◌else◌}
 use Rattle.std.proofs.Common.{List, [], ◌∷◌, ◌++◌, length, Option, Some, None, slice_get, slice_set, refl, sym, ap}
 use Rattle.std.proofs.Common.{subst, ◌∙◌}
 use Rattle.std.specs.List.{remove}
@@ -7,27 +7,28 @@ use Rattle.std.specs.Option.{option_to_list}
 use Rattle.gd_words.specs.Members.{IsAmong}
 use Rattle.gd_words.proofs.Among.{among-left, among-right, among-either}
 use Rattle.schedule.specs.declared.event.Event.{Event}
-use Rattle.schedule.specs.declared.event.Event.TheVariants.{Run, Enter, Deliver, Lose, Repeat, Tick, Fail, Drive}
+use Rattle.schedule.specs.declared.event.Event.TheVariants.{Run, Enter, Deliver, Lose, Repeat, Tick, Fail, Reload}
+use Rattle.schedule.specs.declared.event.Event.TheVariants.{Drive}
 use Rattle.packet_words.specs.declared.bus_name.BusName.{BusName}
 use Rattle.packet_words.specs.declared.bus_name.BusName.TheVariants as bus
 use Rattle.packet_words.specs.declared.packet.Packet.{Packet}
 use Rattle.alive_regroup.specs.Watching as watching
 use Rattle.alive_regroup.specs.Watching.{changed_at}
-use Rattle.channel_laws.specs.Net.{Net, ticked_net}
+use Rattle.channel_laws.specs.Net.{Net, Goes, loads, reloaded_net, ticked_net}
 use Rattle.channel_laws.specs.Rounds.{Passes}
 use Rattle.world_semantics.specs.Messages.{Checkpointing}
 use Rattle.world_semantics.specs.Running.{Done, run_done}
-use Rattle.world_semantics.specs.World.{is_running, runs_by}
+use Rattle.world_semantics.specs.World.{is_running, is_whole, runs_by}
+use Rattle.world_semantics.proofs.Roles.{both-true}
 use Rattle.computed_changes.specs.Entered.{enter_done}
 use Rattle.computed_changes.specs.Changed.{change_done}
 use Rattle.computed_changes.specs.Handed.{handed_done}
 use Rattle.computed_changes.proofs.Changed.{change-each}
-use Rattle.computed_changes.specs.Stopped.{down_done, stopped_world, stop_where, stop_done}
+use Rattle.computed_changes.specs.Stopped.{down_done, stopped_world, stop_if, reload_done}
 use Rattle.letters.specs.Again.{sent_again}
 use Rattle.letters.specs.Routes.{letters_of}
 use Rattle.packet_wires.specs.Parcels.{Parcel, parcels_of}
-use Rattle.machine_states.specs.States.{Played, Makes, Skips, Would, SecondStop}
-use Rattle.message_wires_laws.specs.message_wires.specs.Play.{has_stopped}
+use Rattle.machine_states.specs.States.{Played, Makes, Skips, Would}
 use Rattle.message_wires_laws.proofs.Stopping.{StopsNone, run-none, enter-none, handed-none, mark-none}
 use Rattle.message_layout.specs.Messages.{NodeMessage, Carrying, Changing, Reporting, Declaring}
 use Rattle.message_layout.specs.Reading.{understood}
@@ -35,19 +36,23 @@ use Rattle.packet_wires.specs.Nodes.{end_at}
 use Rattle.packet_wires.specs.Play.{Packeted, Underway, begun, made_by, after_any, marked_by, marks, handed, handed_any}
 use Rattle.packet_wires.specs.Play.{handed_words, completed, received, deliver_acted, lose_acted, repeat_acted}
 use Rattle.packet_wires.specs.Play.{fail_acted, marks_and_declares, pulled, pulls, line_of, pulls_its, tick_acted}
-use Rattle.packet_wires.specs.Play.{packet_at, acted, taken_off, ended, out_of, play}
+use Rattle.packet_wires.specs.Play.{packet_at, acted, taken_off, ended, out_of, play, comes_in, is_current_at}
+use Rattle.packet_wires.specs.Play.{pulled_first, reload_acted, stop_acted}
 use Rattle.packet_wires.specs.Wires.{Wires, Midst, bus_named, on_bus, packets_over, without_packet, all_posted, arrived}
-use Rattle.packet_wires.specs.Wires.{ticked, cut_off}
+use Rattle.packet_wires.specs.Wires.{ticked, cut_off, loaded_again, nothing_sent, with_sent}
 use Rattle.packet_nets.specs.Owing.{on_both}
 use Rattle.packet_nets.specs.Passing.{IsPassing, IsCut}
 use Rattle.packet_nets.proofs.Passing.{come-passes, drop-passes, watched-passes, cut-passes, again-passes}
 use Rattle.packet_nets.proofs.Passing.{posted-passes, ticked-passes, declares-passes, stop-passes, ticked-cut}
 use Rattle.packet_nets.proofs.Resting.{begins-passing, rest-lost, rest-net, rest-clear}
 use Rattle.packet_nets.proofs.Ticking.{pulled-other}
-use Rattle.packet_nets.proofs.Tied.{stop-running}
-use Rattle.packets_laws.specs.Passing.{delivered, TakesToDeliver, IsNetOf, IsPassed, IsTickPassed}
+use Rattle.packet_nets.proofs.Tied.{gone-rests, stop-running}
+use Rattle.packets_laws.specs.Passing.{delivered, TakesToDeliver, IsNetOf, IsPassed, IsTickPassed, ReloadsNone}
 use Rattle.packets_laws.proofs.Going.{marks-stay}
-use Rattle.packets_laws.proofs.Playing.{among-taken, stands-there, mark-gone, still-running, now-stopped}
+use Rattle.packets_laws.proofs.Playing.{among-taken, stands-there}
+use Rattle.packets_laws.proofs.Posting.{mark-gone, still-running, now-stopped, reload-is}
+use Rattle.packet_nets.specs.Passing.{IsNet}
+use Rattle.packet_nets.proofs.Reloading.{reload-net}
 use Rattle.machine_states.proofs.Turning.{drive-cases}
 
 -- A state in the midst of an event
@@ -133,15 +138,17 @@ module _ {a b : ℕ} {on : List Packet} {start : Net} where
       → ((p : Packet) → packet ≡ Some p → IsAmong p on) → Passing a b on start [] s
       → LeadsOn a b on start (option_to_list packet) (deliver_acted name s packet)
   deliver-leads name s None stands P = tt
-  deliver-leads name s (Some p) stands P = λ one other. by (is_running s.world.stopped p.receiver) refl
+  deliver-leads name s (Some p) stands P = λ one other. by (comes_in p s) refl
     where
-      by : (test : Bool) → is_running s.world.stopped p.receiver ≡ test
+      by : (test : Bool) → comes_in p s ≡ test
           → Passing a b on start (p ∷ []) (if test then received name p s else s)
-      by true runs =
+      by true comes =
+          let both = both-true (is_running s.world.stopped p.receiver)
+          (is_current_at p (end_at s.wires.nodes p.receiver p.sender)) comes in
           words-lead p.receiver (completed p (end_at s.wires.nodes p.receiver p.sender))
-          (record s { wires = arrived name p s.wires }) runs
-          (come-passes name p (stands p refl) runs s.wires P)
-      by false rests = drop-passes p rests s.wires P
+          (record s { wires = arrived name p s.wires }) both.0
+          (come-passes name p (stands p refl) both.0 s.wires both.1 P)
+      by false rests = drop-passes p (stands p refl) s.wires rests P
 
   lose-leads : (s : Underway) (packet : Option Packet) → Passing a b on start [] s
       → LeadsOn a b on start [] (lose_acted s packet)
@@ -155,21 +162,20 @@ module _ {a b : ℕ} {on : List Packet} {start : Net} where
   repeat-leads name s (Some p) stands P = λ one other. again-passes name p (stands p refl) s.wires P
 
   fail-leads : (processor : ℕ) (s : Underway) → Passing a b on start [] s
-      → LeadsOn a b on start [] (fail_acted processor s (stop_done processor s.world))
+      → LeadsOn a b on start [] (fail_acted processor s (slice_get s.world.stopped processor))
   fail-leads processor s P = by (slice_get s.world.stopped processor) refl
     where
-      stops : slice_get s.world.stopped processor ≡ Some false → (test : Bool)
-          → LeadsOn a b on start [] (if test then Would (SecondStop processor) else Makes
-          (record s { world = stopped_world processor s.world }))
-      stops at true = tt
-      stops at false = λ one other. stop-passes processor at (apart-of s.world.stopped processor a at one)
+      stops : slice_get s.world.stopped processor ≡ Some false → (whole : Bool)
+          → LeadsOn a b on start [] (stop_acted processor s (stop_if processor s.world whole))
+      stops at false = tt
+      stops at true = λ one other. stop-passes processor at (apart-of s.world.stopped processor a at one)
           (apart-of s.world.stopped processor b at other) P
 
       by : (stopped : Option Bool) → slice_get s.world.stopped processor ≡ stopped
-          → LeadsOn a b on start [] (fail_acted processor s (stop_where processor s.world stopped))
+          → LeadsOn a b on start [] (fail_acted processor s stopped)
       by None at = tt
       by (Some true) at = tt
-      by (Some false) at = stops at (has_stopped s.world.stopped)
+      by (Some false) at = rw at (stops at (is_whole s.world))
 
   -- the node marks a processor, and tells the others
   told-lead : (node processor : ℕ) (s : Underway) → is_running s.world.stopped node ≡ true → Passing a b on start [] s
@@ -185,11 +191,10 @@ module _ {a b : ℕ} {on : List Packet} {start : Net} where
   line-leads node s None other runs P = λ one two. P
   line-leads node s (Some processor) other runs P = by (slice_get s.world.stopped processor) refl
     where
-      stops : slice_get s.world.stopped processor ≡ Some false → (test : Bool)
-          → LeadsOn a b on start [] (if test then Would (SecondStop processor) else Makes
-          (marks_and_declares node processor (record s { world = stopped_world processor s.world })))
-      stops at true = tt
-      stops at false = λ one two.
+      stops : slice_get s.world.stopped processor ≡ Some false → (whole : Bool)
+          → LeadsOn a b on start [] (pulled_first node processor s (stop_if processor s.world whole))
+      stops at false = tt
+      stops at true = λ one two.
           let same = (marks-stay node processor (record s { world = stopped_world processor s.world })).stopped in
           told-lead node processor (record s { world = stopped_world processor s.world })
           (still-running s.world.stopped processor node (other processor refl) runs)
@@ -201,7 +206,7 @@ module _ {a b : ℕ} {on : List Packet} {start : Net} where
           → LeadsOn a b on start [] (pulled node processor s stopped)
       by None at = λ one two. P
       by (Some true) at = λ one two. told-lead node processor s runs P
-      by (Some false) at = stops at (has_stopped s.world.stopped)
+      by (Some false) at = rw at (stops at (is_whole s.world))
 
   tick-leads : (node : ℕ) (s : Underway) → Passing a b on start [] s → LeadsOn a b on start [] (tick_acted node s)
   tick-leads node s P = by (is_running s.world.stopped node) refl
@@ -219,23 +224,27 @@ module _ {a b : ℕ} {on : List Packet} {start : Net} where
 -- A whole event
 
 acted-leads : (a b : ℕ) (s : Packeted) (event : Event) (n : Net) → length s.world.stopped ≤ 16 → IsNetOf s n
+    → ReloadsNone event
     → LeadsOn a b (on_both s.wires) n (option_to_list (delivered s event)) (acted s event)
-acted-leads a b s event n few N = by event
+acted-leads a b s event n few N none = by event none
   where
     P : Passing a b (on_both s.wires) n [] (begun s)
     P = begins-passing s.wires few N
 
-    by : (event : Event) → LeadsOn a b (on_both s.wires) n (option_to_list (delivered s event)) (acted s event)
-    by (Run number) = made-leads (begun s) (run_done s.site number s.world) (run-none s.site s.world number) P
-    by (Enter number) = made-leads (begun s) (enter_done s.site number s.world) (enter-none s.site s.world number) P
-    by (Deliver y k) =
+    by : (event : Event) → ReloadsNone event
+        → LeadsOn a b (on_both s.wires) n (option_to_list (delivered s event)) (acted s event)
+    by (Run number) none = made-leads (begun s) (run_done s.site number s.world) (run-none s.site s.world number) P
+    by (Enter number) none =
+        made-leads (begun s) (enter_done s.site number s.world) (enter-none s.site s.world number) P
+    by (Deliver y k) none =
         deliver-leads (bus_named y) (begun s) (packet_at s (bus_named y) k) (stands-there s (bus_named y) k) P
-    by (Lose y k) = lose-leads (begun s) (packet_at s (bus_named y) k) P
-    by (Repeat y k) =
+    by (Lose y k) none = lose-leads (begun s) (packet_at s (bus_named y) k) P
+    by (Repeat y k) none =
         repeat-leads (bus_named y) (begun s) (packet_at s (bus_named y) k) (stands-there s (bus_named y) k) P
-    by (Tick node) = tick-leads node (begun s) P
-    by (Fail processor) = fail-leads processor (begun s) P
-    by (Drive event) =
+    by (Tick node) none = tick-leads node (begun s) P
+    by (Fail processor) none = fail-leads processor (begun s) P
+    by (Reload processor) none = absurd none
+    by (Drive event) none =
         drive-cases event (begun s) (LeadsOn a b (on_both s.wires) n []) (λ drives one two. P) tt (λ process. tt)
 
 -- what was on a bus is still there, or was taken off
@@ -270,6 +279,7 @@ event-keeps s (Lose y k) takes p among = absurd takes
 event-keeps s (Repeat y k) takes p among = inl among
 event-keeps s (Tick node) takes p among = inl among
 event-keeps s (Fail processor) takes p among = inl among
+event-keeps s (Reload processor) takes p among = inl among
 event-keeps s (Drive event) takes p among = inl among
 
 among-some : (p : Packet) (found : Option Packet) → found ≡ Some p → IsAmong p (option_to_list found)
@@ -303,11 +313,38 @@ over-passes a b s event n (Makes after) is leads = λ one other.
     }
 
 pub event-passes : (s : Packeted) (event : Event) (next : Packeted) (n : Net) (a b : ℕ) → length s.world.stopped ≤ 16
-    → IsNetOf s n → play s event ≡ Makes next
+    → IsNetOf s n → ReloadsNone event → play s event ≡ Makes next
     → is_running next.world.stopped a ≡ true → is_running next.world.stopped b ≡ true → IsPassed a b s event next n
-event-passes s event next n a b few N made =
+event-passes s event next n a b few N none made =
     subst (PassesIf a b s event n) made (over-passes a b s event n (acted s event) refl
-    (acted-leads a b s event n few N))
+    (acted-leads a b s event n few N none))
+
+-- A reload
+
+-- what it makes, if it makes a state, has its wires in the net in which the processor was loaded
+abbrev LoadsIf : ℕ → Net → Played Wires → Type 0
+LoadsIf x n (Makes next) = Goes n (reloaded_net x n) × IsNetOf next (reloaded_net x n)
+LoadsIf x n Skips = Unit {0}
+LoadsIf x n (Would harm) = Unit {0}
+
+pub reload-loads : (s next : Packeted) (x : ℕ) (n : Net) → IsNetOf s n → play s (Reload x) ≡ Makes next
+    → Goes n (reloaded_net x n) × IsNetOf next (reloaded_net x n)
+reload-loads s next x n N made = subst (LoadsIf x n) made (by (reload_done s.site x s.world) refl)
+  where
+    by : (done : Option Done) → reload_done s.site x s.world ≡ done
+        → LoadsIf x n (ended s.wires (reload_acted x (begun s) done))
+    by None e = tt
+    by (Some done) e =
+        let is = reload-is s.site x s.world done e in (
+          loads x (N.tied.stood x ∙ ap not (gone-rests s.world.stopped x is.1)),
+          subst (λ (d : Done). IsNet d.world.stopped
+              (with_sent (loaded_again s.site.processors x (nothing_sent s.wires.nodes)) s.wires) (reloaded_net x n))
+              (sym is.3) (reload-net s.site.processors x is.1 N),
+        )
+
+pub reload-netted : (s next : Packeted) (x : ℕ) (n : Net) → length s.world.stopped ≤ 16 → IsNetOf s n
+    → play s (Reload x) ≡ Makes next → (m : Net) × IsNetOf next m
+reload-netted s next x n few N made = (reloaded_net x n, (reload-loads s next x n N made).1)
 
 -- A tick of the node a, cut where its end with b ticks
 
@@ -336,11 +373,10 @@ ran-before : (b node : ℕ) (s : Underway) (line : Option ℕ) → Ran b s (pull
 ran-before b node s None = λ other. other
 ran-before b node s (Some processor) = by (slice_get s.world.stopped processor) refl
   where
-    stops : slice_get s.world.stopped processor ≡ Some false → (test : Bool)
-        → Ran b s (if test then Would (SecondStop processor) else Makes
-        (marks_and_declares node processor (record s { world = stopped_world processor s.world })))
-    stops at true = tt
-    stops at false = λ other.
+    stops : slice_get s.world.stopped processor ≡ Some false → (whole : Bool)
+        → Ran b s (pulled_first node processor s (stop_if processor s.world whole))
+    stops at false = tt
+    stops at true = λ other.
         let same = (marks-stay node processor (record s { world = stopped_world processor s.world })).stopped in
         stop-running s.world.stopped processor at b (subst (λ ones. is_running ones b ≡ true) same other)
 
@@ -348,7 +384,7 @@ ran-before b node s (Some processor) = by (slice_get s.world.stopped processor) 
         → Ran b s (pulled node processor s stopped)
     by None at = λ other. other
     by (Some true) at = λ other. subst (λ ones. is_running ones b ≡ true) (marks-stay node processor s).stopped other
-    by (Some false) at = stops at (has_stopped s.world.stopped)
+    by (Some false) at = rw at (stops at (is_whole s.world))
 
 tick-cuts : (a b : ℕ) (on : List Packet) (start : Net) (s : Underway) → Passing a b on start [] s
     → CutsIf a b on start (tick_acted a s)

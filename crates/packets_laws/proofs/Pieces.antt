@@ -14,7 +14,8 @@ use Rattle.world_semantics.specs.World.{is_running}
 use Rattle.machine_states.specs.States.{Played, Makes, Skips, Would}
 use Rattle.packet_wires.specs.Nodes.{end_at}
 use Rattle.packet_wires.specs.Play.{Packeted, begun, completed, handed_words, received, deliver_acted, lose_acted}
-use Rattle.packet_wires.specs.Play.{repeat_acted, packet_at, acted, taken_off, ended, play}
+use Rattle.packet_wires.specs.Play.{repeat_acted, packet_at, acted, taken_off, ended, play, comes_in, is_current_at}
+use Rattle.world_semantics.proofs.Roles.{both-true}
 use Rattle.packet_wires.specs.Wires.{Wires, Midst, bus_named, arrived}
 use Rattle.packets_laws.specs.Pieces.{HandsOver}
 use Rattle.machine_states.proofs.Turning.{drive-cases}
@@ -68,14 +69,15 @@ over-stays s Or wires (Would harm) stays = tt
 deliver-stays : (s : Packeted) (name : BusName) (k : ℕ) (found : Option Packet) → packet_at s name k ≡ found
     → Stays s (HandsOver s name k) (deliver_acted name (begun s) found)
 deliver-stays s name k None there = tt
-deliver-stays s name k (Some packet) there = by (is_running s.world.stopped packet.receiver) refl
+deliver-stays s name k (Some packet) there = by (comes_in packet (begun s)) refl
   where
-    handing : (runs : is_running s.world.stopped packet.receiver ≡ true) → (found : Option (List ℤ))
+    handing : is_running s.world.stopped packet.receiver ≡ true
+        → is_current_at packet (end_at s.wires.nodes packet.receiver packet.sender) ≡ true → (found : Option (List ℤ))
         → completed packet (end_at s.wires.nodes packet.receiver packet.sender) ≡ found
         → Stays s (HandsOver s name k) (Makes (handed_words packet.receiver found
         (record (begun s) { wires = arrived name packet (begun s).wires })))
-    handing runs None whole = inl refl
-    handing runs (Some words) whole =
+    handing runs current None whole = inl refl
+    handing runs current (Some words) whole =
         let is = completed-last packet (end_at s.wires.nodes packet.receiver packet.sender) words whole in
         inr (record {
           packet = packet;
@@ -85,11 +87,15 @@ deliver-stays s name k (Some packet) there = by (is_running s.world.stopped pack
           kind = is.kind;
           last = is.last;
           runs = runs;
+          current = current;
         })
 
-    by : (test : Bool) → is_running s.world.stopped packet.receiver ≡ test
+    by : (test : Bool) → comes_in packet (begun s) ≡ test
         → Stays s (HandsOver s name k) (Makes (if test then received name packet (begun s) else begun s))
-    by true runs = handing runs (completed packet (end_at s.wires.nodes packet.receiver packet.sender)) refl
+    by true comes =
+        let both = both-true (is_running s.world.stopped packet.receiver)
+        (is_current_at packet (end_at s.wires.nodes packet.receiver packet.sender)) comes in
+        handing both.0 both.1 (completed packet (end_at s.wires.nodes packet.receiver packet.sender)) refl
     by false rests = inl refl
 
 pub deliver-hands : (s next : Packeted) (y : Bool) (k : ℕ) → play s (Deliver y k) ≡ Makes next

@@ -1,232 +1,84 @@
 -- Every event does to the post what it makes of the state.
 use Rattle.std.proofs.Common.{◌≡◌, ◌≢◌, ◌≤◌, ℕ, Bool, true, false, if◌then◌else◌, ℤ, List, [], ◌∷◌, ◌++◌, Option, Some}
-use Rattle.std.proofs.Common.{None, slice_get, slice_set, inl, inr, refl, sym, ap, subst, ◌∙◌}
+use Rattle.std.proofs.Common.{None, slice_get, inl, inr, refl, sym, ap, subst, ◌∙◌}
 use Rattle.gd_words.specs.Members.{IsAmong}
-use Rattle.gd_words.proofs.Among.{among-at, among-either, among-left, among-right}
-use Rattle.tal_tree.specs.declared.site.Site.{Site}
+use Rattle.gd_words.proofs.Among.{among-at, among-left, among-right}
 use Rattle.schedule.specs.declared.event.Event.{Event}
-use Rattle.schedule.specs.declared.event.Event.TheVariants.{Run, Enter, Deliver, Lose, Repeat, Tick, Fail, Drive}
+use Rattle.schedule.specs.declared.event.Event.TheVariants.{Run, Enter, Deliver, Lose, Repeat, Tick, Fail, Reload}
+use Rattle.schedule.specs.declared.event.Event.TheVariants.{Drive}
 use Rattle.packet_words.specs.declared.bus_name.BusName.{BusName}
 use Rattle.packet_words.specs.declared.bus_name.BusName.TheVariants as bus
 use Rattle.packet_words.specs.declared.packet.Packet.{Packet}
-use Rattle.channel_laws.specs.Net.{stopped_net}
 use Rattle.alive_regroup.specs.Watching as watching
 use Rattle.alive_regroup.specs.Watching.{changed_at}
-use Rattle.world_semantics.specs.World.{World, is_running, runs_by}
-use Rattle.world_semantics.proofs.Lists.{set-there, set-other}
-use Rattle.world_semantics.proofs.Members.{among-map}
-use Rattle.world_semantics.specs.Messages.{Cause, Message, Checkpointing, Entering, Handing, NotingDown, Running}
-use Rattle.world_semantics.specs.Messages.{Sending, Stopping}
+use Rattle.world_semantics.specs.World.{World, is_running, is_whole}
+use Rattle.world_semantics.proofs.Roles.{both-true}
+use Rattle.world_semantics.specs.Messages.{Cause, Message, Checkpointing, Entering, Handing, Running}
+use Rattle.world_semantics.specs.Messages.{Reloading, Stopping}
 use Rattle.world_semantics.specs.Rules.{Change}
+use Rattle.world_semantics.specs.Rules.{by_stop}
 use Rattle.world_semantics.specs.Follows.{IsIdleFor}
 use Rattle.world_semantics.specs.Running.{Done, run_done}
 use Rattle.world_semantics.proofs.Ran.{run-may, run-idle}
 use Rattle.computed_changes.specs.Entered.{enter_done}
 use Rattle.computed_changes.specs.Laws.{IsSent}
 use Rattle.computed_changes.specs.Handed.{handed_done}
-use Rattle.computed_changes.specs.Stopped.{stop_done, stop_where, stopped_world, down_done, mark_where}
+use Rattle.computed_changes.specs.Stopped.{stop_if, stopped_world, down_done}
+use Rattle.computed_changes.specs.Stopped.{reload_done}
 use Rattle.computed_changes.proofs.Entered.{enter-may, enter-only}
 use Rattle.computed_changes.proofs.Made.{handed-may}
-use Rattle.computed_changes.proofs.Outcomes.{idle-where}
-use Rattle.computed_changes.proofs.Stopped.{stop-may, stop-only, mark-may}
+use Rattle.computed_changes.proofs.Outcomes.{idle-where, reload-makes}
+use Rattle.computed_changes.proofs.Stopped.{mark-may, reload-only}
 use Rattle.letters.specs.Routes.{Letter, letters_of}
-use Rattle.letters.specs.Again.{sent_again}
-use Rattle.letters.specs.Posts.{Post, with_letters, post_after_down, without_those_between, HasPlayed, played_more}
+use Rattle.letters.specs.Posts.{Post, with_letters, played_more}
 use Rattle.letters.specs.Posts.{PlaysEvent, plays_run, plays_no_run, plays_enter, plays_no_enter, plays_nothing}
 use Rattle.letters.specs.Posts.{plays_hand, plays_drop, plays_again, plays_mark, plays_loss, plays_repeat}
 use Rattle.letters.specs.Posts.{plays_no_tick, plays_tick, plays_tick_stop, plays_fail, plays_no_fail, NotesLetters}
-use Rattle.letters.specs.Posts.{plays_drive}
+use Rattle.letters.specs.Posts.{plays_drive, plays_reload, plays_no_reload, without_those_of}
 use Rattle.letters.specs.Posts.{no_mark, one_mark, IsTaken}
 use Rattle.letters.proofs.Owed.{played-sent, taken-there}
-use Rattle.machine_states.specs.States.{Played, Makes, Skips, Would, drive_played, SecondStop}
-use Rattle.message_wires_laws.specs.message_wires.specs.Play.{has_stopped}
+use Rattle.machine_states.specs.States.{Played, Makes, Skips, Would, drive_played}
 use Rattle.message_wires_laws.proofs.Stopping.{StopsNone, run-none, enter-none, handed-none, mark-none}
 use Rattle.message_layout.specs.Messages.{NodeMessage, Carrying, Changing, Reporting, Declaring}
 use Rattle.message_layout.specs.Reading.{understood}
-use Rattle.packet_wires.specs.Wires.{Wires, Midst, bus_named, goes_over, all_posted, arrived, learns, ticked, cut_off}
+use Rattle.packet_wires.specs.Nodes.{end_at}
+use Rattle.packet_wires.specs.Wires.{Wires, Midst, bus_named, goes_over, arrived, learns, ticked}
+use Rattle.packet_wires.specs.Wires.{loaded_again}
 use Rattle.packet_wires.specs.Play.{Packeted, Underway, begun, after_done, made_by, after_any, after_marked, marked_by}
 use Rattle.packet_wires.specs.Play.{marks, declared, handed, handed_any, handed_words, received, deliver_acted}
 use Rattle.packet_wires.specs.Play.{lose_acted, repeat_acted, fail_acted, marks_and_declares, pulled, pulls, line_of}
+use Rattle.packet_wires.specs.Play.{comes_in, is_current_at, pulled_first, reload_acted, stop_acted}
 use Rattle.packet_wires.specs.Play.{pulls_its, tick_acted, packet_at, acted, taken_off, ended, play}
-use Rattle.message_layout.specs.Layout.{Fits}
 use Rattle.change_layout.specs.Changing.{change_of}
 use Rattle.checkpoint_image.specs.declared.message.ImageMessage.{ImageMessage}
 use Rattle.computed_changes.specs.Changed.{change_done}
 use Rattle.checkpoint_chains.specs.Chains.{IsNextTo}
-use Rattle.checkpoint_chains.proofs.Newest.{IsNewestIfOne, change-new}
-use Rattle.message_wires_laws.specs.letter_laws.proofs.Again.{again-is}
-use Rattle.packet_wires.specs.Parcels.{Parcel, form_of, parcel_of, parcels_of}
+use Rattle.checkpoint_chains.proofs.Newest.{change-new}
+use Rattle.packet_wires.specs.Parcels.{Parcel}
 use Rattle.packet_nets.specs.Owing as net
-use Rattle.packet_nets.specs.Owing.{IsContent, content_of, Owes, Ties, on_both}
-use Rattle.packets_laws.specs.Carried.{AllStandFor, IsCarried, IsCarriedAtRest, IsFormOf, StandsFor, WereSent}
-use Rattle.packets_laws.proofs.Forms.{Stays, again-new, all-stand-still, change-stays, form-own}
-use Rattle.packets_laws.proofs.Forms.{letters-new, new-stand, new-were, stand-append, stand-without}
-use Rattle.packets_laws.proofs.Forms.{takes-letter, were-still}
+use Rattle.packet_nets.specs.Owing.{content_of, Owes, Ties, on_both}
+use Rattle.packets_laws.specs.Carried.{AllStandFor, IsCarried, IsCarriedAtRest, StandsFor}
+use Rattle.packets_laws.proofs.Forms.{change-stays}
+use Rattle.packets_laws.proofs.Forms.{letters-new}
+use Rattle.packets_laws.proofs.Forms.{takes-letter, stand-without-of, were-without-of}
 use Rattle.packet_nets.proofs.Arriving.{Arrives, hands_none, hands_other, hands_letter, hands_again}
 use Rattle.packet_nets.proofs.Buses.{among-without}
-use Rattle.packet_nets.proofs.Owing.{stop-owes}
-use Rattle.packet_nets.proofs.Sending.{all-posted-ties, cut-ties, more-ties, watched-ties, fewer-ties, rest-ties, Came}
+use Rattle.packet_nets.proofs.Reloading.{reload-ties}
+use Rattle.packet_nets.proofs.Sending.{watched-ties, fewer-ties, rest-ties, Came}
 use Rattle.packet_nets.proofs.Sending.{came}
 use Rattle.packet_nets.proofs.Ticking.{ticked-ties, down-ties, pulled-other}
-use Rattle.packet_nets.proofs.Tied.{stop-tied, repeated-tied}
-use Rattle.packet_nets.proofs.Watches.{changed-watch, size-set}
+use Rattle.packet_nets.proofs.Watches.{changed-watch}
 use Rattle.machine_states.proofs.Turning.{drive-cases}
 use Rattle.schedule.specs.declared.event.DriveEvent.{DriveEvent}
-
--- some letters are owed, and some were sent, by which these events carry the state, while these packets are on the
--- buses
-abbrev pub Carries : List Event → List Packet → Underway → Type 0
-Carries events on s = (owed : List Letter) × (sent : List Letter) × IsCarried events on s owed sent
-
--- the form in which a message goes that was sent last fits the site, and is one of it
-abbrev pub GoesFit : Site → World → Message → Type 0
-GoesFit site w message =
-    IsNewestIfOne w message → Fits site (form_of w message) × IsFormOf w message (form_of w message)
-
--- after these events all that was ever sent goes so, where it was sent last
-abbrev pub FitAll : Site → List Event → Type 0
-FitAll site events = (post : Post) → HasPlayed site events post → (letter : Letter) → IsAmong letter post.sent
-    → GoesFit site post.world letter.message
+use Rattle.packets_laws.proofs.Posting.{Carries, FitAll, HoldsLetters, change-counts, holds-still, marked-on}
+use Rattle.packets_laws.proofs.Posting.{now-stopped}
+use Rattle.packets_laws.proofs.Posting.{posted-on, reload-is, repeated-ties, still-running, stopped-ties}
 
 -- the state that an event makes, if it makes one, is carried in its turn
 abbrev pub GoesOn : List Event → List Packet → Underway → Played Midst → Type 0
 GoesOn events on s (Makes next) = Carries events on next
 GoesOn events on s Skips = Carries events on s
 GoesOn events on s (Would harm) = Unit {0}
-
--- what parcels hold of letters in a world: those that are owed and those that were posted
-record HoldsLetters (w : World) (parcels posted : List Parcel) (owed sent : List Letter) : Type 0 where
-  pub stand : AllStandFor w parcels owed
-  pub were : WereSent w posted sent
-
-holds-still : (w next : World) (parcels posted : List Parcel) (owed sent : List Letter) → Stays w next
-    → HoldsLetters w parcels posted owed sent → HoldsLetters next parcels posted owed sent
-holds-still w next parcels posted owed sent stays held = record {
-  stand = all-stand-still w next stays parcels owed held.stand;
-  were = were-still w next stays posted sent held.were;
-}
-
--- a change that stops nobody, and then its letters
-posted-on : {on : List Packet} (s : Underway) (events : List Event) (world : World) (midst : Midst)
-    (owed sent letters : List Letter) (parcels posted : List Parcel) → FitAll s.site events → Stays s.world world
-    → world.stopped ≡ s.world.stopped
-    → ((letter : Letter) → IsAmong letter letters → IsNewestIfOne world letter.message)
-    → HoldsLetters s.world parcels posted owed sent
-    → Ties s.site s.world.stopped on midst parcels posted
-    → HasPlayed s.site events (with_letters letters (record { world = world; owed = owed; sent = sent }))
-    → Carries events on (record s { world = world; wires = all_posted world.stopped (parcels_of world letters) midst })
-posted-on {on = on} s events world midst owed sent letters parcels posted fit stays same new held T played = (
-  owed ++ letters,
-  (letters ++ sent),
-  record {
-    played = played;
-    parcels = parcels ++ parcels_of world letters;
-    posted = parcels_of world letters ++ posted;
-    stand = stand-append world parcels (parcels_of world letters) owed letters still.stand
-        (new-stand world letters forms);
-    were = new-were world letters posted sent forms still.were;
-    ties = all-posted-ties (parcels_of world letters) midst all_fit
-        (more-ties midst (parcels_of world letters ++ posted)
-        (λ parcel among. among-right parcel (parcels_of world letters) posted among)
-        (subst (λ stopped. Ties s.site stopped on midst parcels posted) (sym same) T));
-  },
-)
-  where
-    still : HoldsLetters world parcels posted owed sent
-    still = holds-still s.world world parcels posted owed sent stays held
-
-    goes : (letter : Letter) → IsAmong letter letters
-        → Fits s.site (form_of world letter.message) × IsFormOf world letter.message (form_of world letter.message)
-    goes letter among = fit _ played letter (among-left letter letters sent among) (new letter among)
-
-    forms : (letter : Letter) → IsAmong letter letters → IsFormOf world letter.message (form_of world letter.message)
-    forms letter among = (goes letter among).1
-
-    all_fit : (parcel : Parcel) → IsAmong parcel (parcels_of world letters)
-        → IsContent parcel.content × Fits s.site parcel.content × IsAmong parcel (parcels_of world letters ++ posted)
-    all_fit parcel among =
-        let from = among-map (parcel_of world) letters parcel among in (
-          subst (λ (p : Parcel). IsContent p.content) (sym from.same) (form-own world from.item.message),
-          subst (λ (p : Parcel). Fits s.site p.content) (sym from.same) (goes from.item from.among).0,
-          among-left parcel (parcels_of world letters) posted among,
-        )
-
--- a stop of a processor that runs
-stopped-ties : {on : List Packet} (site : Site) (stopped : List Bool) (midst : Midst) (owed sent : List Parcel)
-    (processor : ℕ) → slice_get stopped processor ≡ Some false
-    → Ties site stopped on midst owed sent → Ties site (slice_set stopped processor true) on midst owed sent
-stopped-ties site stopped midst owed sent processor runs T = record {
-  net = stopped_net processor T.net;
-  tied = stop-tied stopped processor runs T.tied;
-  owes = stop-owes T.owes processor runs;
-  watches = T.watches;
-  places = size-set stopped processor true ∙ T.places;
-}
-
-repeated-ties : {site : Site} {stopped : List Bool} {on : List Packet} {owed sent : List Parcel} (midst : Midst)
-    (name : BusName) (packet : Packet) → IsAmong packet on
-    → Ties site stopped on midst owed sent → Ties site stopped on (goes_over name packet midst) owed sent
-repeated-ties midst name packet among T =
-    record {
-      net = T.net;
-      tied = repeated-tied name packet among T.tied;
-      owes = T.owes;
-      watches = T.watches;
-      places = T.places;
-    }
-
--- a stop leaves other nodes running
-pub still-running : (stopped : List Bool) (processor node : ℕ) → processor ≢ node → is_running stopped node ≡ true
-    → is_running (slice_set stopped processor true) node ≡ true
-still-running stopped processor node n runs = ap (runs_by node) (set-other stopped processor node true n) ∙ runs
-
-pub now-stopped : (stopped : List Bool) (processor : ℕ) → slice_get stopped processor ≡ Some false
-    → slice_get (slice_set stopped processor true) processor ≡ Some true
-now-stopped stopped processor e = set-there stopped processor false true e
-
--- a mark is made of a stopped processor alone
-pub mark-gone : (node processor : ℕ) (w : World) (done : Done) → down_done node processor w ≡ Some done
-    → slice_get w.stopped processor ≡ Some true
-mark-gone node processor w done e = by (slice_get w.stopped processor) refl e
-  where
-    by : (one : Option Bool) → slice_get w.stopped processor ≡ one → mark_where node processor w one ≡ Some done
-        → slice_get w.stopped processor ≡ Some true
-    by None at e = absurd cc
-    by (Some false) at e = absurd cc
-    by (Some true) at e = at
-
--- what a mark sends, and sends again, is no checkpoint but the newest
-mark-new : (site : Site) (w : World) (node processor : ℕ) (done : Done)
-    → Change site w (NotingDown node processor) done.sendings done.world
-    → (sending : Sending) → IsAmong sending (done.sendings ++ sent_again site w done.world node processor)
-    → IsNewestIfOne done.world sending.message
-mark-new site w node processor done change sending among =
-    elim (among-either sending done.sendings (sent_again site w done.world node processor) among) [
-      | inl new ↦ change-new w done.world (NotingDown node processor) done.sendings change sending new
-      | inr again ↦ again-new site done.world sending.message
-          (again-is site w done.world node processor sending again)
-    ]
-
--- a mark at a node that runs
-marked-on : {on : List Packet} (s : Underway) (events : List Event) (owed sent : List Letter)
-    (parcels posted : List Parcel) (node processor : ℕ)
-    (done : Done) → FitAll s.site events → is_running s.world.stopped node ≡ true
-    → down_done node processor s.world ≡ Some done → HoldsLetters s.world parcels posted owed sent
-    → Ties s.site s.world.stopped on s.wires parcels posted
-    → HasPlayed s.site events (post_after_down s.site node processor done.sendings done.world
-    (record { world = s.world; owed = owed; sent = sent }))
-    → Carries events on (after_marked node processor s done)
-marked-on {on = on} s events owed sent parcels posted node processor done fit runs e held T played =
-    let change = mark-may s.site node processor s.world done e in
-    posted-on s events done.world (cut_off node processor s.wires) (without_those_between node processor owed) sent
-    (letters_of s.site done.world (done.sendings ++ sent_again s.site s.world done.world node processor))
-    (net.without_those_between node processor parcels) posted fit
-    (change-stays s.world done.world (NotingDown node processor) done.sendings change)
-    (subst (StopsNone s.world) e (mark-none s.site s.world node processor))
-    (letters-new s.site done.world (done.sendings ++ sent_again s.site s.world done.world node processor)
-    (mark-new s.site s.world node processor done change))
-    (record { stand = stand-without s.world node processor parcels owed held.stand; were = held.were })
-    (cut-ties s.wires node processor runs (mark-gone node processor s.world done e) T) played
 
 -- A state that is carried after these events, and in the midst of one more. Its letters carry messages that were sent,
 -- and where one comes in that changes nothing no change is possible
@@ -246,7 +98,7 @@ module _ (events : List Event) (on : List Packet) (s : Underway) (owed sent : Li
   Same event = PlaysEvent s.site (Post_of owed) event (Post_of owed)
 
   abbrev Tied : Midst → Type 0
-  Tied midst = Ties s.site s.world.stopped on midst carried.parcels carried.posted
+  Tied midst = Ties s.site s.world.stopped s.world.reloads on midst carried.parcels carried.posted
 
   held : HoldsLetters s.world carried.parcels carried.posted owed sent
   held = record { stand = carried.stand; were = carried.were }
@@ -271,14 +123,16 @@ module _ (events : List Event) (on : List Packet) (s : Underway) (owed sent : Li
   T = carried.ties
 
   changes : (event : Event) (cause : Cause) (done : Done) → StopsNone s.world (Some done)
+      → ((processor : ℕ) → cause ≡ Reloading processor → ⊥)
       → Change s.site s.world cause done.sendings done.world
       → PlaysEvent s.site (Post_of owed) event
       (with_letters (letters_of s.site done.world done.sendings)
       (record { world = done.world; owed = owed; sent = sent }))
       → Carries (events ++ event ∷ []) on (after_done s done)
-  changes event cause done none change plays =
+  changes event cause done none other change plays =
       posted-on s (events ++ event ∷ []) done.world s.wires owed sent (letters_of s.site done.world done.sendings)
       carried.parcels carried.posted (fit event) (change-stays s.world done.world cause done.sendings change) none
+      (change-counts s.world done.world cause done.sendings change other)
       (letters-new s.site done.world done.sendings (change-new s.world done.world cause done.sendings change)) held
       carried.ties (played_more carried.played plays)
 
@@ -290,7 +144,7 @@ module _ (events : List Event) (on : List Packet) (s : Underway) (owed sent : Li
       by None e none = calm (Run number) s.wires carried.ties (plays_no_run (run-idle s.site number s.world e))
       by (Some done) e none =
           let change = run-may s.site number s.world done e in
-          changes (Run number) (Running number) done none change (plays_run change)
+          changes (Run number) (Running number) done none (λ x same. cc) change (plays_run change)
 
   enter-on : (number : ℕ) → GoesOn (events ++ Enter number ∷ []) on s (made_by s (enter_done s.site number s.world))
   enter-on number = by (enter_done s.site number s.world) refl (enter-none s.site s.world number)
@@ -303,7 +157,7 @@ module _ (events : List Event) (on : List Packet) (s : Underway) (owed sent : Li
           (λ next sendings change. enter-only number s.world next sendings change) e))
       by (Some done) e none =
           let change = enter-may s.site number s.world done e in
-          changes (Enter number) (Entering number) done none change (plays_enter change)
+          changes (Enter number) (Entering number) done none (λ x same. cc) change (plays_enter change)
 
   lose-on : (y : Bool) (k : ℕ) (packet : Option Packet) → GoesOn (events ++ Lose y k ∷ []) on s (lose_acted s packet)
   lose-on y k None = calm (Lose y k) s.wires carried.ties plays_loss
@@ -317,20 +171,16 @@ module _ (events : List Event) (on : List Packet) (s : Underway) (owed sent : Li
       (repeated-ties s.wires (bus_named y) p (stands p refl) carried.ties) plays_repeat
 
   fail-on : (processor : ℕ) → GoesOn (events ++ Fail processor ∷ []) on s
-      (fail_acted processor s (stop_done processor s.world))
+      (fail_acted processor s (slice_get s.world.stopped processor))
   fail-on processor = by (slice_get s.world.stopped processor) refl
     where
-      idle : stop_done processor s.world ≡ None → IsIdleFor s.site s.world (Stopping processor)
-      idle e =
-          idle-where s.site s.world (Stopping processor) (stop_done processor s.world)
-          (λ next sendings change. stop-only processor s.world next sendings change) e
-
-      stops : slice_get s.world.stopped processor ≡ Some false
-          → Change s.site s.world (Stopping processor) [] (stopped_world processor s.world) → (test : Bool)
+      stops : slice_get s.world.stopped processor ≡ Some false → (whole : Bool) → is_whole s.world ≡ whole
           → GoesOn (events ++ Fail processor ∷ []) on s
-          (if test then Would (SecondStop processor) else Makes (record s { world = stopped_world processor s.world }))
-      stops e change true = tt
-      stops e change false =
+          (stop_acted processor s (stop_if processor s.world whole))
+      stops e false parts = tt
+      stops e true whole =
+          let change : Change s.site s.world (Stopping processor) [] (stopped_world processor s.world) =
+          by_stop processor e whole in
           let still = holds-still s.world (stopped_world processor s.world) carried.parcels carried.posted owed sent
           (change-stays s.world (stopped_world processor s.world) (Stopping processor) [] change) held in (
             owed,
@@ -347,13 +197,41 @@ module _ (events : List Event) (on : List Packet) (s : Underway) (owed sent : Li
           )
 
       by : (stopped : Option Bool) → slice_get s.world.stopped processor ≡ stopped
-          → GoesOn (events ++ Fail processor ∷ []) on s (fail_acted processor s (stop_where processor s.world stopped))
-      by (Some false) e =
-          stops e (stop-may s.site processor s.world
-          (record { world = stopped_world processor s.world; sendings = [] }) (rw e refl))
-          (has_stopped s.world.stopped)
-      by (Some true) e = calm (Fail processor) s.wires carried.ties (plays_no_fail (idle (rw e refl)))
-      by None e = calm (Fail processor) s.wires carried.ties (plays_no_fail (idle (rw e refl)))
+          → GoesOn (events ++ Fail processor ∷ []) on s (fail_acted processor s stopped)
+      by (Some false) e = rw e (stops e (is_whole s.world) refl)
+      by (Some true) e =
+          calm (Fail processor) s.wires carried.ties (plays_no_fail (λ runs. let same = sym e ∙ runs in cc))
+      by None e = calm (Fail processor) s.wires carried.ties (plays_no_fail (λ runs. let same = sym e ∙ runs in cc))
+
+  reload-on : (processor : ℕ) → GoesOn (events ++ Reload processor ∷ []) on s
+      (reload_acted processor s (reload_done s.site processor s.world))
+  reload-on processor = by (reload_done s.site processor s.world) refl
+    where
+      by : (done : Option Done) → reload_done s.site processor s.world ≡ done
+          → GoesOn (events ++ Reload processor ∷ []) on s (reload_acted processor s done)
+      by None e =
+          calm (Reload processor) s.wires carried.ties
+          (plays_no_reload (idle-where s.site s.world (Reloading processor) (reload_done s.site processor s.world)
+          (λ next sendings change. reload-only processor s.world next sendings change) e))
+      by (Some done) e =
+          let is = reload-is s.site processor s.world done e in
+          let change = reload-makes s.site s.world processor done e in
+          let still = holds-still s.world done.world carried.parcels carried.posted owed sent
+          (change-stays s.world done.world (Reloading processor) [] change) held in (
+            without_those_of processor owed,
+            without_those_of processor sent,
+            record {
+              played = played_more carried.played (plays_reload change);
+              parcels = net.without_those_of processor carried.parcels;
+              posted = net.without_those_of processor carried.posted;
+              stand = stand-without-of done.world processor carried.parcels owed still.stand;
+              were = were-without-of done.world processor carried.posted sent still.were;
+              ties = subst (λ (d : Done). Ties s.site d.world.stopped d.world.reloads on
+                  (loaded_again s.site.processors processor s.wires)
+                  (net.without_those_of processor carried.parcels) (net.without_those_of processor carried.posted))
+                  (sym is.3) (reload-ties s.wires processor is.0 is.1 is.2 carried.ties);
+            },
+          )
 
   drive-on : (event : DriveEvent) → GoesOn (events ++ Drive event ∷ []) on s (drive_played event s)
   drive-on event =
@@ -375,7 +253,8 @@ module _ (events : List Event) (on : List Packet) (s : Underway) (owed sent : Li
   -- A packet is delivered
 
   module _ (y : Bool) (k : ℕ) (p : Packet) (stands : IsAmong p on)
-      (runs : is_running s.world.stopped p.receiver ≡ true) where
+      (runs : is_running s.world.stopped p.receiver ≡ true)
+      (current : is_current_at p (end_at s.wires.nodes p.receiver p.sender) ≡ true) where
     abbrev Now : Event
     Now = Deliver y k
 
@@ -416,7 +295,7 @@ module _ (events : List Event) (on : List Packet) (s : Underway) (owed sent : Li
 
     take-on : (letter : Letter) (left : List Letter) (rest : List Parcel) → IsTaken letter owed left
         → IsAmong letter sent → is_running s.world.stopped letter.receiver ≡ true → AllStandFor s.world rest left
-        → Ties s.site s.world.stopped on next rest carried.posted
+        → Ties s.site s.world.stopped s.world.reloads on next rest carried.posted
         → (done : Option Done) → handed_done s.site letter.receiver letter.message s.world ≡ done
         → StopsNone s.world done → Handed (after_any here done)
     take-on letter left rest taken among alive stand T None e none = (
@@ -436,6 +315,7 @@ module _ (events : List Event) (on : List Packet) (s : Underway) (owed sent : Li
         posted-on s (events ++ Deliver y k ∷ []) done.world next left sent
         (letters_of s.site done.world done.sendings) rest carried.posted (fit (Deliver y k))
         (change-stays s.world done.world (Handing letter.receiver letter.message) done.sendings change) none
+        (change-counts s.world done.world (Handing letter.receiver letter.message) done.sendings change (λ x same. cc))
         (letters-new s.site done.world done.sendings
         (change-new s.world done.world (Handing letter.receiver letter.message) done.sendings change))
         (record { stand = stand; were = carried.were }) T
@@ -450,6 +330,7 @@ module _ (events : List Event) (on : List Packet) (s : Underway) (owed sent : Li
         posted-on s (events ++ Deliver y k ∷ []) done.world next owed sent
         (letters_of s.site done.world done.sendings) carried.parcels carried.posted (fit (Deliver y k))
         (change-stays s.world done.world (Handing letter.receiver letter.message) done.sendings change) none
+        (change-counts s.world done.world (Handing letter.receiver letter.message) done.sendings change (λ x same. cc))
         (letters-new s.site done.world done.sendings
         (change-new s.world done.world (Handing letter.receiver letter.message) done.sendings change)) held T
         (played_more carried.played (plays_again letter among change))
@@ -480,12 +361,12 @@ module _ (events : List Event) (on : List Packet) (s : Underway) (owed sent : Li
     read-on words told e is = subst (λ o. Handed (handed_any p.receiver o here)) (sym e) is
 
     arrive-on : (h : Option (List ℤ))
-        → Came s.site s.world.stopped on next carried.parcels carried.posted p.sender p.receiver h
+        → Came s.site s.world.stopped s.world.reloads on next carried.parcels carried.posted p.sender p.receiver h
         → Handed (handed_words p.receiver h here)
     arrive-on h c = by h c.arrived
       where
-        ties : (parcels : List Parcel) → Owes s.site s.world.stopped parcels carried.posted c.net
-            → Ties s.site s.world.stopped on next parcels carried.posted
+        ties : (parcels : List Parcel) → Owes s.site s.world.stopped s.world.reloads parcels carried.posted c.net
+            → Ties s.site s.world.stopped s.world.reloads on next parcels carried.posted
         ties parcels o = record { net = c.net; tied = c.tied; owes = o; watches = c.watches; places = c.places }
 
         -- what is owed was sent
@@ -493,7 +374,7 @@ module _ (events : List Event) (on : List Packet) (s : Underway) (owed sent : Li
         sent-too letter among = played-sent carried.played letter among
 
         by : (h : Option (List ℤ))
-            → Arrives s.site s.world.stopped carried.parcels carried.posted c.net p.sender p.receiver h
+            → Arrives s.site s.world.stopped s.world.reloads carried.parcels carried.posted c.net p.sender p.receiver h
             → Handed (handed_words p.receiver h here)
         by None (hands_none o) = calm (Deliver y k) next (ties carried.parcels o) plays_nothing
         by (Some words) (hands_other told reads fits right none o) =
@@ -516,16 +397,20 @@ module _ (events : List Event) (on : List Packet) (s : Underway) (owed sent : Li
             (handed-none s.site s.world one.0.receiver one.0.message)))
 
     received-on : Handed (received (bus_named y) p s)
-    received-on = arrive-on _ (came s.wires carried.ties (bus_named y) p (carried.ties.tied.flight p stands) runs)
+    received-on = arrive-on _ (came s.wires carried.ties (bus_named y) p (carried.ties.tied.flight p stands) runs
+        current)
 
   deliver-on : (y : Bool) (k : ℕ) (packet : Option Packet) → ((p : Packet) → packet ≡ Some p → IsAmong p on)
       → GoesOn (events ++ Deliver y k ∷ []) on s (deliver_acted (bus_named y) s packet)
   deliver-on y k None stands = calm (Deliver y k) s.wires carried.ties plays_nothing
-  deliver-on y k (Some p) stands = by (is_running s.world.stopped p.receiver) refl
+  deliver-on y k (Some p) stands = by (comes_in p s) refl
     where
-      by : (test : Bool) → is_running s.world.stopped p.receiver ≡ test
+      by : (test : Bool) → comes_in p s ≡ test
           → Carries (events ++ Deliver y k ∷ []) on (if test then received (bus_named y) p s else s)
-      by true runs = received-on y k p (stands p refl) runs
+      by true comes =
+          let both = both-true (is_running s.world.stopped p.receiver)
+          (is_current_at p (end_at s.wires.nodes p.receiver p.sender)) comes in
+          received-on y k p (stands p refl) both.0 both.1
       by false rests = calm (Deliver y k) s.wires carried.ties plays_nothing
 
   -- Ticks and lines
@@ -561,7 +446,7 @@ module _ (events : List Event) (on : List Packet) (s : Underway) (owed sent : Li
     held-on : (w : World) (processor : ℕ) → is_running w.stopped node ≡ true
         → slice_get w.stopped processor ≡ Some true → processor ≤ 15
         → HoldsLetters w carried.parcels carried.posted owed sent
-        → Ties s.site w.stopped on (ticked s.site.processors node s.wires) carried.parcels carried.posted
+        → Ties s.site w.stopped w.reloads on (ticked s.site.processors node s.wires) carried.parcels carried.posted
         → ((post : Post) → NotesLetters s.site node (record { world = w; owed = owed; sent = sent }) post
         → PlaysEvent s.site (Post_of owed) (Tick node) post)
         → Ticks (marks_and_declares node processor
@@ -608,13 +493,13 @@ module _ (events : List Event) (on : List Packet) (s : Underway) (owed sent : Li
     line-on None other = none-on
     line-on (Some processor) other = by (slice_get s.world.stopped processor) refl
       where
-        stops : slice_get s.world.stopped processor ≡ Some false
-            → Change s.site s.world (Stopping processor) [] (stopped_world processor s.world) → (test : Bool)
-            → GoesOn (events ++ Tick node ∷ []) on s (if test then Would (SecondStop processor)
-            else Makes (marks_and_declares node processor
-            (record s { world = stopped_world processor s.world; wires = ticked s.site.processors node s.wires })))
-        stops e change true = tt
-        stops e change false =
+        stops : slice_get s.world.stopped processor ≡ Some false → (whole : Bool) → is_whole s.world ≡ whole
+            → GoesOn (events ++ Tick node ∷ []) on s (pulled_first node processor
+            (record s { wires = ticked s.site.processors node s.wires }) (stop_if processor s.world whole))
+        stops e false parts = tt
+        stops e true whole =
+            let change : Change s.site s.world (Stopping processor) [] (stopped_world processor s.world) =
+            by_stop processor e whole in
             held-on (stopped_world processor s.world) processor
             (still-running s.world.stopped processor node (other processor refl).0 runs)
             (now-stopped s.world.stopped processor e) (other processor refl).1
@@ -630,10 +515,7 @@ module _ (events : List Event) (on : List Packet) (s : Underway) (owed sent : Li
         by (Some true) e =
             held-on s.world processor runs e (other processor refl).1 held tick_ties
             (λ post made. plays_tick runs made)
-        by (Some false) e =
-            stops e (stop-may s.site processor s.world
-            (record { world = stopped_world processor s.world; sendings = [] }) (rw e refl))
-            (has_stopped s.world.stopped)
+        by (Some false) e = rw e (stops e (is_whole s.world) refl)
 
     ticked-on : GoesOn (events ++ Tick node ∷ []) on s
         (pulls_its node (record s { wires = ticked s.site.processors node s.wires }))
@@ -670,6 +552,7 @@ among-taken (Lose y k) wires p among = among-without (bus_named y) k wires p amo
 among-taken (Repeat y k) wires p among = among
 among-taken (Tick node) wires p among = among
 among-taken (Fail processor) wires p among = among
+among-taken (Reload processor) wires p among = among
 among-taken (Drive event) wires p among = among
 
 over-on : (events : List Event) (s : Packeted) (event : Event) (played : Played Midst)
@@ -722,4 +605,6 @@ plays-on events s owed sent carried honest only whole fit event =
         (packet_at s (bus_named y) k) (stands-there s (bus_named y) k)
     by (Tick node) = tick-on events (on_both s.wires) (begun s) owed sent carried honest only whole fit node
     by (Fail processor) = fail-on events (on_both s.wires) (begun s) owed sent carried honest only whole fit processor
+    by (Reload processor) =
+        reload-on events (on_both s.wires) (begun s) owed sent carried honest only whole fit processor
     by (Drive event) = drive-on events (on_both s.wires) (begun s) owed sent carried honest only whole fit event

@@ -30,9 +30,8 @@ use Rattle.message_wires_laws.specs.letter_laws.proofs.Honest.{played-honest}
 use Rattle.message_layout.specs.Layout.{Fits}
 use Rattle.message_layout.specs.Messages.{NodeMessage}
 use Rattle.packet_wires.specs.Parcels.{form_of}
-use Rattle.packet_wires.specs.Play.{Packeted, play, completed, packet_at}
+use Rattle.packet_wires.specs.Play.{Packeted, begun, comes_in, completed, packet_at, play}
 use Rattle.packet_wires.specs.Nodes.{end_at}
-use Rattle.world_semantics.specs.World.{is_running}
 use Rattle.packets_laws.proofs.Coming.{comes-right}
 use Rattle.packet_wires.specs.Runs.{IsPlayed, played_none, played_more, skipped}
 use Rattle.packets_laws.specs.Carried.{IsCarriedAtRest, IsFormOf, WasSentInWords}
@@ -41,7 +40,8 @@ use Rattle.packet_wires.specs.Idle.{is_idle}
 use Rattle.packets_laws.proofs.Going.{played-site}
 use Rattle.packets_laws.proofs.Idle.{idle-post}
 use Rattle.packets_laws.proofs.Newest.{form-newest}
-use Rattle.packets_laws.proofs.Playing.{CarriesAtRest, GoesOnAtRest, FitAll, plays-on}
+use Rattle.packets_laws.proofs.Playing.{CarriesAtRest, GoesOnAtRest, plays-on}
+use Rattle.packets_laws.proofs.Posting.{FitAll}
 use Rattle.packet_nets.proofs.Ticking.{begins}
 
 module _ (events : List Event) (few : length events < 4294967296) (s : Packeted) (owed sent : List Letter)
@@ -88,7 +88,7 @@ module _ (site : Site) (fit : IsFit site) (small : IsSmall site) (out : IsLaidOu
 
   all-go : (events : List Event) → length events < 4294967296 → FitAll site events
   all-go events few post played letter among new =
-      let form = form-newest post.world (played-run played) letter.message new in
+      let form = form-newest post.world fit.seats (played-run played) letter.message new in
       (form-fits events post few played letter among (form_of post.world letter.message) form, form)
 
   goes-on : (events : List Event) (s : Packeted) (event : Event) → length (events ++ event ∷ []) < 4294967296
@@ -154,7 +154,7 @@ module _ (site : Site) (fit : IsFit site) (small : IsSmall site) (out : IsLaidOu
     pub played-comes : (owed : List Letter) × (sent : List Letter)
         × posts.HasPlayed site events (record { world = s.world; owed = owed; sent = sent })
         × ((name : BusName) (k : ℕ) (p : Packet) (words : List ℤ) → packet_at s name k ≡ Some p
-        → is_running s.world.stopped p.receiver ≡ true
+        → comes_in p (begun s) ≡ true
         → completed p (end_at s.wires.nodes p.receiver p.sender) ≡ Some words
         → WasSentInWords site s.world sent p.sender p.receiver words)
     played-comes =
@@ -163,7 +163,7 @@ module _ (site : Site) (fit : IsFit site) (small : IsSmall site) (out : IsLaidOu
           all.1,
           subst (λ one. posts.HasPlayed one events (record { world = s.world; owed = all.0; sent = all.1 }))
               (played-site played) all.2.played,
-          λ name k p words at runs is. subst (λ one. WasSentInWords one s.world all.1 p.sender p.receiver words)
+          λ name k p words at comes is. subst (λ one. WasSentInWords one s.world all.1 p.sender p.receiver words)
               (played-site played)
-              (comes-right events s all.0 all.1 all.2 p name k words at runs is),
+              (comes-right events s all.0 all.1 all.2 p name k words at comes is),
         )

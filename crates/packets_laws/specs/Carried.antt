@@ -17,7 +17,7 @@ use Rattle.message_layout.specs.Messages.{NodeMessage, Carrying, Changing, Repor
 use Rattle.message_layout.specs.Reading.{understood}
 use Rattle.packet_wires.specs.Parcels.{Parcel}
 use Rattle.packet_wires.specs.Play.{Packeted, Underway, begun}
-use Rattle.packet_nets.specs.Owing.{Ties, on_both}
+use Rattle.packet_nets.specs.Owing.{HasLoaded, Ties, on_both}
 
 -- Parcels of letters
 
@@ -56,7 +56,7 @@ pub record IsCarried (events : List Event) (on : List Packet) (s : Underway) (ow
   pub posted : List Parcel
   pub stand : AllStandFor s.world parcels owed
   pub were : WereSent s.world posted sent
-  pub ties : Ties s.site s.world.stopped on s.wires parcels posted
+  pub ties : Ties s.site s.world.stopped s.world.reloads on s.wires parcels posted
 
 -- between events
 abbrev pub IsCarriedAtRest : List Event → Packeted → List Letter → List Letter → Type 0
@@ -65,14 +65,15 @@ IsCarriedAtRest events s owed sent = IsCarried events (on_both s.wires) (begun s
 -- What comes
 
 -- a message from x to y is true: one of the world is that of a letter sent there, and so is a checkpoint that comes as
--- what changed; and a processor that is declared down has stopped
+-- what changed; and a processor that is declared down has stopped, or it had, and was loaded again
 abbrev pub WasTold : World → List Letter → ℕ → ℕ → NodeMessage → Type 0
 WasTold w sent x y (Carrying message) = IsAmong (record { sender = x; receiver = y; message = message }) sent
 WasTold w sent x y (Changing change) =
     (letter : Letter) × IsAmong letter sent
     × StandsFor w (record { sender = x; receiver = y; content = Changing change }) letter
 WasTold w sent x y (Reporting node silent) = Unit {0}
-WasTold w sent x y (Declaring processor) = slice_get w.stopped processor ≡ Some true
+WasTold w sent x y (Declaring processor) =
+    (slice_get w.stopped processor ≡ Some true) ⊎ HasLoaded w.reloads processor
 
 -- the site understands these words, and they are a true message from x to y
 abbrev pub WasSentInWords : Site → World → List Letter → ℕ → ℕ → List ℤ → Type 0

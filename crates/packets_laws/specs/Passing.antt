@@ -2,7 +2,8 @@
 use Rattle.std.specs.Prelude.{◌≡◌, ◌≤◌, ℕ, List, [], length, Option, Some, None}
 use Rattle.gd_words.specs.Members.{IsAmong}
 use Rattle.schedule.specs.declared.event.Event.{Event}
-use Rattle.schedule.specs.declared.event.Event.TheVariants.{Run, Enter, Deliver, Lose, Repeat, Tick, Fail, Drive}
+use Rattle.schedule.specs.declared.event.Event.TheVariants.{Run, Enter, Deliver, Lose, Repeat, Tick, Fail, Reload}
+use Rattle.schedule.specs.declared.event.Event.TheVariants.{Drive}
 use Rattle.packet_words.specs.declared.packet.Packet.{Packet}
 use Rattle.channel_laws.specs.Net.{Net, Goes, ticked_net}
 use Rattle.channel_laws.specs.Rounds.{Passes}
@@ -20,6 +21,7 @@ delivered s (Lose y k) = None
 delivered s (Repeat y k) = None
 delivered s (Tick node) = None
 delivered s (Fail processor) = None
+delivered s (Reload processor) = None
 delivered s (Drive event) = None
 
 -- an event takes nothing off a bus that it doesn't deliver
@@ -31,7 +33,20 @@ TakesToDeliver (Lose y k) = ⊥
 TakesToDeliver (Repeat y k) = Unit {0}
 TakesToDeliver (Tick node) = Unit {0}
 TakesToDeliver (Fail processor) = Unit {0}
+TakesToDeliver (Reload processor) = Unit {0}
 TakesToDeliver (Drive event) = Unit {0}
+
+-- an event loads no processor again
+abbrev pub ReloadsNone : Event → Type 0
+ReloadsNone (Run number) = Unit {0}
+ReloadsNone (Enter terminal) = Unit {0}
+ReloadsNone (Deliver y k) = Unit {0}
+ReloadsNone (Lose y k) = Unit {0}
+ReloadsNone (Repeat y k) = Unit {0}
+ReloadsNone (Tick node) = Unit {0}
+ReloadsNone (Fail processor) = Unit {0}
+ReloadsNone (Reload processor) = ⊥
+ReloadsNone (Drive event) = Unit {0}
 
 -- the wires of a state are those of a net
 abbrev pub IsNetOf : Packeted → Net → Type 0

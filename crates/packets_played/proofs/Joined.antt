@@ -13,7 +13,6 @@ use Rattle.idle_laws.proofs.Ended.{played-ends}
 use Rattle.packets_laws.specs.packet_wires.specs.Idle.{is_idle}
 use Rattle.packets_laws.specs.packet_wires.specs.Play.{Packeted}
 use Rattle.packets_laws.specs.packet_wires.specs.Runs.{IsPlayed}
-use Rattle.packets_laws.proofs.Going.{played-one}
 use Rattle.packets_laws.proofs.Runs.{played-post, played-world}
 use Rattle.packets_played.proofs.Small.{small-of}
 
@@ -21,16 +20,16 @@ module _ (site : Site) (accepted : IsAcceptedSite site) (keeps : KeepsSiteLimits
     (events : List Event) (s : Packeted)
     (few : length events < 4294967295) (played : IsPlayed site events s) where
   pub runs : IsRun site events s.world
-  runs = played-world site (accepted-fit site accepted) (small-of site accepted keeps) out events s
+  runs = played-world site (accepted-fit site accepted out.places) (small-of site accepted keeps) out events s
       (omega (arith, few)) played
 
   pub ends : is_idle s ≡ true → (owed : List Letter) × (sent : List Letter)
       × IsIdleEnd site events (record { world = s.world; owed = owed; sent = sent })
   ends idle =
-      let post = played-post site (accepted-fit site accepted) (small-of site accepted keeps) out events s
+      let post = played-post site (accepted-fit site accepted out.places) (small-of site accepted keeps) out events s
       (omega (arith, few)) played in (
         post.0,
         post.1,
         played-ends site events (record { world = s.world; owed = post.0; sent = post.1 }) accepted out few post.2
-            (played-one played) (post.3 idle),
+            (post.3 idle),
       )

@@ -1,6 +1,7 @@
 ghost use Rattle.std.specs.Prelude.{◌≡◌, IfOk};
 ghost use Rattle.verdicts.specs.Judgeable.{AreJudgeable, IsJudgeable, IsJudgeableKind};
-ghost use Rattle.pair_findings.specs.Findings.{AreFindings, IsFinding, IsFindingOf, IsJudged, IsRemedy, deeds_for, path_of};
+ghost use Rattle.pair_findings.specs.Findings.{AreFindings, IsFinding, IsFindingOf, IsJudged, IsRemedy, deeds_for};
+ghost use Rattle.pair_findings.specs.Findings.{path_of};
 
 use crate::finding::{Finding, PairFinding, Remedy};
 use crate::marks::since_checkpoint;

@@ -1,4 +1,5 @@
 pub mod Drives
+pub mod Loads
 pub mod Marks
 pub mod Packets
 pub mod Room

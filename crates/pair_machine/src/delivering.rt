@@ -1,9 +1,10 @@
-ghost use Rattle.std.specs.Prelude.{◌≡◌, IfOk, OnOk};
+ghost use Rattle.std.specs.Prelude.{◌≡◌, ◌&&◌, IfOk, OnOk};
 ghost use Rattle.computed_changes.specs.Handed.{handed_done};
 ghost use Rattle.machine_states.specs.States.{Settles};
 ghost use Rattle.number_ranges.specs.HasRoom.{HasRoom};
 ghost use Rattle.message_wires.specs.Play.{after_any, comes_in, deliver_played, lose_played, packet_at};
 ghost use Rattle.message_wires.specs.Play.{state_after_receiving, repeat_played};
+ghost use Rattle.message_wires.specs.Wires.{is_present};
 ghost use Rattle.sendings.specs.Seen.{message_of};
 ghost use Rattle.world_copies.specs.node_copies.specs.Seen.{step_sendings};
 ghost use Rattle.world_copies.specs.Room.{NamesItsOpener};
@@ -56,11 +57,13 @@ impl MachineParts {
         Ok(())
     }
 
-    /// Whether a packet comes in: its receiver runs, and hasn't marked its sender.
+    /// Whether a packet comes in: it isn't old, and its receiver runs and hasn't marked its sender.
     fn comes_in(&self, packet: &Sent) -> bool
-        ensures { result ≡ comes_in self.now packet.now.letter }
+        ensures { result
+            ≡ (is_present self.now.wires.before packet.now && comes_in self.now packet.now.letter) }
     {
-        self.world.is_running(packet.receiver())
+        self.wires.is_present(packet)
+            && self.world.is_running(packet.receiver())
             && !self.world.has_marked(packet.receiver(), packet.sender())
     }
 

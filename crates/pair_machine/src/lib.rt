@@ -11,6 +11,7 @@ mod delivering;
 mod failing;
 pub mod pairs;
 mod posting;
+mod reloading;
 mod running;
 mod ticking;
 mod turning;

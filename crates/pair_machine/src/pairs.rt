@@ -137,6 +137,13 @@ impl PairMachine {
         self.whole.world.processors()
     }
 
+    /// How often each processor was loaded again.
+    pub fn reloads(&self) -> &[u8]
+        ensures { result.now ≡ self.now.state.world.reloads }
+    {
+        self.whole.world.reloads()
+    }
+
     /// Which node has marked which processor.
     pub fn marks(&self) -> &Downs
         ensures { result.now ≡ self.now.state.world.marks }
@@ -188,6 +195,7 @@ impl MachineParts {
             Event::Repeat { y, k } => self.repeat(y, k),
             Event::Tick(node) => self.tick(node),
             Event::Fail(processor) => self.fail(processor),
+            Event::Reload(processor) => self.reload(processor),
             Event::Drive(turn) => Ok(self.turn(turn)),
         }
     }

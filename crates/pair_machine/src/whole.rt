@@ -43,10 +43,8 @@ impl MachineParts {
         ensures { IfOk result (λ whole. whole ≡ machine_at_boot site.now) }
     {
         let world = WorldCopies::boot(alloc, site)?;
-        Ok(MachineParts {
-            world,
-            wires: PostedLetters::new(alloc),
-        })
+        let wires = PostedLetters::new(alloc, site.get().processors)?;
+        Ok(MachineParts { world, wires })
     }
 
     /// How many packets are on the bus.

@@ -74,6 +74,7 @@ happened-same site (event.Lose y k) ran equal = refl
 happened-same site (event.Repeat y k) ran equal = refl
 happened-same site (event.Tick node) ran equal = refl
 happened-same site (event.Fail processor) ran equal = refl
+happened-same site (event.Reload processor) ran equal = refl
 happened-same site (event.Drive turn) ran equal = refl
 
 pub repeated-same : (site : Site) (event : Event) (times : ℕ) (ran : Ran) → happened site event ran ≡ ran

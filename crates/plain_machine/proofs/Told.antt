@@ -60,6 +60,7 @@ told-happened site (event.Lose y k) ran t = t
 told-happened site (event.Repeat y k) ran t = t
 told-happened site (event.Tick node) ran t = t
 told-happened site (event.Fail processor) ran t = t
+told-happened site (event.Reload processor) ran t = t
 told-happened site (event.Drive turn) ran t = t
 
 told-repeated : (site : Site) (event : Event) (times : ℕ) (ran : Ran) → Told site ran

@@ -255,6 +255,7 @@ happened-within site (event.Lose y k) ran = omega arith
 happened-within site (event.Repeat y k) ran = omega arith
 happened-within site (event.Tick node) ran = omega arith
 happened-within site (event.Fail processor) ran = omega arith
+happened-within site (event.Reload processor) ran = omega arith
 happened-within site (event.Drive turn) ran = omega arith
 
 repeated-within : (site : Site) (event : Event) (times : ℕ) (ran : Ran)

@@ -30,7 +30,11 @@ impl<'a> Model for Frame<'a> {
 
     ghost coded = { Prim.hlevel (codes, statement.the_row.coded) };
 
-    ghost view = { λ frame. record { procedure = frame.procedure; locals = frame.locals; rest = stack frame.rest.items } };
+    ghost view = { λ frame. record {
+      procedure = frame.procedure;
+      locals = frame.locals;
+      rest = stack frame.rest.items;
+    } };
 }
 
 impl<'a> Frame<'a> {

@@ -6,8 +6,8 @@ ghost use Rattle.tal_values.specs.Value.{value_of, cell_of, truth_of};
 ghost use Rattle.process_semantics.specs.State.{Run, Test, Last, memory_of, runs_of};
 ghost use Rattle.process_semantics.specs.Changes.{variable_cell};
 ghost use Rattle.process_semantics.specs.Steps.{values_of, assigned, tested, entered, given, given_in, returned};
-ghost use Rattle.process_semantics.specs.Steps.{result_of, for_begun, inner_in, goes_round, next_word, tested_in, counted_in};
-ghost use Rattle.process_semantics.specs.Steps.{inner, or_ends};
+ghost use Rattle.process_semantics.specs.Steps.{result_of, for_begun, inner_in, goes_round, next_word, tested_in};
+ghost use Rattle.process_semantics.specs.Steps.{counted_in, inner, or_ends};
 ghost use Rattle.process_semantics.specs.SeenEntries.{entry_of};
 
 use crate::execution::Execution;

@@ -14,7 +14,7 @@ use Rattle.idle_laws.proofs.Ended.{played-ends}
 use Rattle.message_wires.specs.Idle.{is_idle}
 use Rattle.message_wires.specs.Play.{MachineState}
 use Rattle.message_wires.specs.Runs.{IsPlayed, post_of}
-use Rattle.message_wires_laws.proofs.Going.{played-one, played-site}
+use Rattle.message_wires_laws.proofs.Going.{played-site}
 use Rattle.message_wires_laws.proofs.Idle.{idle-both}
 use Rattle.message_wires_laws.proofs.Runs.{played-letters, played-world}
 
@@ -25,14 +25,14 @@ module _ (site : Site) (accepted : IsAcceptedSite site) (out : IsLaidOut site) (
     (few : length events < 4294967295)
     (played : IsPlayed site events s) where
   pub runs : IsRun site events s.world
-  runs = played-world site (accepted-fit site accepted) (apart site out) events s (omega (arith, few)) played
+  runs = played-world site (accepted-fit site accepted out.places) (apart site out) events s (omega (arith, few)) played
 
   pub ends : is_idle s ≡ true → (sent : List Letter) × IsIdleEnd site events (post_of s sent)
   ends idle =
-      let letters =
-      played-letters site (accepted-fit site accepted) (apart site out) events s (omega (arith, few)) played in
+      let fit = accepted-fit site accepted out.places in
+      let letters = played-letters site fit (apart site out) events s (omega (arith, few)) played in
       let left = (idle-both s letters.0).0 idle in (
         letters.0,
-        played-ends site events (post_of s letters.0) accepted out few letters.1 (played-one played)
+        played-ends site events (post_of s letters.0) accepted out few letters.1
             (subst (λ (one : Site). IsIdle one (post_of s letters.0)) (played-site played) left),
       )

@@ -12,7 +12,7 @@ ghost use Rattle.accepted_sites.specs.Premises.{IsAcceptedSite};
 ghost use Rattle.message_wires.specs.Idle.{is_idle};
 ghost use Rattle.message_wires.specs.Runs.{IsPlayed};
 ghost use Rattle.played_laws.specs.Leaving.{leaving_end, leaving_events, leaving_site};
-ghost use Rattle.played_laws.specs.Takeover.{adder_end, takeover_to_the_end};
+ghost use Rattle.played_laws.specs.Takeover.{adder_end, reload_end, reload_to_the_end, takeover_to_the_end};
 
 /// The takeover of the adder over whole messages, to its idle end: the site meets the premises, the events are played,
 /// nothing is left, and what the acts of one adder show that never fails is the one reply that was printed.
@@ -23,6 +23,15 @@ pub fn a_takeover_to_its_idle_end_is_an_instance()
     ensures idle { is_idle adder_end ≡ true }
     ensures none { IsNoneLeft (adder_for (pos 5 ∷ [])) (closed adder_end.world) }
     ensures shown { shown_by (adder_for (pos 5 ∷ [])) (closed adder_end.world) ≡ reply 0 (pos 5) ∷ [] }
+{}
+
+/// So is a run with a reload: the adder is lost, its first processor is loaded again, its copy there gets everything,
+/// and it takes over when the second processor stops. The reply is printed once, and nothing is left.
+pub fn a_run_with_a_reload_is_an_instance()
+    ensures played { IsPlayed (adder_for (pos 5 ∷ [])) reload_to_the_end reload_end }
+    ensures idle { is_idle reload_end ≡ true }
+    ensures none { IsNoneLeft (adder_for (pos 5 ∷ [])) (closed reload_end.world) }
+    ensures shown { shown_by (adder_for (pos 5 ∷ [])) (closed reload_end.world) ≡ reply 0 (pos 5) ∷ [] }
 {}
 
 /// A server takes a request and stops with no CHECKPOINT: at the idle end its copy has ended, and holds the take and

@@ -18,8 +18,8 @@ ghost use Rattle.message_wires.specs.Play.{MachineState};
 ghost use Rattle.message_wires.specs.Runs.{IsPlayed};
 
 /// Where each pair of a site runs a program that was read and is accepted, and its processes are laid out over its
-/// processors: whatever events are played, the acts that are kept are possible on the machine of single unfailing
-/// processes, and what was shown is what they show.
+/// processors: whatever events are played, with any number of stops and reloads, the acts that are kept are possible on
+/// the machine of single unfailing processes, and what was shown is what they show.
 pub fn what_is_played_is_possible()
     ensures possible { (site : Site) (events : List Event) (s : MachineState) → IsAcceptedSite site → IsLaidOut site
         → length events < 4294967295 → IsPlayed site events s

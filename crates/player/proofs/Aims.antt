@@ -2,7 +2,8 @@
 use Rattle.std.proofs.Common.{◌≡◌, ℕ, Bool, true, false, ◌==◌, ◌&&◌, Option, Some, None, if◌then◌else◌, refl, ap, sym}
 use Rattle.std.proofs.Common.{◌∙◌, option_map}
 use Rattle.schedule.specs.declared.event.Event.{Event}
-use Rattle.schedule.specs.declared.event.Event.TheVariants.{Run, Enter, Deliver, Lose, Repeat, Tick, Fail, Drive}
+use Rattle.schedule.specs.declared.event.Event.TheVariants.{Run, Enter, Deliver, Lose, Repeat, Tick, Fail, Reload}
+use Rattle.schedule.specs.declared.event.Event.TheVariants.{Drive}
 use Rattle.schedule.specs.declared.event.Counts.{Counts}
 use Rattle.player.specs.declared.standing.Sizes.{Sizes}
 use Rattle.player.specs.declared.standing.Rule.TheVariants.{Drain, Mute, Until}
@@ -31,6 +32,7 @@ muted-concerns x y node counts (Lose bus k) = refl
 muted-concerns x y node counts (Repeat bus k) = refl
 muted-concerns x y node counts (Tick tick) = refl
 muted-concerns x y node counts (Fail processor) = refl
+muted-concerns x y node counts (Reload processor) = refl
 muted-concerns x y node counts (Drive event) = refl
 
 spared-concerns : (x y : ℕ) (counts : Counts) (event : Event)
@@ -42,6 +44,7 @@ spared-concerns x y counts (Lose bus k) = delivered-or-lost x y bus k counts.ali
 spared-concerns x y counts (Repeat bus k) = refl
 spared-concerns x y counts (Tick tick) = refl
 spared-concerns x y counts (Fail processor) = refl
+spared-concerns x y counts (Reload processor) = refl
 spared-concerns x y counts (Drive event) = refl
 
 decided-concerns : (x y : ℕ) (standing : LinePlace) (counts : Counts) (event : Event)

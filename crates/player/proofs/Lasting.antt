@@ -3,7 +3,8 @@ use Rattle.std.proofs.Common.{◌≡◌, ℕ, ◌+◌, ◌-◌, ◌≤◌, ◌==
 use Rattle.std.proofs.Common.{Some, None, option_map, if◌then◌else◌, refl, arith}
 use Rattle.std.proofs.lemmas.Bool.{ltb-true}
 use Rattle.schedule.specs.declared.event.Event.{Event}
-use Rattle.schedule.specs.declared.event.Event.TheVariants.{Run, Enter, Deliver, Lose, Repeat, Tick, Fail, Drive}
+use Rattle.schedule.specs.declared.event.Event.TheVariants.{Run, Enter, Deliver, Lose, Repeat, Tick, Fail, Reload}
+use Rattle.schedule.specs.declared.event.Event.TheVariants.{Drive}
 use Rattle.schedule.specs.declared.event.Counts.{Counts}
 use Rattle.player.specs.declared.standing.Sizes.{Sizes}
 use Rattle.player.specs.declared.standing.Rule.TheVariants.{Drain, Mute, Until}
@@ -38,6 +39,7 @@ muted-rounds node counts (Lose bus k) = refl
 muted-rounds node counts (Repeat bus k) = refl
 muted-rounds node counts (Tick tick) = refl
 muted-rounds node counts (Fail processor) = refl
+muted-rounds node counts (Reload processor) = refl
 muted-rounds node counts (Drive event) = refl
 
 spared-rounds : (counts : Counts) (event : Event) → rounds_of_event (spared counts event) ≡ rounds_of_event event
@@ -48,6 +50,7 @@ spared-rounds counts (Lose bus k) = no-round counts.alive (Deliver bus k) (Lose 
 spared-rounds counts (Repeat bus k) = refl
 spared-rounds counts (Tick tick) = refl
 spared-rounds counts (Fail processor) = refl
+spared-rounds counts (Reload processor) = refl
 spared-rounds counts (Drive event) = refl
 
 decided-rounds : (standing : LinePlace) (counts : Counts) (event : Event)
@@ -79,6 +82,7 @@ at-most-one (Lose bus k) = none 1
 at-most-one (Repeat bus k) = none 1
 at-most-one (Tick node) = tick-one (node == 16)
 at-most-one (Fail processor) = none 1
+at-most-one (Reload processor) = none 1
 at-most-one (Drive event) = none 1
 
 begun-kept : (left : ℕ) (move : Move) → rounds_of_event move.event + rounds_left move.standing ≤ left - 1 + 1

@@ -22,7 +22,7 @@ impl LinePlace {
             }
             LinePlace::Rounds { rule, left, place } => turn(sizes, *rule, left, place, counts),
             LinePlace::Mixed { left, place, draws } => {
-                mixed_turn(sizes, left, place, draws, counts)
+                mixed_turn(sizes, left, place, draws, *counts)
             }
         }
     }
@@ -59,11 +59,11 @@ fn mixed_turn(
     left: &mut u32,
     place: &mut MixedPlace,
     draws: &mut u64,
-    counts: &Counts,
+    counts: Counts,
 ) -> Option<Event>
-    ensures event { result ≡ event_of (next_event sizes (standing.Mixed left.old place.old draws.old) counts.now) }
+    ensures event { result ≡ event_of (next_event sizes (standing.Mixed left.old place.old draws.old) counts) }
     ensures standing { IfSome result (λ event. standing.Mixed left.new place.new draws.new
-        ≡ stands_after (next_event sizes (standing.Mixed left.old place.old draws.old) counts.now)) }
+        ≡ stands_after (next_event sizes (standing.Mixed left.old place.old draws.old) counts)) }
 {
     if is_before_mixed(*place) {
         *left = left.checked_sub(1)?;
@@ -71,7 +71,7 @@ fn mixed_turn(
     let next = next_mixed(sizes, counts.x, counts.y, *place, *draws);
     *place = next.place;
     *draws = next.draws;
-    Some(spared(counts, next.event))
+    Some(spared(&counts, next.event))
 }
 
 /// Whether a round is to begin.

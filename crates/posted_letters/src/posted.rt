@@ -1,7 +1,7 @@
-ghost use Rattle.std.specs.Prelude.{◌≡◌, length, slice_get, IfOk, OnOk};
+ghost use Rattle.std.specs.Prelude.{◌≡◌, length, slice_get, slice_set, IfOk, OnOk};
 ghost use Rattle.message_wires.specs.Idle.{none_owed};
-ghost use Rattle.message_wires.specs.Wires.{paid, paid_between, wires_after_post, wires_again, wires_at_boot};
-ghost use Rattle.message_wires.specs.Wires.{without_packet};
+ghost use Rattle.message_wires.specs.Wires.{is_present, paid, paid_between, sent_before, wires_after_post};
+ghost use Rattle.message_wires.specs.Wires.{wires_after_reload, wires_again, wires_at_boot, without_packet};
 ghost use Rattle.gd_words.specs.Ranges.{HasNextLong};
 ghost use Rattle.posted_letters.specs.Repeats.{IsRepeated};
 
@@ -13,12 +13,14 @@ use sendings::Letter;
 use std::alloc::Global;
 use std::marker::Model;
 
-/// The wires: the packets on the bus, at most 4,096 of them, and the letters that are owed.
+/// The wires: the packets on the bus, at most 4,096 of them, the letters that are owed, and of each processor how many
+/// letters were sent before it was loaded last.
 #[derive(Drop)]
 pub struct PostedLetters {
     count: u64,
     bus: Bus,
     owed: Vec<Sent>,
+    before: Vec<u64>,
 }
 
 impl Model for PostedLetters {
@@ -30,21 +32,28 @@ impl Model for PostedLetters {
 
     ghost coded = { Prim.hlevel codes };
 
-    ghost view = { λ all. record { count = all.count; bus = all.bus; owed = all.owed.items } };
+    ghost view = { λ all. record {
+      count = all.count;
+      bus = all.bus;
+      owed = all.owed.items;
+      before = all.before.items;
+    } };
 
     ghost invariant = { λ all. RisesWithin 0 all.count all.owed.items };
 }
 
 impl PostedLetters {
     /// Nothing was sent. The allocator is kept for what will be.
-    pub fn new(alloc: Global) -> PostedLetters
-        ensures { result ≡ wires_at_boot }
+    pub fn new(alloc: Global, processors: u8) -> Result<PostedLetters, NoMemory>
+        ensures { IfOk result (λ all. all ≡ wires_at_boot processors) }
     {
-        PostedLetters {
+        let before = vec![in alloc; 0; usize::from(processors)]?;
+        Ok(PostedLetters {
             count: 0,
             bus: Bus::new(alloc),
             owed: Vec::new(alloc),
-        }
+            before,
+        })
     }
 
     /// How many packets are on the bus.
@@ -103,6 +112,43 @@ impl PostedLetters {
         ensures { self.new ≡ paid_between one other self.old }
     {
         self.owed.retain(|sent| !sent.is_between(one, other));
+    }
+
+    /// A processor is loaded again: what is from it or to it is owed no more, and what of that is on the bus counts as
+    /// old.
+    pub fn reload(&mut self, processor: u8)
+        ensures { self.new ≡ wires_after_reload processor self.old }
+    {
+        self.owed.retain(|sent| !sent.is_from_or_to(processor));
+        self.note_load(processor);
+    }
+
+    /// Notes of a processor that is loaded how many letters were sent before.
+    fn note_load(&mut self, processor: u8)
+        ensures { self.new ≡ record self.old { before = slice_set self.old.before processor self.old.count } }
+    {
+        let place = usize::from(processor);
+        if place < self.before.len() {
+            self.before[place] = self.count;
+        }
+    }
+
+    /// Whether a letter was sent since its sender and its receiver were loaded last.
+    pub fn is_present(&self, one: &Sent) -> bool
+        ensures { result ≡ is_present self.now.before one.now }
+    {
+        self.sent_before(one.sender()) <= one.number()
+            && self.sent_before(one.receiver()) <= one.number()
+    }
+
+    /// How many letters were sent before a node was loaded last.
+    fn sent_before(&self, node: u8) -> u64
+        ensures { result ≡ sent_before self.now.before node }
+    {
+        match self.before.get(usize::from(node)) {
+            None => 0,
+            Some(count) => *count,
+        }
     }
 
     /// A tick of a node: what it sent is put on the bus again, where it is owed, its receiver runs and no packet of it

@@ -1,4 +1,5 @@
 ghost use Rattle.std.specs.Prelude.{◌≡◌, ◌&&◌, ◌||◌, not, IfOk};
+ghost use Rattle.letters.specs.Posts.{is_from_or_to};
 ghost use Rattle.letters.specs.Routes.{is_between};
 ghost use Rattle.message_wires.specs.Wires.{is_of};
 ghost use Rattle.world_semantics.specs.World.{is_running};
@@ -83,6 +84,13 @@ impl Sent {
         let sender = self.letter.sender();
         let receiver = self.letter.receiver();
         (sender == one && receiver == other) || (sender == other && receiver == one)
+    }
+
+    /// Whether the letter is from a node or to it.
+    pub(crate) fn is_from_or_to(&self, node: u8) -> bool
+        ensures { result ≡ is_from_or_to node self.now.letter }
+    {
+        self.letter.sender() == node || self.letter.receiver() == node
     }
 
     /// Whether both its nodes run.

@@ -8,7 +8,7 @@ use Rattle.process_semantics.specs.Process.{ProcessState}
 use Rattle.change_layout.specs.declared.message.ChangeMessage.{ChangeMessage}
 use Rattle.checkpoint_image.specs.declared.message.ImageMessage.{ImageMessage}
 use Rattle.world_semantics.specs.declared.role.Role.{Role}
-use Rattle.world_semantics.specs.declared.role.Role.TheVariants.{Acting}
+use Rattle.world_semantics.specs.declared.role.Role.TheVariants.{Acting, Watching, Blank}
 use Rattle.world_semantics.specs.Core.{Core, after_passing}
 use Rattle.world_semantics.specs.Passes.{next_checkpoint}
 use Rattle.process_control.specs.Cores.{CoreAndDepths, core_at_start}
@@ -16,14 +16,15 @@ use Rattle.computed_changes.specs.Changed.{core_as_changed}
 use Rattle.computed_changes.specs.Checkpoints.{core_as}
 
 -- a copy: its role, its era, the number of the last checkpoint sent or applied in that era, whether it has sent the
--- checkpoint at which it stands, whether that was acknowledged, its core, and how many replies are kept at most of each
--- opener of its process
+-- checkpoint where it stands, whether that was acknowledged, whether it has to send everything, its core, and how many
+-- replies are kept at most of each opener of its process
 pub record CopyState : Type 0 where
   pub role : Role
   pub era : ℕ
   pub number : ℕ
   pub sent : Bool
   pub acknowledged : Bool
+  pub renewal : Bool
   pub core : Core
   pub depths : List ℕ
 
@@ -35,6 +36,7 @@ copy_of_core role it = record {
   number = 0;
   sent = false;
   acknowledged = false;
+  renewal = false;
   core = it.core;
   depths = it.depths;
 }
@@ -48,9 +50,9 @@ with_core copy core = record copy { core = core }
 
 -- Sending
 
--- the checkpoint that a copy sends: the next one of its era
+-- the checkpoint that a copy sends: the next one of its era, of everything where it has to send that
 abbrev pub copy_checkpoint : ℕ → CopyState → ImageMessage
-copy_checkpoint process copy = next_checkpoint process copy.era copy.number copy.core
+copy_checkpoint process copy = next_checkpoint process copy.era copy.number copy.renewal copy.core
 
 -- the copy after it sent its checkpoint
 abbrev pub copy_sending : CopyState → CopyState
@@ -60,10 +62,19 @@ copy_sending copy = record copy { number = copy.number + 1; sent = true; acknowl
 abbrev pub copy_passing : CopyState → CopyState
 copy_passing copy = record copy { core = after_passing copy.core; sent = false; acknowledged = false }
 
+-- the copy after what it has sent came to its end elsewhere than at a checkpoint
+abbrev pub copy_ending : CopyState → CopyState
+copy_ending copy = record copy { sent = false; acknowledged = false }
+
+-- the copy after it was told that what it has sent was taken: it has sent everything, if it had to
+abbrev pub copy_told : CopyState → CopyState
+copy_told copy = record copy { acknowledged = true; renewal = false }
+
 -- Applying
 
+-- the copy that watches with the core that it has by a checkpoint
 abbrev pub copy_applied : ImageMessage → CopyState → Core → CopyState
-copy_applied message copy core = record copy { core = core; number = message.number }
+copy_applied message copy core = record copy { role = Watching; core = core; number = message.number }
 
 -- the copy after a checkpoint came to it; none where it is ignored
 abbrev pub copy_applying : ImageMessage → CopyState → Option CopyState
@@ -72,7 +83,7 @@ copy_applying message copy =
 
 -- the copy with the core that it has by a checkpoint that came as what changed
 abbrev pub copy_changed : ChangeMessage → CopyState → Core → CopyState
-copy_changed change copy core = record copy { core = core; number = change.number }
+copy_changed change copy core = record copy { role = Watching; core = core; number = change.number }
 
 -- the copy after a checkpoint came to it as what changed; none where it is ignored
 abbrev pub copy_changing : ChangeMessage → CopyState → Option CopyState
@@ -83,3 +94,15 @@ copy_changing change copy =
 -- the copy after it took over: it acts in the next era, in which no checkpoint was sent yet
 abbrev pub copy_taking_over : CopyState → CopyState
 copy_taking_over copy = record copy { role = Acting; era = copy.era + 1; number = 0 }
+
+-- Reloads
+
+-- the copy after the processor of the other one was loaded again: it has to send everything, in the next era, in which
+-- nothing was sent yet
+abbrev pub copy_renewed : CopyState → CopyState
+copy_renewed copy =
+    record copy { era = copy.era + 1; number = 0; sent = false; acknowledged = false; renewal = true }
+
+-- the copy in a processor that was loaded again, of a process in this state at its beginning: blank, in this era
+abbrev pub copy_blank : ℕ → ProcessState → ℕ → List OpenerSpec → CopyState
+copy_blank era state files openers = record (copy_at_start Blank state files openers) { era = era }

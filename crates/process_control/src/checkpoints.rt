@@ -1,4 +1,4 @@
-ghost use Rattle.std.specs.Prelude.{◌≡◌, ◌<◌, ◌+◌, ◌==◌, ◌&&◌, true, is_some, IfOk, OnOk, OnErr};
+ghost use Rattle.std.specs.Prelude.{◌≡◌, ◌<◌, ◌+◌, ◌==◌, ◌&&◌, false, true, is_some, IfOk, OnOk, OnErr};
 ghost use Rattle.std.specs.Option.{option_map, unwrap_or};
 ghost use Rattle.gd_words.specs.Ranges.{HasNext};
 ghost use Rattle.process_semantics.specs.declared.point.Point.TheVariants.{AtCheckpoint};
@@ -7,7 +7,8 @@ ghost use Rattle.world_semantics.specs.declared.role.Role.TheVariants.{Watching,
 ghost use Rattle.computed_changes.specs.Checkpoints.{core_where, is_next_for, is_of_last};
 ghost use Rattle.process_control.specs.Changing.{changing_where};
 ghost use Rattle.process_control.specs.Copies.{copy_applied, copy_applying, copy_changed, copy_changing};
-ghost use Rattle.process_control.specs.Copies.{copy_checkpoint, copy_passing, copy_sending, copy_taking_over};
+ghost use Rattle.process_control.specs.Copies.{copy_checkpoint, copy_ending, copy_passing, copy_renewed, copy_sending};
+ghost use Rattle.process_control.specs.Copies.{copy_taking_over, copy_told};
 
 use crate::control::CopyControl;
 use change_layout::ChangeMessage;
@@ -17,16 +18,16 @@ use std::alloc::Global;
 use world_semantics::Role;
 
 impl<B: Behaviour> CopyControl<B> {
-    /// The checkpoint at which it stands, for the other copy of its process. Its number has 32 bits. An error changes
-    /// nothing.
+    /// The checkpoint of where it stands, for the other copy of its process: of everything where it has to send that.
+    /// Its number has 32 bits. An error changes nothing.
     pub fn checkpoint_out(&mut self, alloc: Global, process: u8) -> Result<ImageMessage, NoMemory>
-        requires point { point self.old.core.state ≡ AtCheckpoint }
+        requires point { self.old.renewal ≡ false → point self.old.core.state ≡ AtCheckpoint }
         requires number { HasNext self.old.number }
         ensures message { IfOk result (λ message. message ≡ copy_checkpoint process self.old) }
         ensures ok { OnOk result (self.new ≡ copy_sending self.old) }
         ensures err { OnErr result (self.new ≡ self.old) }
     {
-        let image = self.core.carried(alloc)?;
+        let image = self.core.carried_by(alloc, self.renewal)?;
         self.number += 1;
         self.sent = true;
         self.acknowledged = false;
@@ -44,7 +45,7 @@ impl<B: Behaviour> CopyControl<B> {
         ensures copy { self.new ≡ unwrap_or (copy_applying message.now self.old) self.old }
     {
         match self.role {
-            Role::Watching => {
+            Role::Watching | Role::Blank => {
                 let is_next = self.is_next_for(message);
                 self.apply_where(message, is_next)
             }
@@ -54,13 +55,13 @@ impl<B: Behaviour> CopyControl<B> {
 
     /// Applies a checkpoint that came as what changed since the one before it, or ignores it: its own receive table
     /// makes it whole. It answers whether it was applied. It takes no memory.
-    #[tactic(auto, using(crate::proofs::Roles::acting, crate::proofs::Roles::gone, crate::proofs::Roles::watching))]
+    #[tactic(auto, using(crate::proofs::Roles::by_role))]
     pub fn change_in(&mut self, change: &ChangeMessage) -> bool
         ensures told { result ≡ is_some (copy_changing change.now self.old) }
         ensures copy { self.new ≡ unwrap_or (copy_changing change.now self.old) self.old }
     {
         match self.role {
-            Role::Watching => {
+            Role::Watching | Role::Blank => {
                 let is_next = self.is_next(change.era, change.number);
                 self.change_where(change, is_next)
             }
@@ -92,6 +93,7 @@ impl<B: Behaviour> CopyControl<B> {
         }
         let applied = self.core.put_change(change);
         if applied {
+            self.role = Role::Watching;
             self.number = change.number;
         }
         applied
@@ -108,6 +110,7 @@ impl<B: Behaviour> CopyControl<B> {
         }
         let applied = self.core.put(&message.image);
         if applied {
+            self.role = Role::Watching;
             self.number = message.number;
         }
         applied
@@ -120,11 +123,20 @@ impl<B: Behaviour> CopyControl<B> {
         self.sent && taken.era == self.era && taken.number == self.number
     }
 
-    /// What it sent last was taken.
+    /// What it sent last was taken: it has sent everything, if it had to.
     pub fn acked(&mut self)
-        ensures { self.new ≡ record self.old { acknowledged = true } }
+        ensures { self.new ≡ copy_told self.old }
     {
         self.acknowledged = true;
+        self.renewal = false;
+    }
+
+    /// What it has sent elsewhere than at a checkpoint comes to its end.
+    pub fn end(&mut self)
+        ensures { self.new ≡ copy_ending self.old }
+    {
+        self.sent = false;
+        self.acknowledged = false;
     }
 
     /// Goes on after its checkpoint.
@@ -147,6 +159,26 @@ impl<B: Behaviour> CopyControl<B> {
         self.role = Role::Acting;
         self.era += 1;
         self.number = 0;
+    }
+
+    /// The processor of the other copy was loaded again: everything is to be sent to it. The number of the next era has
+    /// 32 bits.
+    pub fn renew(&mut self)
+        requires { HasNext self.old.era }
+        ensures { self.new ≡ copy_renewed self.old }
+    {
+        self.era += 1;
+        self.number = 0;
+        self.sent = false;
+        self.acknowledged = false;
+        self.renewal = true;
+    }
+
+    /// Nothing more is to be sent to the other copy, whose processor is marked.
+    pub fn end_renewal(&mut self)
+        ensures { self.new ≡ record self.old { renewal = false } }
+    {
+        self.renewal = false;
     }
 
     /// Its processor stops.

@@ -11,7 +11,7 @@ ghost use Rattle.checkpoint_image.specs.declared.receive.RequestStanding.TheVari
 ghost use Rattle.sync_ids.specs.Tables.{IsDepth};
 ghost use Rattle.world_semantics.specs.Core.{core_acting, core_getting, core_going, next_on};
 ghost use Rattle.process_control.specs.Cores.{core_taking, asking_of, core_asking, answering_of, core_answering};
-ghost use Rattle.process_control.specs.Copies.{copy_at_start, with_core};
+ghost use Rattle.process_control.specs.Copies.{copy_at_start, copy_blank, with_core};
 
 use crate::inside::CopyCore;
 use crate::told::{Answering, Asking};
@@ -32,6 +32,7 @@ pub struct CopyControl<B: Behaviour> {
     pub(crate) number: u32,
     pub(crate) sent: bool,
     pub(crate) acknowledged: bool,
+    pub(crate) renewal: bool,
     pub(crate) core: CopyCore<B>,
 }
 
@@ -50,6 +51,7 @@ impl<B: Behaviour> Model for CopyControl<B> {
       number = copy.number;
       sent = copy.sent;
       acknowledged = copy.acknowledged;
+      renewal = copy.renewal;
       core = copy.core.core;
       depths = copy.core.depths;
     } };
@@ -79,8 +81,30 @@ impl<B: Behaviour> CopyControl<B> {
             number: 0,
             sent: false,
             acknowledged: false,
+            renewal: false,
             core,
         })
+    }
+
+    /// The blank copy of a process at its beginning, in a processor that was loaded again: in this era.
+    pub fn blank(
+        alloc: Global,
+        behaviour: B,
+        era: u32,
+        openers: &[OpenerSpec],
+        files: u8,
+    ) -> Result<CopyControl<B>, NoMemory>
+        requires whole { IsWholeProcess (B.state behaviour) }
+        requires free { in_hand (B.state behaviour) ≡ false }
+        requires files { files ≡ files_of (B.state behaviour) }
+        requires few_files { files ≤ 8 }
+        requires few_openers { length openers.now < 4096 }
+        requires depths { All (λ opener. IsDepth opener.depth) openers.now }
+        ensures { IfOk result (λ copy. copy ≡ copy_blank era (B.state behaviour) files openers.now) }
+    {
+        let mut copy = CopyControl::start(alloc, behaviour, Role::Blank, openers, files)?;
+        copy.era = era;
+        Ok(copy)
     }
 
     pub fn role(&self) -> Role
@@ -102,7 +126,7 @@ impl<B: Behaviour> CopyControl<B> {
         self.number
     }
 
-    /// Whether it has sent the checkpoint at which it stands.
+    /// Whether it has sent a checkpoint where it stands.
     pub fn sent(&self) -> bool
         ensures { result ≡ self.now.sent }
     {
@@ -114,6 +138,13 @@ impl<B: Behaviour> CopyControl<B> {
         ensures { result ≡ self.now.acknowledged }
     {
         self.acknowledged
+    }
+
+    /// Whether it has to send everything that it has.
+    pub fn renewal(&self) -> bool
+        ensures { result ≡ self.now.renewal }
+    {
+        self.renewal
     }
 
     /// Where its process stands.

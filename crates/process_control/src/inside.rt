@@ -10,7 +10,8 @@ ghost use Rattle.checkpoint_image.specs.Behaving.{last_write_of};
 ghost use Rattle.checkpoint_image.specs.Receive.{standing};
 ghost use Rattle.checkpoint_image.specs.declared.receive.RequestStanding.TheVariants.{Next};
 ghost use Rattle.sync_ids.specs.Tables.{IsDepth};
-ghost use Rattle.world_semantics.specs.Core.{after_passing, carried, core_acting, core_getting, core_going, next_on};
+ghost use Rattle.world_semantics.specs.Core.{after_passing, carried, carried_by, carried_whole, core_acting};
+ghost use Rattle.world_semantics.specs.Core.{core_getting, core_going, next_on};
 ghost use Rattle.process_control.specs.Cores.{core_at_start, core_taking, asking_of, core_asking, answering_of};
 ghost use Rattle.process_control.specs.Cores.{core_answering, core_with_change};
 ghost use Rattle.computed_changes.specs.Fitting.{put_fitting};
@@ -185,7 +186,34 @@ impl<B: Behaviour> CopyCore<B> {
         self.behaviour.device_done(found);
     }
 
-    pub fn carried(&self, alloc: Global) -> Result<Image, NoMemory>
+    /// What a checkpoint carries: everything, or what the process names at its checkpoint.
+    pub fn carried_by(&self, alloc: Global, everything: bool) -> Result<Image, NoMemory>
+        requires { everything ≡ false → point self.now.core.state ≡ AtCheckpoint }
+        ensures { IfOk result (λ image. image ≡ carried_by everything self.now.core) }
+    {
+        if everything {
+            let image = self.carried_whole(alloc)?;
+            return Ok(image);
+        }
+        let image = self.carried(alloc)?;
+        Ok(image)
+    }
+
+    fn carried_whole(&self, alloc: Global) -> Result<Image, NoMemory>
+        ensures { IfOk result (λ image. image ≡ carried_whole self.now.core) }
+    {
+        let listed = self.behaviour.everything();
+        let body = self.behaviour.image(alloc, listed)?;
+        let files = numbers_of(alloc, &self.asker, listed.files.as_slice())?;
+        let receive = self.receive.block(alloc)?;
+        Ok(Image {
+            body,
+            files,
+            receive,
+        })
+    }
+
+    fn carried(&self, alloc: Global) -> Result<Image, NoMemory>
         requires { point self.now.core.state ≡ AtCheckpoint }
         ensures { IfOk result (λ image. image ≡ carried self.now.core) }
     {

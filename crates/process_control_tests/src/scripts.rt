@@ -1,4 +1,6 @@
-use crate::steps::{answer, ask, learn, pass, repeat, send, take, take_over};
+use crate::steps::{
+    answer, ask, end, end_renewal, learn, pass, renew, repeat, send, take, take_over,
+};
 use crate::worded::words_of;
 use change_layout::from_words;
 use checkpoint_image::{Behaviour, ImageMessage};
@@ -29,6 +31,12 @@ pub enum ScriptStep<'a> {
     Repeat(u16, u32, i16),
     /// Takes over, into this era.
     TakeOver(u32),
+    /// Is to send everything, in this era.
+    Renew(u32),
+    /// What it has sent elsewhere than at a checkpoint comes to its end.
+    End,
+    /// Needn't send everything any more, though it hasn't.
+    EndRenewal,
 }
 
 /// Which of two copies makes a step.
@@ -86,6 +94,9 @@ fn play_step<B: Behaviour>(
         ScriptStep::Answer(opener, number, word) => Ok(answer(copy, opener, number, word)),
         ScriptStep::Repeat(opener, number, word) => repeat(alloc, copy, opener, number, word),
         ScriptStep::TakeOver(era) => Ok(take_over(copy, era)),
+        ScriptStep::Renew(era) => Ok(renew(copy, era)),
+        ScriptStep::End => Ok(end(copy)),
+        ScriptStep::EndRenewal => Ok(end_renewal(copy)),
     }
 }
 

@@ -56,6 +56,46 @@ pub fn start(
     Ok(copy)
 }
 
+/// The blank copy of a process at its beginning, in this era.
+fn start_blank(
+    alloc: Global,
+    kind: &Kind,
+    era: u32,
+    openers: &[OpenerSpec],
+) -> Result<CopyControl<Process>, Fail>
+    requires kind { IsLoadableKind kind.now }
+    requires few { length openers.now < 4096 }
+    requires depths { All (λ opener. IsDepth opener.depth) openers.now }
+{
+    let files = files_of(kind).len();
+    if files > 8 {
+        return Err(Fail::from("more files"));
+    }
+    let process = load(alloc, kind)?;
+    let copy = CopyControl::blank(alloc, process, era, openers, files as u8)?;
+    Ok(copy)
+}
+
+/// A copy that acts, of the process of a text at its start, and a blank one in this era.
+pub fn start_with_blank(
+    alloc: Global,
+    text: &[u8],
+    era: u32,
+    openers: &[OpenerSpec],
+) -> Result<Copies<Process>, Fail>
+    requires few { length openers.now < 4096 }
+    requires depths { All (λ opener. IsDepth opener.depth) openers.now }
+{
+    let kind = pair_of(alloc, text)?;
+    let first = start(alloc, &kind, Role::Acting, openers)?;
+    let second = start_blank(alloc, &kind, era, openers)?;
+    Ok(Copies {
+        first,
+        second,
+        sent: None,
+    })
+}
+
 /// Two copies of the process of a text at their start.
 pub fn start_both(
     alloc: Global,

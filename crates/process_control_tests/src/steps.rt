@@ -70,21 +70,20 @@ pub fn take<B: Behaviour>(
     }
 }
 
-/// Sends its checkpoint; none where it doesn't stand there.
+/// Sends its checkpoint, or everything; none where it doesn't stand at a checkpoint, and needn't send everything.
 pub fn send<B: Behaviour>(
     alloc: Global,
     copy: &mut CopyControl<B>,
 ) -> Result<Option<ImageMessage>, NoMemory> {
-    match settled(copy) {
-        Point::AtCheckpoint if copy.number() < u32::MAX => {
-            let message = copy.checkpoint_out(alloc, 1)?;
-            Ok(Some(message))
-        }
-        _ => Ok(None),
+    let point = settled(copy);
+    if copy.number() == u32::MAX || (!copy.renewal() && point != Point::AtCheckpoint) {
+        return Ok(None);
     }
+    let message = copy.checkpoint_out(alloc, 1)?;
+    Ok(Some(message))
 }
 
-/// Learns that what it sent last was taken.
+/// Learns that what it sent last was taken: it needn't send everything any more.
 pub fn learn<B: Behaviour>(copy: &mut CopyControl<B>) -> bool {
     let taken = TakenMessage {
         process: 1,
@@ -95,7 +94,7 @@ pub fn learn<B: Behaviour>(copy: &mut CopyControl<B>) -> bool {
         return false;
     }
     copy.acked();
-    copy.acknowledged()
+    copy.acknowledged() && !copy.renewal()
 }
 
 /// Goes on after its checkpoint.
@@ -185,4 +184,31 @@ pub fn take_over<B: Behaviour>(copy: &mut CopyControl<B>, era: u32) -> bool {
         }
         _ => false,
     }
+}
+
+/// Is to send everything, in this era.
+pub fn renew<B: Behaviour>(copy: &mut CopyControl<B>, era: u32) -> bool {
+    if copy.era() == u32::MAX {
+        return false;
+    }
+    copy.renew();
+    copy.renewal()
+        && copy.era() == era
+        && copy.number() == 0
+        && !copy.sent()
+        && !copy.acknowledged()
+}
+
+/// What it has sent comes to its end.
+pub fn end<B: Behaviour>(copy: &mut CopyControl<B>) -> bool {
+    let number = copy.number();
+    copy.end();
+    !copy.sent() && !copy.acknowledged() && copy.number() == number
+}
+
+/// Needn't send everything any more.
+pub fn end_renewal<B: Behaviour>(copy: &mut CopyControl<B>) -> bool {
+    let was_due = copy.renewal();
+    copy.end_renewal();
+    was_due && !copy.renewal()
 }

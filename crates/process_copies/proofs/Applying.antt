@@ -1,15 +1,18 @@
 -- A checkpoint that comes to a copy is the step that is defined.
-use Rattle.std.proofs.Common.{◌≡◌, true, [], ◌∷◌, Option, Some, None, is_some, refl, ap, subst, sym}
+use Rattle.std.proofs.Common.{◌≡◌, Bool, true, false, nat_lt, [], ◌∷◌, Option, Some, None, is_some, refl, ap, subst}
+use Rattle.std.proofs.Common.{sym}
 use Rattle.std.specs.Option.{option_map}
 use Rattle.checkpoint_image.specs.declared.message.ImageMessage.{ImageMessage}
 use Rattle.checkpoint_image.specs.declared.message.TakenMessage.{TakenMessage}
 use Rattle.world_semantics.specs.declared.which.Which.{Which}
 use Rattle.world_semantics.specs.declared.which.Which.TheVariants.{First, Second}
 use Rattle.world_semantics.specs.Core.{Core}
-use Rattle.world_semantics.specs.World.{copy_of}
+use Rattle.world_semantics.specs.World.{copy_of, other_of, with_copy}
+use Rattle.world_semantics.specs.Kept.{own_acts}
 use Rattle.world_semantics.specs.Messages.{Taking, sent_at}
-use Rattle.world_semantics.specs.Passes.{taken_of}
-use Rattle.computed_changes.specs.Checkpoints.{applied_step, checkpoint_step}
+use Rattle.world_semantics.specs.Passes.{point_at, taken_of}
+use Rattle.world_semantics.specs.Shares.{covered_where, covering_where, share_of, with_share}
+use Rattle.computed_changes.specs.Checkpoints.{applied_step, applied_step_where, checkpoint_step}
 use Rattle.node_copies.specs.Receiving.{copy_applying}
 use Rattle.world_semantics.specs.Records.{Records}
 use Rattle.node_copies.specs.Seen.{step_sendings}
@@ -32,14 +35,50 @@ covered_after k message before mid = covered_by k (taken_of message) before mid
 abbrev pub kept_after : Which → Records → Placed → Records
 kept_after k before mid = record before { kept = (other_covering k mid before.kept).kept }
 
+-- told of whether the other copy is behind the kept acts: the share of that copy, and the base
+abbrev covered_put : Which → ImageMessage → Records → Core → Placed → Bool → Placed
+covered_put k message before core old behind =
+    let mid = put k message core old in
+    let other = copy_of (other_of k) mid.pair in
+    record mid {
+      pair =
+          with_copy (other_of k)
+          (with_share (covering_where mid.number (point_at other) before.kept (share_of other) behind).share other)
+          (record mid.pair {
+            base = covered_where mid.number (point_at other) before.kept (share_of other) behind;
+            takens = taken_of message ∷ mid.pair.takens;
+          });
+    }
+
+abbrev kept_put : Which → Records → Placed → Bool → Records
+kept_put k before old behind =
+    let other = copy_of (other_of k) old.pair in
+    record before { kept = (covering_where old.number (point_at other) before.kept (share_of other) behind).kept }
+
+settles-where : (k : Which) (old : Placed) (message : ImageMessage) (before : Records) (core : Core)
+    (step : StepOutcome) (behind : Bool)
+    → step_sendings step ≡ Some (sent_at (copy_of k (put k message core old).pair).processor
+    (Taking (taken_of message) ∷ []))
+    → Settles (Some (applied_step_where old.number k old.pair before message core behind)) old before step
+    (covered_put k message before core old behind)
+    (kept_put k before old behind)
+settles-where First old message before core step true told = (told, refl, refl)
+settles-where First old message before core step false told = (told, refl, refl)
+settles-where Second old message before core step true told = (told, refl, refl)
+settles-where Second old message before core step false told = (told, refl, refl)
+
 settles-put : (k : Which) (old : Placed) (message : ImageMessage) (before : Records) (core : Core) (step : StepOutcome)
     → step_sendings step ≡ Some (sent_at (copy_of k (put k message core old).pair).processor
     (Taking (taken_of message) ∷ []))
     → Settles (Some (applied_step old.number k old.pair before message core)) old before step
     (covered_after k message before (put k message core old))
     (kept_after k before (put k message core old))
-settles-put First old message before core step told = (told, refl, refl)
-settles-put Second old message before core step told = (told, refl, refl)
+settles-put First old message before core step told =
+    settles-where First old message before core step
+    (nat_lt old.pair.second.position (own_acts old.number before.kept)) told
+settles-put Second old message before core step told =
+    settles-where Second old message before core step
+    (nat_lt old.pair.first.position (own_acts old.number before.kept)) told
 
 settles-mid : (old mid : Placed) (k : Which) (message : ImageMessage) (before : Records) (step : StepOutcome)
     (core : Option Core)

@@ -12,6 +12,7 @@ use Rattle.disc_device.specs.mirror.specs.declared.state.DriveState.{DriveState}
 use Rattle.machine_states.specs.Drives.{states_at_boot}
 use Rattle.world_semantics.specs.declared.role.Role.{Role}
 use Rattle.world_semantics.specs.declared.role.Role.TheVariants.{Acting, Watching}
+use Rattle.world_semantics.specs.declared.which.Which.TheVariants.{First}
 use Rattle.world_semantics.specs.Core.{core_at_boot}
 use Rattle.world_semantics.specs.World.{Copy, copy_at_boot, device_at_boot}
 use Rattle.node_copies.specs.process_control.specs.Cores.{core_at_start}
@@ -49,6 +50,7 @@ Put site number first second checkpoints takens sectors drives = record {
     checkpoints = checkpoints;
     takens = takens;
     sectors = sectors;
+    led = First;
   };
   drives = drives;
 }

@@ -1,5 +1,5 @@
 -- The steps of a process, by what its copies do.
-use Rattle.std.proofs.Common.{◌≡◌, ◌≢◌, ℕ, List, Option, Some, None, refl, ap, ap₂, sym, subst}
+use Rattle.std.proofs.Common.{◌≡◌, ◌≢◌, ℕ, Bool, false, not, List, Option, Some, None, refl, ap, ap₂, sym, subst}
 use Rattle.tal_tree.specs.declared.site.Site.{Site}
 use Rattle.process_semantics.specs.declared.point.Point.{Point}
 use Rattle.process_semantics.specs.declared.point.Point.TheVariants as point
@@ -7,7 +7,7 @@ use Rattle.disc_device.specs.Sectors.{Stored}
 use Rattle.world_semantics.specs.declared.which.Which.{Which}
 use Rattle.world_semantics.specs.declared.which.Which.TheVariants.{First, Second}
 use Rattle.world_semantics.specs.Messages.{Sending}
-use Rattle.world_semantics.specs.World.{Down, Pair}
+use Rattle.world_semantics.specs.World.{Down, Pair, copy_of, has_noted, other_of}
 use Rattle.node_copies.specs.Acting.{HasActed, Scene}
 use Rattle.world_semantics.specs.Records.{Records}
 use Rattle.node_copies.specs.Seen.{CopyAndDepths, step_sendings}
@@ -15,7 +15,8 @@ use Rattle.node_copies.specs.declared.step.StepOutcome.{StepOutcome}
 use Rattle.node_copies.specs.declared.step.StepOutcome.TheVariants.{Impossible}
 use Rattle.process_copies.specs.Acting.{HasStepped, step_by_act}
 use Rattle.process_copies.specs.Seen.{Placed, sent_by}
-use Rattle.world_semantics.specs.Running.{Own, Stepped, first_step, own_of, step_at}
+use Rattle.world_semantics.specs.Running.{Own, Stepped, first_step, free_step, renewing_step, sending_step}
+use Rattle.world_semantics.specs.Running.{step_at, step_if}
 
 -- One copy, else the other one
 
@@ -52,7 +53,7 @@ first-steps (Some made) other step sent before after records now told h = h
 pub at-other : (site : Site) (number : ℕ) (k : Which) (pair : Pair) (marks : List Down) (records : Records)
     (stands : Point) → stands ≢ point.AtCheckpoint
     → step_at site number k pair marks records stands
-    ≡ step_by_act number k pair records (own_of site number k pair records stands)
+    ≡ free_step site number k pair marks records stands (copy_of k pair).sent (copy_of k pair).renewal
 at-other site number k pair marks records point.AtCheckpoint other = absurd (other refl)
 at-other site number k pair marks records point.Inner other = refl
 at-other site number k pair marks records point.Take other = refl
@@ -61,6 +62,24 @@ at-other site number k pair marks records point.Await other = refl
 at-other site number k pair marks records point.Answer other = refl
 at-other site number k pair marks records point.Device other = refl
 at-other site number k pair marks records point.Ended other = refl
+
+-- whether a copy's node hasn't marked the other copy's processor
+abbrev pub is_heard : Which → Pair → List Down → Bool
+is_heard k pair marks =
+    not (has_noted marks (copy_of k pair).processor (copy_of (other_of k) pair).processor)
+
+pub renews-other : (number : ℕ) (k : Which) (pair : Pair) (marks : List Down) (records : Records) (stands : Point)
+    → stands ≢ point.Await
+    → renewing_step number k pair marks records stands
+    ≡ step_if (is_heard k pair marks) (sending_step number k pair records)
+renews-other number k pair marks records point.Await other = absurd (other refl)
+renews-other number k pair marks records point.AtCheckpoint other = refl
+renews-other number k pair marks records point.Inner other = refl
+renews-other number k pair marks records point.Take other = refl
+renews-other number k pair marks records point.Ask other = refl
+renews-other number k pair marks records point.Answer other = refl
+renews-other number k pair marks records point.Device other = refl
+renews-other number k pair marks records point.Ended other = refl
 
 -- Acts
 

@@ -1,5 +1,6 @@
 pub mod Acting
 pub mod Receiving
+pub mod Reloading
 pub mod Seen
 pub mod Starting
 pub mod Turning

@@ -8,7 +8,7 @@ use Rattle.checkpoint_image.specs.declared.message.TakenMessage.{TakenMessage}
 use Rattle.tal_tree.specs.declared.act.Act.{Act}
 use Rattle.tal_tree.specs.declared.site.Site.{Site}
 use Rattle.world_semantics.specs.declared.role.Role.{Role}
-use Rattle.world_semantics.specs.declared.role.Role.TheVariants.{Acting, Watching, Gone}
+use Rattle.world_semantics.specs.declared.role.Role.TheVariants.{Acting, Watching, Blank, Gone}
 use Rattle.world_semantics.specs.declared.which.Which.{Which}
 use Rattle.world_semantics.specs.Core.{Core}
 use Rattle.world_semantics.specs.World.{Copy, Pair, copy_of, other_of, with_copy}
@@ -17,6 +17,7 @@ use Rattle.computed_changes.specs.Changed.{core_changing}
 use Rattle.computed_changes.specs.Checkpoints.{core_applying}
 use Rattle.computed_changes.specs.Replies.{awaits}
 use Rattle.world_semantics.specs.Shares.{Sharing, covered_count, share_after_cover, share_of, with_share}
+use Rattle.world_semantics.specs.Passes.{point_at}
 use Rattle.world_semantics.specs.Records.{Records}
 use Rattle.node_copies.specs.Seen.{step_sendings}
 use Rattle.node_copies.specs.declared.step.StepOutcome.{StepOutcome}
@@ -54,15 +55,21 @@ taken_by_change change = record { process = change.process; era = change.era; nu
 
 -- the share of the other copy after its checkpoint was applied, and the kept acts
 abbrev pub other_covering : Which → Placed → List Act → Sharing
-other_covering k old kept = share_after_cover old.number kept (share_of (copy_of (other_of k) old.pair))
+other_covering k old kept =
+    share_after_cover old.number (point_at (copy_of (other_of k) old.pair)) kept
+    (share_of (copy_of (other_of k) old.pair))
 
 -- the process after one of its copies applied a checkpoint, as far as the other copy and the process are concerned
 abbrev pub pair_covering : ℕ → Which → TakenMessage → List Act → Pair → Pair
 pair_covering number k taken kept pair =
-    with_copy (other_of k) (with_share (share_after_cover number kept (share_of (copy_of (other_of k) pair))).share
+    with_copy (other_of k)
+    (with_share (share_after_cover number (point_at (copy_of (other_of k) pair)) kept
+    (share_of (copy_of (other_of k) pair))).share
     (copy_of (other_of k) pair))
     (record pair {
-      base = covered_count number kept (share_of (copy_of (other_of k) pair));
+      base =
+          covered_count number (point_at (copy_of (other_of k) pair)) kept
+          (share_of (copy_of (other_of k) pair));
       takens = taken ∷ pair.takens;
     })
 
@@ -72,4 +79,5 @@ pair_covering number k taken kept pair =
 abbrev pub acts_at : ℕ → Role → ℕ → Bool
 acts_at node Acting at = at == node
 acts_at node Watching at = false
+acts_at node Blank at = false
 acts_at node Gone at = false

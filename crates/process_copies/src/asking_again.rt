@@ -29,7 +29,7 @@ impl ProcessCopies {
     {
         match self.role(which) {
             Role::Acting => self.processor(which) == node,
-            Role::Watching | Role::Gone => false,
+            Role::Watching | Role::Blank | Role::Gone => false,
         }
     }
 
@@ -129,6 +129,6 @@ fn waits_as(role: Role, sent: bool) -> bool
 {
     match role {
         Role::Acting => sent,
-        Role::Watching | Role::Gone => false,
+        Role::Watching | Role::Blank | Role::Gone => false,
     }
 }

@@ -4,7 +4,7 @@ ghost use Rattle.disc_device.specs.mirror.specs.States.{standing};
 ghost use Rattle.node_copies.specs.Seen.{drives_on, sectors_on};
 ghost use Rattle.process_semantics.specs.Process.{point};
 ghost use Rattle.plain_semantics.specs.Openers.{openers_of};
-ghost use Rattle.world_semantics.specs.World.{copy_of};
+ghost use Rattle.world_semantics.specs.World.{copy_of, is_acting, is_pair_of, is_watching};
 ghost use Rattle.node_copies.specs.sendings.specs.letters.specs.Routes.{other_end};
 ghost use Rattle.computed_changes.specs.Changed.{one_before};
 ghost use Rattle.computed_changes.specs.Handed.{copy_in};
@@ -22,9 +22,9 @@ use std::snapshot::Snapshot;
 use tal_tree::{OpenerSpec, Site};
 use world_semantics::{Role, Which};
 
-/// A process in its place in a site: its two copies in their processors, how many kept acts the last checkpoint covers,
-/// the last two checkpoints that its copies sent, and its device, if it is a disc. All that they ever sent, and which
-/// of them were taken, are seen by contracts alone.
+/// A process in its place in a site: its two copies in their processors, which of them leads, how many kept acts the
+/// last checkpoint covers, the last two checkpoints that its copies sent, and its device, if it is a disc. All that they
+/// ever sent, and which of them were taken, are seen by contracts alone.
 #[derive(Drop)]
 pub struct ProcessCopies {
     pub(crate) site: Snapshot<Site>,
@@ -33,6 +33,7 @@ pub struct ProcessCopies {
     pub(crate) files: List<Option<Address>>,
     pub(crate) first: NodeCopy,
     pub(crate) second: NodeCopy,
+    pub(crate) led: Which,
     pub(crate) base: u64,
     pub(crate) checkpoints: SentCheckpoints,
     pub(crate) takens: GhostLog<TakenMessage>,
@@ -62,6 +63,7 @@ impl Model for ProcessCopies {
         checkpoints = process.checkpoints;
         takens = process.takens;
         sectors = sectors_on process.device;
+        led = process.led;
       };
       drives = drives_on process.device;
     } };
@@ -93,6 +95,24 @@ impl ProcessCopies {
         match which {
             Which::First => &self.first,
             Which::Second => &self.second,
+        }
+    }
+
+    /// The copy that leads.
+    pub fn led(&self) -> Which
+        ensures { result ≡ self.now.pair.led }
+    {
+        self.led
+    }
+
+    /// Whether one of its copies acts and the other one watches.
+    pub fn is_pair(&self) -> bool
+        ensures { result ≡ is_pair_of self.now.pair.first.role self.now.pair.second.role }
+    {
+        match self.first.role() {
+            Role::Acting => is_watching(self.second.role()),
+            Role::Watching => is_acting(self.second.role()),
+            Role::Blank | Role::Gone => false,
         }
     }
 
@@ -191,5 +211,23 @@ impl ProcessCopies {
         } else {
             self.first.processor()
         }
+    }
+}
+
+pub(crate) fn is_watching(role: Role) -> bool
+    ensures { result ≡ is_watching role }
+{
+    match role {
+        Role::Watching => true,
+        Role::Acting | Role::Blank | Role::Gone => false,
+    }
+}
+
+fn is_acting(role: Role) -> bool
+    ensures { result ≡ is_acting role }
+{
+    match role {
+        Role::Acting => true,
+        Role::Watching | Role::Blank | Role::Gone => false,
     }
 }

@@ -9,7 +9,7 @@ ghost use Rattle.node_copies.specs.number_ranges.specs.HasRoom.{CopyHasRoom, Pai
 ghost use Rattle.node_copies.specs.sendings.specs.Seen.{message_of};
 ghost use Rattle.world_semantics.specs.World.{copy_of, other_of};
 ghost use Rattle.world_semantics.specs.Messages.{Replying, Taking, sent_at};
-ghost use Rattle.world_semantics.specs.Passes.{taken_of};
+ghost use Rattle.world_semantics.specs.Passes.{after_told, point_at, taken_of};
 ghost use Rattle.computed_changes.specs.Changed.{change_step, change_step_on};
 ghost use Rattle.computed_changes.specs.Checkpoints.{checkpoint_step, is_of_last, taken_step, taken_step_where};
 ghost use Rattle.computed_changes.specs.Handed.{step_by, step_on};
@@ -102,7 +102,7 @@ impl ProcessCopies {
     {
         match self.role(which) {
             Role::Acting => self.request_acting(which, request),
-            Role::Watching => {
+            Role::Watching | Role::Blank => {
                 self.arrive_watching(which, request);
                 StepOutcome::Quiet
             }
@@ -160,7 +160,7 @@ impl ProcessCopies {
                 let step = self.reply_acting(which, reply, records)?;
                 Ok(step)
             }
-            Role::Watching | Role::Gone => Ok(StepOutcome::Impossible),
+            Role::Watching | Role::Blank | Role::Gone => Ok(StepOutcome::Impossible),
         }
     }
 
@@ -292,7 +292,8 @@ impl ProcessCopies {
     /// The checkpoint of the other copy is kept, with what that copy held. Answers the base.
     fn cover_other(&mut self, which: Which, records: &mut Records) -> Result<u64, NoMemory>
         ensures base { IfOk result (λ base. base
-            ≡ covered_count self.old.number records.old.kept (share_of (copy_of (other_of which) self.old.pair))) }
+            ≡ covered_count self.old.number (point_at (copy_of (other_of which) self.old.pair)) records.old.kept
+            (share_of (copy_of (other_of which) self.old.pair))) }
         ensures process { OnOk result (self.new ≡ placed_with (other_of which)
             (with_share (other_covering which self.old records.old.kept).share
             (copy_of (other_of which) self.old.pair)) self.old) }
@@ -378,7 +379,7 @@ impl ProcessCopies {
     {
         match self.role(which) {
             Role::Acting => self.taken_acting(which, taken),
-            Role::Watching | Role::Gone => StepOutcome::Impossible,
+            Role::Watching | Role::Blank | Role::Gone => StepOutcome::Impossible,
         }
     }
 
@@ -408,7 +409,7 @@ impl ProcessCopies {
     }
 
     fn acked(&mut self, which: Which)
-        ensures { self.new ≡ placed_with which (record (copy_of which self.old.pair) { acknowledged = true }) self.old }
+        ensures { self.new ≡ placed_with which (after_told (copy_of which self.old.pair)) self.old }
     {
         match which {
             Which::First => self.first.acked(),

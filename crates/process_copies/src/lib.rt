@@ -3,14 +3,15 @@
 //! Below stand `node_copies` with one copy and the records of what happened, `disc_device` with sectors, and `sendings`
 //! with messages. The layer above uses that each call makes of the process and the records what the world of copies
 //! computes for one process: the step where it runs (`world_semantics`), that of a message that comes
-//! (`computed_changes`), and what its definitions say of stops and marks. What may raise numbers requires that they
-//! have successors (`number_ranges`). A request that comes in must name an opener that is there.
+//! (`computed_changes`), and what its definitions say of stops, marks and reloads. What may raise numbers requires that
+//! they have successors (`number_ranges`). A request that comes in must name an opener that is there.
 #![tactic(auto)]
 
 mod asking_again;
 pub mod copies;
 mod handing;
 pub mod marking;
+pub mod reloading;
 mod running;
 pub mod sent;
 mod starting;
@@ -22,6 +23,7 @@ pub use disc_device;
 pub use machine_states;
 pub use node_copies;
 pub use node_copies::{file_calls, kept_acts, process_control, processes};
+pub use reloading::BlankCopies;
 pub use schedule;
 pub use sent::SentCheckpoints;
 pub use starting::address_of;

@@ -1,22 +1,22 @@
 ghost use Rattle.std.specs.Prelude.{◌≡◌, ◌++◌, OnOk};
 ghost use Rattle.world_semantics.specs.declared.role.Role.TheVariants.{Watching};
 ghost use Rattle.world_semantics.specs.World.{copy_of, other_of};
-ghost use Rattle.world_semantics.specs.Rules.{after_takeover, is_watching, pair_at_down, stopped_pair, taken_over};
-ghost use Rattle.world_semantics.specs.Rules.{taker, takes_over, told_again, told_at_down};
+ghost use Rattle.world_semantics.specs.Rules.{after_takeover, pair_after_down, pair_at_down, renewals_ended};
+ghost use Rattle.world_semantics.specs.Rules.{stopped_pair, taken_over, taker, takes_over, told_again, told_at_down};
 ghost use Rattle.world_semantics.specs.Shares.{closed_by};
 ghost use Rattle.node_copies.specs.number_ranges.specs.HasRoom.{CopyHasRoom};
 ghost use Rattle.process_copies.specs.Receiving.{placed_with};
 ghost use Rattle.world_semantics.specs.Shares.{let_go};
 
-use crate::copies::ProcessCopies;
+use crate::copies::{ProcessCopies, is_watching};
 use gd_words::{List, NoMemory};
 use node_copies::Records;
 use node_copies::sendings::Sending;
-use world_semantics::{Role, Which};
+use world_semantics::Which;
 
 impl ProcessCopies {
-    /// A node marks a processor: a copy there that watches the one in that processor takes over. What it sends again is
-    /// added to `told`.
+    /// A node marks a processor: a copy there that watches the one in that processor takes over, and none there has to
+    /// send anything to that one any more. What is sent again is added to `told`.
     pub fn mark(
         &mut self,
         node: u8,
@@ -31,6 +31,26 @@ impl ProcessCopies {
         ensures site { self.new.site ≡ self.old.site }
         ensures number { self.new.number ≡ self.old.number }
     {
+        self.take_over_from(node, processor, told)?;
+        self.end_renewals(node, processor);
+        Ok(())
+    }
+
+    /// A copy on a node that watches the one in a processor takes over, if there is one.
+    fn take_over_from(
+        &mut self,
+        node: u8,
+        processor: u8,
+        told: &mut List<Sending>,
+    ) -> Result<(), NoMemory>
+        requires watching { (k : Which) → (copy_of k self.old.pair).role ≡ Watching
+            → CopyHasRoom (copy_of k self.old.pair) }
+        ensures process { OnOk result (self.new ≡ record self.old
+            { pair = pair_after_down (taker node processor self.old.pair) self.old.pair }) }
+        ensures told { OnOk result (told.new ≡ told.old ++ told_at_down node processor self.old.pair) }
+        ensures site { self.new.site ≡ self.old.site }
+        ensures number { self.new.number ≡ self.old.number }
+    {
         match self.taker(node, processor) {
             None => Ok(()),
             Some(which) => {
@@ -38,6 +58,16 @@ impl ProcessCopies {
                 Ok(())
             }
         }
+    }
+
+    /// A node marks a processor: no copy there has to send anything any more to one in that processor.
+    fn end_renewals(&mut self, node: u8, processor: u8)
+        ensures { self.new ≡ record self.old { pair = renewals_ended node processor self.old.pair } }
+    {
+        let first = self.first.processor();
+        let second = self.second.processor();
+        self.first.end_renewal(node, processor, second);
+        self.second.end_renewal(node, processor, first);
     }
 
     /// Which copy takes over where a node marks a processor.
@@ -112,14 +142,5 @@ impl ProcessCopies {
         self.first.close(records)?;
         self.second.close(records)?;
         Ok(())
-    }
-}
-
-fn is_watching(role: Role) -> bool
-    ensures { result ≡ is_watching role }
-{
-    match role {
-        Role::Watching => true,
-        Role::Acting | Role::Gone => false,
     }
 }

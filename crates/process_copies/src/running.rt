@@ -1,14 +1,15 @@
-ghost use Rattle.std.specs.Prelude.{◌≡◌, Some, length, IfOk, OnOk};
+ghost use Rattle.std.specs.Prelude.{◌≡◌, List, Some, false, length, not, true, IfOk, OnOk};
 ghost use Rattle.process_semantics.specs.Process.{point};
-ghost use Rattle.world_semantics.specs.World.{copy_of, may_pass};
+ghost use Rattle.world_semantics.specs.World.{Down, copy_of, has_noted, may_pass, other_of};
 ghost use Rattle.gd_words.specs.Ranges.{HasNext};
 ghost use Rattle.node_copies.specs.number_ranges.specs.HasRoom.{CopyHasRoom, PairHasRoom};
 ghost use Rattle.world_semantics.specs.Records as happened;
 ghost use Rattle.node_copies.specs.Seen.{step_sendings};
 ghost use Rattle.process_copies.specs.Acting.{HasStepped, step_by_act};
 ghost use Rattle.process_copies.specs.Seen.{placed_after, records_after, sent_by};
-ghost use Rattle.world_semantics.specs.Running.{mark_step, own_of, passing_step, sending_step, step_as, step_at};
-ghost use Rattle.world_semantics.specs.Running.{step_of, step_of_copy};
+ghost use Rattle.world_semantics.specs.Running.{ending_step, free_step, mark_step, own_of, passing_step};
+ghost use Rattle.world_semantics.specs.Running.{renewing_step, sending_step, step_as, step_at, step_if, step_of};
+ghost use Rattle.world_semantics.specs.Running.{step_of_copy};
 
 use crate::copies::ProcessCopies;
 use gd_words::NoMemory;
@@ -112,7 +113,7 @@ impl ProcessCopies {
                 };
                 Ok(step)
             }
-            Role::Watching | Role::Gone => Ok(StepOutcome::Impossible),
+            Role::Watching | Role::Blank | Role::Gone => Ok(StepOutcome::Impossible),
         }
     }
 
@@ -141,7 +142,93 @@ impl ProcessCopies {
                 Ok(step)
             }
             _ => {
-                let step = self.act(which, records, stands)?;
+                let sent = self.sent(which);
+                let renewal = self.renewal(which);
+                let step = self.run_free(alloc, which, marks, records, stands, sent, renewal)?;
+                Ok(step)
+            }
+        }
+    }
+
+    /// Elsewhere than at a checkpoint: what the copy has sent comes to its end, where it may; or it sends everything,
+    /// if it has to; or it does an act of its own.
+    fn run_free(
+        &mut self,
+        alloc: Global,
+        which: Which,
+        marks: &Downs,
+        records: &mut Records,
+        stands: Point,
+        sent: bool,
+        renewal: bool,
+    ) -> Result<StepOutcome, NoMemory>
+        requires point { point (copy_of which self.old.pair).core.state ≡ stands }
+        requires renewal { renewal ≡ (copy_of which self.old.pair).renewal }
+        requires room { CopyHasRoom (copy_of which self.old.pair) }
+        requires shown { HasNext (length records.old.shown) }
+        ensures stepped { IfOk result (λ step. HasStepped
+            (free_step self.old.site self.old.number which self.old.pair marks.now records.old stands sent renewal)
+            step self.old self.new records.old records.new) }
+        ensures site { self.new.site ≡ self.old.site }
+        ensures number { self.new.number ≡ self.old.number }
+    {
+        if sent {
+            let free = self.may_pass(which, marks);
+            return Ok(self.end_where(which, free));
+        }
+        if renewal {
+            let is_heard = !self.has_noted_other(which, marks);
+            let step = self.send_all(alloc, which, stands, is_heard)?;
+            return Ok(step);
+        }
+        let step = self.act(which, records, stands)?;
+        Ok(step)
+    }
+
+    /// What a copy has sent elsewhere than at a checkpoint comes to its end, where it may.
+    fn end_where(&mut self, which: Which, free: bool) -> StepOutcome
+        ensures stepped { (records : happened.Records) → HasStepped
+            (step_if free (ending_step self.old.number which self.old.pair records)) result self.old self.new records
+            records }
+        ensures site { self.new.site ≡ self.old.site }
+        ensures number { self.new.number ≡ self.old.number }
+    {
+        if !free {
+            return StepOutcome::Impossible;
+        }
+        match which {
+            Which::First => self.first.end(),
+            Which::Second => self.second.end(),
+        }
+        StepOutcome::Quiet
+    }
+
+    /// A copy sends everything, where it awaits no reply and its node hasn't marked the other copy's processor.
+    fn send_all(
+        &mut self,
+        alloc: Global,
+        which: Which,
+        stands: Point,
+        is_heard: bool,
+    ) -> Result<StepOutcome, NoMemory>
+        requires renewal { (copy_of which self.old.pair).renewal ≡ true }
+        requires room { CopyHasRoom (copy_of which self.old.pair) }
+        ensures stepped { (marks : List Down) (records : happened.Records)
+            → is_heard ≡ not (has_noted marks (copy_of which self.old.pair).processor
+            (copy_of (other_of which) self.old.pair).processor)
+            → IfOk result (λ step. HasStepped
+            (renewing_step self.old.number which self.old.pair marks records stands) step self.old self.new records
+            records) }
+        ensures site { self.new.site ≡ self.old.site }
+        ensures number { self.new.number ≡ self.old.number }
+    {
+        if !is_heard {
+            return Ok(StepOutcome::Impossible);
+        }
+        match stands {
+            Point::Await => Ok(StepOutcome::Impossible),
+            _ => {
+                let step = self.send(alloc, which)?;
                 Ok(step)
             }
         }
@@ -258,9 +345,10 @@ impl ProcessCopies {
         Ok(StepOutcome::Quiet)
     }
 
-    /// A copy sends its checkpoint.
+    /// A copy sends its checkpoint, or everything.
     fn send(&mut self, alloc: Global, which: Which) -> Result<StepOutcome, NoMemory>
-        requires point { point (copy_of which self.old.pair).core.state ≡ Point.AtCheckpoint }
+        requires point { (copy_of which self.old.pair).renewal ≡ false
+            → point (copy_of which self.old.pair).core.state ≡ Point.AtCheckpoint }
         requires room { CopyHasRoom (copy_of which self.old.pair) }
         ensures stepped { (records : happened.Records)
             → IfOk result (λ step. HasStepped (Some (sending_step self.old.number which self.old.pair records))

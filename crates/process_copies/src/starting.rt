@@ -21,7 +21,7 @@ use plain_semantics::{Opener, files_of, opener_of, openers};
 use std::alloc::Global;
 use std::snapshot::Snapshot;
 use tal_tree::{FileUse, Kind, ProcessSpec, Site, Who};
-use world_semantics::Role;
+use world_semantics::{Role, Which};
 
 impl ProcessCopies {
     /// The process of a number in a site at its beginning.
@@ -69,6 +69,7 @@ fn start_in(
         files,
         first,
         second,
+        led: Which::First,
         base: 0,
         checkpoints: SentCheckpoints::new(alloc),
         takens: GhostLog::new(alloc),

@@ -1,7 +1,9 @@
 ghost use Rattle.std.specs.Prelude.{◌≡◌, ℕ, is_some};
-ghost use Rattle.world_semantics.specs.World.{Pair, copy_of, may_pass};
+ghost use Rattle.world_semantics.specs.World.{Pair, copy_of, has_noted, may_pass, other_of};
 ghost use Rattle.world_semantics.specs.Records as happened;
-ghost use Rattle.world_semantics.specs.Running.{mark_step, own_of, step_as, step_at, step_of, step_of_copy};
+ghost use Rattle.world_semantics.specs.Running.{Stepped, free_step, mark_step, own_of, renewing_step, step_as, step_at};
+ghost use Rattle.world_semantics.specs.Running.{step_if, step_of};
+ghost use Rattle.world_semantics.specs.Running.{step_of_copy};
 
 use crate::copies::ProcessCopies;
 use node_copies::Downs;
@@ -16,6 +18,27 @@ impl ProcessCopies {
         match which {
             Which::First => self.first.sent(),
             Which::Second => self.second.sent(),
+        }
+    }
+
+    /// Whether a copy has to send everything that it has.
+    pub(crate) fn renewal(&self, which: Which) -> bool
+        ensures { result ≡ (copy_of which self.now.pair).renewal }
+    {
+        match which {
+            Which::First => self.first.renewal(),
+            Which::Second => self.second.renewal(),
+        }
+    }
+
+    /// Whether a copy's node has marked the other copy's processor.
+    pub(crate) fn has_noted_other(&self, which: Which, marks: &Downs) -> bool
+        ensures { result ≡ has_noted marks.now (copy_of which self.now.pair).processor
+            (copy_of (other_of which) self.now.pair).processor }
+    {
+        match which {
+            Which::First => marks.has(self.first.processor(), self.second.processor()),
+            Which::Second => marks.has(self.second.processor(), self.first.processor()),
         }
     }
 
@@ -65,7 +88,7 @@ impl ProcessCopies {
                 let stands = self.point(which);
                 self.can_run_at(which, marks, stands)
             }
-            Role::Watching | Role::Gone => false,
+            Role::Watching | Role::Blank | Role::Gone => false,
         }
     }
 
@@ -79,7 +102,46 @@ impl ProcessCopies {
                 let sent = self.sent(which);
                 can_go_on(free, sent)
             }
-            _ => self.can_act(which, stands),
+            _ => {
+                let sent = self.sent(which);
+                let renewal = self.renewal(which);
+                self.can_run_free(which, marks, stands, sent, renewal)
+            }
+        }
+    }
+
+    fn can_run_free(
+        &self,
+        which: Which,
+        marks: &Downs,
+        stands: Point,
+        sent: bool,
+        renewal: bool,
+    ) -> bool
+        ensures { (records : happened.Records) → result
+            ≡ is_some (free_step self.now.site self.now.number which self.now.pair marks.now records stands sent
+            renewal) }
+    {
+        if sent {
+            let free = self.may_pass(which, marks);
+            return is_step(free);
+        }
+        if renewal {
+            return self.can_send_all(which, marks, stands);
+        }
+        self.can_act(which, stands)
+    }
+
+    fn can_send_all(&self, which: Which, marks: &Downs, stands: Point) -> bool
+        ensures { (records : happened.Records) → result
+            ≡ is_some (renewing_step self.now.number which self.now.pair marks.now records stands) }
+    {
+        match stands {
+            Point::Await => false,
+            _ => {
+                let is_heard = !self.has_noted_other(which, marks);
+                is_step(is_heard)
+            }
         }
     }
 
@@ -92,6 +154,16 @@ impl ProcessCopies {
             Which::Second => self.second.can_act(stands),
         }
     }
+}
+
+/// Whether there is a step that is made where this holds.
+fn is_step(free: bool) -> bool
+    ensures { (step : Stepped) → result ≡ is_some (step_if free step) }
+{
+    if free {
+        return true;
+    }
+    false
 }
 
 /// Whether a copy at its checkpoint can go on, which may pass or not, and has sent its checkpoint or not.

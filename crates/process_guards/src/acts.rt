@@ -15,7 +15,13 @@ ghost use Rattle.process_guards.specs.Machines.{with_sectors, with_slot, writing
 /// no terminal has entered anything.
 pub fn a_machine_begins_empty()
     ensures { plain_start opened_site ≡ record {
-      processes = record { state = Serves 4 disc_start; hand = None; slots = Empty ∷ Empty ∷ []; sectors = replicate 4 (replicate 8 (pos 0)) }
+      processes =
+          record {
+            state = Serves 4 disc_start;
+            hand = None;
+            slots = Empty ∷ Empty ∷ [];
+            sectors = replicate 4 (replicate 8 (pos 0));
+          }
           ∷ record { state = start_of (kind.Pair opening); hand = None; slots = Empty ∷ []; sectors = [] } ∷ [];
       entered = 0 ∷ 0 ∷ [];
     } }
@@ -35,7 +41,8 @@ pub fn a_disc_steps_to_its_answer()
     ensures written { made disc_site (with_slot (serving point.Device (pos 2 ∷ pos 1 ∷ pos 7 ∷ [])) (Some 0) Taken 1)
         (Step 0)
         ≡ Some (record {
-          plain = with_sectors (zeros 8 ∷ (pos 7 ∷ replicate 7 (pos 0)) ∷ []) (with_slot (served 4 (pos 2 ∷ pos 1 ∷ pos 7 ∷ []) (pos 0 ∷ [])) (Some 0) Taken 1);
+          plain = with_sectors (zeros 8 ∷ (pos 7 ∷ replicate 7 (pos 0)) ∷ [])
+              (with_slot (served 4 (pos 2 ∷ pos 1 ∷ pos 7 ∷ []) (pos 0 ∷ [])) (Some 0) Taken 1);
           shown = Write 0 1 (pos 7 ∷ replicate 7 (pos 0)) ∷ [];
         }) }
     ensures answered { made disc_site (with_slot (served 3 (pos 9 ∷ []) (pos 1 ∷ [])) (Some 0) Taken 1) (Step 0)

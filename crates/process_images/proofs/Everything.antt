@@ -3,17 +3,22 @@ use Rattle.std.proofs.Common.{◌≡◌, inl, inr, ℕ, zero, suc, ◌+◌, Bool
 use Rattle.std.proofs.Common.{slice_get, refl, ap, sym, subst, ◌∙◌, arith}
 use Rattle.std.proofs.lemmas.Option.{same_Some}
 use Rattle.gd_words.specs.Members.{IsAmong, AreDistinct}
+use Rattle.tal_tree.specs.Named.{IsProcess}
 use Rattle.tal_tree.specs.Regular.{MayBeListed}
 use Rattle.tal_tree.specs.Shapes.{has_words}
+use Rattle.tal_tree.specs.declared.program.FileUse.{FileUse}
 use Rattle.tal_tree.specs.declared.program.Item.{Item}
 use Rattle.tal_tree.specs.declared.program.Program.{Program}
+use Rattle.tal_tree.specs.declared.program.Target.{Target}
+use Rattle.tal_tree.specs.declared.program.Target.TheVariants as target
 use Rattle.process_semantics.specs.declared.point.Point.TheVariants as point
 use Rattle.process_semantics.specs.Image.{imaged, image_of, restored}
 use Rattle.process_semantics.specs.Process as process
 use Rattle.process_semantics.specs.Process.{ProcessState, Runs, Serves}
 use Rattle.whole_states.specs.Listing.{MayList}
 use Rattle.whole_states.specs.Processes.{IsWholeProcess}
-use Rattle.process_images.specs.Images.{AreOfOne, AgreeBut, Agrees, listable_from, everything_of}
+use Rattle.process_images.specs.Images.{AreOfOne, AgreeBut, Agrees, listable_from, everything_of, asks_a_process}
+use Rattle.process_images.specs.Images.{asking_from, all_files_of}
 use Rattle.process_images.proofs.Processes.{restores}
 
 -- Each number is that of an item that may be listed, and stands once
@@ -53,6 +58,50 @@ distinct-list first (item ∷ items) = which (has_words item.shape) (distinct-li
         ((λ among. let is = from-list (first + 1) items first among in let same = is.is in omega (arith, same)), later)
     which false later = later
 
+-- Each number of a file is that of one that is opened to a process, and stands once
+
+record IsFileFrom (first : ℕ) (files : List FileUse) (k : ℕ) : Type 0 where
+  place : ℕ
+  is : k ≡ first + place
+  file : FileUse
+  there : slice_get files place ≡ Some file
+  asks : asks_a_process file.target ≡ true
+
+file-later : {first : ℕ} {files : List FileUse} {k : ℕ} (file : FileUse) → IsFileFrom (first + 1) files k
+    → IsFileFrom first (file ∷ files) k
+file-later file is = let same = is.is in
+    record { place = suc is.place; is = omega (arith, same); file = is.file; there = is.there; asks = is.asks }
+
+file-from : (first : ℕ) (files : List FileUse) (k : ℕ) → IsAmong k (asking_from first files) → IsFileFrom first files k
+file-from first [] k among = absurd among
+file-from first (file ∷ files) k among =
+    which (asks_a_process file.target) refl among (λ later. file-from (first + 1) files k later)
+  where
+    which : (b : Bool) → asks_a_process file.target ≡ b
+        → IsAmong k (if b then first ∷ asking_from (first + 1) files else asking_from (first + 1) files)
+        → (IsAmong k (asking_from (first + 1) files) → IsFileFrom (first + 1) files k)
+        → IsFileFrom first (file ∷ files) k
+    which true asks (inl same) later =
+        record { place = 0; is = omega (arith, same); file = file; there = refl; asks = asks }
+    which true asks (inr among) later = file-later file (later among)
+    which false asks among later = file-later file (later among)
+
+distinct-files : (first : ℕ) (files : List FileUse) → AreDistinct (asking_from first files)
+distinct-files first [] = tt
+distinct-files first (file ∷ files) = which (asks_a_process file.target) (distinct-files (first + 1) files)
+  where
+    which : (b : Bool) → AreDistinct (asking_from (first + 1) files)
+        → AreDistinct (if b then first ∷ asking_from (first + 1) files else asking_from (first + 1) files)
+    which true later =
+        ((λ among. let is = file-from (first + 1) files first among in let same = is.is in omega (arith, same)), later)
+    which false later = later
+
+opened-to : (program : Program) (k : ℕ) (file : FileUse) (to : Target) → file.target ≡ to
+    → slice_get program.files k ≡ Some file → asks_a_process to ≡ true → IsProcess program k
+opened-to program k file target.Receive is there asks = absurd (cc)
+opened-to program k file (target.Process name) is there asks =
+    record { opened = file; process = name; there = there; is = is }
+
 pub everything-listed : (s : ProcessState) → MayList s (everything_of s) []
 everything-listed (Runs program s) = record {
   distinct_items = distinct-list 0 program.items;
@@ -67,6 +116,18 @@ everything-listed (Runs program s) = record {
   files_there = λ k none. absurd none;
 }
 everything-listed (Serves sectors s) = (refl, refl)
+
+pub whole-listed : (s : ProcessState) → MayList s (everything_of s) (all_files_of s)
+whole-listed (Runs program s) = record {
+  distinct_items = (everything-listed (Runs program s)).distinct_items;
+  items_there = (everything-listed (Runs program s)).items_there;
+  distinct_files = distinct-files 0 program.files;
+  files_there = λ k among. let is = file-from 0 program.files k among in let same = is.is in
+      opened-to program k is.file is.file.target refl
+      (subst (λ (j : ℕ). slice_get program.files j ≡ Some is.file) (omega (arith, same)) is.there)
+      is.asks;
+}
+whole-listed (Serves sectors s) = (refl, refl)
 
 -- Each item that may be listed is there
 
@@ -94,7 +155,7 @@ everything-there program k may =
     subst (λ (n : ℕ). IsAmong n (listable_from 0 program.items)) (let same : 0 + k ≡ k = omega arith in same)
     (in-list 0 program.items k may.item may.there may.words)
 
-everything-agrees : (s t : ProcessState) → AreOfOne s t → Agrees (everything_of t) s t
+pub everything-agrees : (s t : ProcessState) → AreOfOne s t → Agrees (everything_of t) s t
 everything-agrees (Runs program s) (Runs other t) same = (
   same,
   subst (λ (p : Program). AgreeBut p (listable_from 0 other.items) s.globals t.globals) (sym same)

@@ -150,6 +150,13 @@ impl Behaviour for Process {
         }
     }
 
+    fn everything(&self) -> &Listed {
+        match self {
+            Process::Program(program) => program.everything(),
+            Process::Disc(disc) => disc.everything(),
+        }
+    }
+
     fn marked(&mut self) {
         match self {
             Process::Program(program) => program.marked(),

@@ -1,4 +1,4 @@
-ghost use Rattle.std.specs.Prelude.{◌≡◌, ◌++◌, ◌∷◌, [], slice_get, IfOk, OnOk};
+ghost use Rattle.std.specs.Prelude.{◌≡◌, ◌++◌, ◌∷◌, [], map, slice_get, IfOk, OnOk};
 ghost use Rattle.std.specs.Option.{option_map};
 ghost use Rattle.process_semantics.specs.SeenEntries.{entry_of};
 ghost use Rattle.program_entries.specs.Entries as spec;
@@ -39,6 +39,13 @@ impl<'a> ProgramEntries<'a> {
             return None;
         }
         self.nth(usize::from(number) - 1)
+    }
+
+    /// All of them, number 1 first.
+    pub fn as_slice(&self) -> &[Entry<'a>]
+        ensures { map entry_of result.now ≡ self.now }
+    {
+        self.all.as_slice()
     }
 
     fn nth(&self, place: usize) -> Option<Entry<'a>>

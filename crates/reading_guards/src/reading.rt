@@ -5,7 +5,7 @@ ghost use Rattle.report_reader.specs.DeckEnds.{deck_end};
 ghost use Rattle.report_reader.specs.Reading.{read_report};
 ghost use Rattle.report_reader.specs.Telling.{may_follow, told_by};
 ghost use Rattle.report_reader.specs.declared.told.Told.TheVariants as told;
-ghost use Rattle.reading_guards.specs.ReadSite.{site};
+ghost use Rattle.report_guards.specs.Sites.{site};
 
 /// A line of an act tells it where it is written just so and names what the site has; an opener has to be one of its
 /// process.

@@ -5,7 +5,8 @@ use Rattle.std.proofs.lemmas.List.{length-replicate}
 use Rattle.std.proofs.lemmas.Option.{slice_get_within}
 use Rattle.tal_tree.specs.declared.site.Site.{Site}
 use Rattle.schedule.specs.declared.event.Event.{Event}
-use Rattle.schedule.specs.declared.event.Event.TheVariants.{Run, Enter, Deliver, Lose, Repeat, Tick, Fail, Drive}
+use Rattle.schedule.specs.declared.event.Event.TheVariants.{Run, Enter, Deliver, Lose, Repeat, Tick, Fail, Reload}
+use Rattle.schedule.specs.declared.event.Event.TheVariants.{Drive}
 use Rattle.schedule.specs.declared.line.Line.{Line}
 use Rattle.player.specs.declared.stop.ProcessorStop.{ProcessorStop}
 use Rattle.packet_words.specs.declared.bus_name.BusName.{BusName}
@@ -14,12 +15,11 @@ use Rattle.world_semantics.specs.Running.{Done, run_done}
 use Rattle.world_semantics.specs.World.{is_running}
 use Rattle.agendas.specs.Agendas.{Agenda}
 use Rattle.computed_changes.specs.Entered.{enter_done}
-use Rattle.computed_changes.specs.Stopped.{stop_where, stopped_world}
+use Rattle.computed_changes.specs.Stopped.{reload_done, stop_done}
 use Rattle.machine_states.specs.States.{Makes, Played, Skips, State, Would, SecondStop, DiscLoss}
-use Rattle.message_wires.specs.Play.{has_stopped}
 use Rattle.packet_wires.specs.Play.{Packeted, Underway, acted, begun, deliver_acted, ended, fail_acted, line_of}
-use Rattle.packet_wires.specs.Play.{lose_acted, made_by, marks_and_declares, packet_at, play, pulled, pulls, pulls_its}
-use Rattle.packet_wires.specs.Play.{repeat_acted, taken_off, tick_acted}
+use Rattle.packet_wires.specs.Play.{lose_acted, made_by, packet_at, play, pulled, pulled_first, pulls, pulls_its}
+use Rattle.packet_wires.specs.Play.{reload_acted, repeat_acted, stop_acted, taken_off, tick_acted}
 use Rattle.packet_wires.specs.Runs.{IsPlayed, played_none, played_more, skipped}
 use Rattle.packet_wires.specs.Wires.{Midst, Wires, bus_named, ticked}
 use Rattle.packets_laws.proofs.Going as going
@@ -47,12 +47,15 @@ event-size s event next made = by (play s event) (play-goes s event) made
         → length next.world.stopped ≡ length s.world.stopped
     to-next it same size = subst (λ (m : Packeted). length m.world.stopped ≡ length s.world.stopped) same size
 
-    by : (all : Played Wires) → Goes s all → all ≡ Makes next → length next.world.stopped ≡ length s.world.stopped
+    by : (all : Played Wires) → Goes event s all → all ≡ Makes next
+        → length next.world.stopped ≡ length s.world.stopped
     by _ going.skips is = absurd (cc)
     by _ (going.would_harm harm) is = absurd (cc)
     by _ (going.stops_none {next = it} site stopped) is = to-next it (cc) (ap length stopped)
     by _ (going.stops_one {next = it} processor site first stopped) is =
         to-next it (cc) (ap length stopped ∙ length-set s.world.stopped processor true)
+    by _ (going.starts_one {next = it} processor loads site stopped) is =
+        to-next it (cc) (ap length stopped ∙ length-set s.world.stopped processor false)
 
 played-size : {site : Site} {events : List Event} {s : Packeted} → IsPlayed site events s
     → length s.world.stopped ≡ site.processors
@@ -85,18 +88,22 @@ repeat-there : (name : BusName) (s : Underway) (packet : Option Packet) → Stop
 repeat-there name s None = tt
 repeat-there name s (Some packet) = tt
 
--- one that runs, and would stop where another one has stopped
-one-there : (s : Underway) (processor : ℕ) (next : Underway) → slice_get s.world.stopped processor ≡ Some false
-    → (test : Bool) → StopsThere s (if test then Would (SecondStop processor) else Makes next)
-one-there s processor next at true = slice_get_within s.world.stopped processor false at
-one-there s processor next at false = tt
+-- one that runs, and would stop where the world isn't whole
+stop-there : (processor : ℕ) (s : Underway) → processor < length s.world.stopped → (done : Option Done)
+    → StopsThere s (stop_acted processor s done)
+stop-there processor s low None = low
+stop-there processor s low (Some done) = tt
 
 fail-there : (processor : ℕ) (s : Underway) (there : Option Bool) → slice_get s.world.stopped processor ≡ there
-    → StopsThere s (fail_acted processor s (stop_where processor s.world there))
+    → StopsThere s (fail_acted processor s there)
 fail-there processor s None at = tt
 fail-there processor s (Some true) at = tt
 fail-there processor s (Some false) at =
-    one-there s processor (record s { world = stopped_world processor s.world }) at (has_stopped s.world.stopped)
+    stop-there processor s (slice_get_within s.world.stopped processor false at) (stop_done processor s.world)
+
+reload-there : (processor : ℕ) (s : Underway) (done : Option Done) → StopsThere s (reload_acted processor s done)
+reload-there processor s None = tt
+reload-there processor s (Some done) = tt
 
 tick-there : (node : ℕ) (s : Underway) → StopsThere s (tick_acted node s)
 tick-there node s = by (is_running s.world.stopped node)
@@ -105,10 +112,12 @@ tick-there node s = by (is_running s.world.stopped node)
         → StopsThere s (pulled node processor (record s { wires = midst }) there)
     at midst processor None is = tt
     at midst processor (Some true) is = tt
-    at midst processor (Some false) is =
-        one-there s processor
-        (marks_and_declares node processor (record s { world = stopped_world processor s.world; wires = midst })) is
-        (has_stopped s.world.stopped)
+    at midst processor (Some false) is = first (stop_done processor s.world)
+      where
+        first : (done : Option Done)
+            → StopsThere s (pulled_first node processor (record s { wires = midst }) done)
+        first None = slice_get_within s.world.stopped processor false is
+        first (Some done) = tt
 
     line : (midst : Midst) (line : Option ℕ) → StopsThere s (pulls node (record s { wires = midst }) line)
     line midst None = tt
@@ -129,6 +138,7 @@ acted-there s (Repeat y k) = repeat-there (bus_named y) (begun s) (packet_at s (
 acted-there s (Tick node) = tick-there node (begun s)
 acted-there s (Fail processor) =
     fail-there processor (begun s) (slice_get s.world.stopped processor) refl
+acted-there s (Reload processor) = reload-there processor (begun s) (reload_done s.site processor s.world)
 acted-there s (Drive event) =
     drive-cases event (begun s) (StopsThere (begun s)) (λ drives. tt) tt (λ process. tt)
 

@@ -4,7 +4,8 @@ use Rattle.std.specs.Bool.{beq}
 use Rattle.std.specs.List.{remove}
 use Rattle.std.specs.Option.{option_to_list}
 use Rattle.schedule.specs.declared.event.Event.{Event}
-use Rattle.schedule.specs.declared.event.Event.TheVariants.{Run, Enter, Deliver, Lose, Repeat, Tick, Fail, Drive}
+use Rattle.schedule.specs.declared.event.Event.TheVariants.{Run, Enter, Deliver, Lose, Repeat, Tick, Fail, Reload}
+use Rattle.schedule.specs.declared.event.Event.TheVariants.{Drive}
 
 -- one more list behind it
 abbrev pub IsGrown : {P : Type 0} → List P → List P → Type 0
@@ -19,6 +20,7 @@ delivered_of {P} bus (Lose one k) packets = []
 delivered_of {P} bus (Repeat one k) packets = []
 delivered_of {P} bus (Tick node) packets = []
 delivered_of {P} bus (Fail processor) packets = []
+delivered_of {P} bus (Reload processor) packets = []
 delivered_of {P} bus (Drive event) packets = []
 
 abbrev pub without_one : {P : Type 0} → Bool → Bool → ℕ → List P → List P
@@ -33,6 +35,7 @@ Leaves {P} bus (Lose one k) before after = IsGrown (without_one bus one k before
 Leaves {P} bus (Repeat one k) before after = IsGrown before after
 Leaves {P} bus (Tick node) before after = IsGrown before after
 Leaves {P} bus (Fail processor) before after = after ≡ before
+Leaves {P} bus (Reload processor) before after = after ≡ before
 Leaves {P} bus (Drive event) before after = after ≡ before
 
 -- a machine with two buses

@@ -9,6 +9,7 @@ pub enum Event {
     Repeat { y: bool, k: u32 },
     Tick(u8),
     Fail(u8),
+    Reload(u8),
     Drive(DriveEvent),
 }
 

@@ -1,9 +1,5 @@
-ghost use Rattle.std.specs.Prelude.{◌≡◌, ◌≤◌, ◌<◌, ◌+◌, ◌-◌, None, Some};
-ghost use Rattle.std.specs.Bool.{OnFalse, OnTrue};
+ghost use Rattle.std.specs.Prelude.{◌≡◌, ◌≤◌, ◌<◌, ◌+◌, ◌-◌, ℕ, None, Some, false};
 ghost use Rattle.std.specs.Option.{IfSome, option_map};
-ghost use Rattle.schedule.specs.declared.event.Event.TheVariants as events;
-ghost use Rattle.machine_states.specs.States.{Settles};
-ghost use Rattle.machine_states.specs.declared.effect.Effect.TheVariants as effects;
 ghost use Rattle.player.specs.Lines.{begun, event_of, next_event, stands_after};
 ghost use Rattle.agendas.specs.Agendas.{agenda_of, coming, stopped_by};
 ghost use Rattle.schedule_loop.specs.Ends.{Course};
@@ -119,30 +115,31 @@ impl<'a> Schedule<'a> {
         ensures few { before + (packets - result) ≤ 4294967295 }
         ensures whole { M.is_broken machine.new ≡ M.is_broken machine.old }
     {
+        let kept = packets.saturating_sub(self.free_after(before));
         let mut left = packets;
-        let mut played = before;
-        while 0 < left {
-            if !self.deliver_next(y, played, machine) {
+        while kept < left {
+            if !machine.deliver_at_once(y) {
                 return left;
             }
             left -= 1;
-            played += 1;
         }
         left
     }
 
-    /// Delivers the first packet of a bus after so many events, if no stop comes before it and it can be done at once.
-    fn deliver_next<M: ScheduleMachine>(&self, y: bool, played: u32, machine: &mut M) -> bool
-        ensures free { OnTrue result ((coming self.now.agenda.stop played ≡ None) × (played < 4294967295)) }
-        ensures done { OnTrue result (Settles (M.rules.play (M.state machine.old) (events.Deliver y 0))
-            (M.state machine.old) effects.Done (M.state machine.new)) }
-        ensures same { OnFalse result (M.state machine.new ≡ M.state machine.old) }
-        ensures whole { M.is_broken machine.new ≡ M.is_broken machine.old }
+    /// How many events may follow so many with no stop before any of them.
+    fn free_after(&self, before: u32) -> u32
+        ensures free { (more : ℕ) → more < result → coming self.now.agenda.stop (before + more) ≡ None }
+        ensures few { before + result ≤ 4294967295 }
     {
-        if self.can_go_on(played) {
-            machine.deliver_at_once(y)
-        } else {
-            false
+        match self.stop {
+            None => u32::MAX - before,
+            Some(stop) => {
+                if stop.after < before {
+                    u32::MAX - before
+                } else {
+                    stop.after - before
+                }
+            }
         }
     }
 
@@ -154,16 +151,6 @@ impl<'a> Schedule<'a> {
         match self.held_back {
             Some(_) => None,
             None => self.player.draining(),
-        }
-    }
-
-    /// Whether an event may follow so many with no stop before it.
-    fn can_go_on(&self, played: u32) -> bool
-        ensures { OnTrue result ((coming self.now.agenda.stop played ≡ None) × (played < 4294967295)) }
-    {
-        match self.coming(played) {
-            None => played < u32::MAX,
-            Some(_) => false,
         }
     }
 
@@ -272,31 +259,42 @@ impl<'a> Schedule<'a> {
         self.player.next(&counts)
     }
 
-    /// What is counted before the next event of the line. Whether the machine is idle is asked only where that event
-    /// depends on it.
+    /// What is counted before the next event of the line. The packet that the event concerns is looked at only where
+    /// the event may depend on it, and whether the machine is idle is asked only where the event depends on that.
     fn counted<M: ScheduleMachine>(&self, machine: &M) -> Counts
         ensures { next_event self.now.sizes self.now.agenda.standing result ≡ next_seen self.now.sizes
             (sight_of M.rules (M.state machine.now)) self.now.agenda.standing }
     {
-        if self.player.asks_idle() {
-            self.looked(machine, machine.is_idle())
+        if self.looks {
+            self.looked(machine)
         } else {
-            self.looked(machine, false)
+            self.tallied(machine)
         }
     }
 
-    /// What is counted before the next event of the line, with this told of whether the machine is idle. The packet
-    /// that the event concerns is looked at only where the event may depend on it.
-    #[inline(always)]
-    fn looked<M: ScheduleMachine>(&self, machine: &M, idle: bool) -> Counts
-        ensures { next_event self.now.sizes self.now.agenda.standing result
-            ≡ next_event self.now.sizes self.now.agenda.standing
-            (record (M.rules.counts (M.state machine.now) (player_at self.now)) { idle = idle }) }
+    /// The same of a line that looks at packets. Out of line, so that other lines count no more than they ask.
+    #[inline(never)]
+    fn looked<M: ScheduleMachine>(&self, machine: &M) -> Counts
+        ensures { next_event self.now.sizes self.now.agenda.standing result ≡ next_seen self.now.sizes
+            (sight_of M.rules (M.state machine.now)) self.now.agenda.standing }
     {
-        if self.looks {
-            machine.counts(&self.player, idle)
+        if self.player.asks_idle() {
+            machine.counts(&self.player, machine.is_idle())
         } else {
-            machine.tally(idle)
+            machine.counts(&self.player, false)
+        }
+    }
+
+    /// The same of a line that looks at no packet.
+    fn tallied<M: ScheduleMachine>(&self, machine: &M) -> Counts
+        requires { asks_packet self.now.agenda.standing ≡ false }
+        ensures { next_event self.now.sizes self.now.agenda.standing result ≡ next_seen self.now.sizes
+            (sight_of M.rules (M.state machine.now)) self.now.agenda.standing }
+    {
+        if self.player.asks_idle() {
+            machine.tally(machine.is_idle())
+        } else {
+            machine.tally(false)
         }
     }
 }

@@ -1,24 +1,26 @@
 -- No bus has more packets than it has room for.
 use Rattle.std.proofs.Common.{◌≡◌, ◌≤◌, inl, inr, ℕ, zero, suc, ◌+◌, Bool, true, false, if◌then◌else◌, List, [], ◌∷◌}
-use Rattle.std.proofs.Common.{◌++◌, length, take, drop, Option, Some, None, refl, sym, subst, arith, length-append}
+use Rattle.std.proofs.Common.{◌++◌, ◌&&◌, length, slice_get, take, drop, Option, Some, None, refl, sym, subst, arith}
+use Rattle.std.proofs.Common.{length-append}
 use Rattle.std.specs.List.{remove}
 use Rattle.std.proofs.lemmas.Bool.{ltb-true}
 use Rattle.tal_tree.specs.declared.site.Site.{Site}
 use Rattle.schedule.specs.declared.event.Event.{Event}
-use Rattle.schedule.specs.declared.event.Event.TheVariants.{Run, Enter, Deliver, Lose, Repeat, Tick, Fail, Drive}
+use Rattle.schedule.specs.declared.event.Event.TheVariants.{Run, Enter, Deliver, Lose, Repeat, Tick, Fail, Reload}
+use Rattle.schedule.specs.declared.event.Event.TheVariants.{Drive}
 use Rattle.world_semantics.specs.Running.{Done, run_done}
 use Rattle.world_semantics.specs.World.{is_running}
 use Rattle.computed_changes.specs.Entered.{enter_done}
 use Rattle.computed_changes.specs.Handed.{handed_done}
-use Rattle.computed_changes.specs.Stopped.{stop_done, down_done}
+use Rattle.computed_changes.specs.Stopped.{stop_done, down_done, reload_done}
 use Rattle.letters.specs.Routes.{Letter, letters_of}
 use Rattle.letters.specs.Again.{sent_again}
 use Rattle.machine_states.specs.States.{Played, Makes, Skips, Would, SecondStop}
 use Rattle.message_wires.specs.Wires.{Sent, Wires, has_room, put_on, wires_after_post, wires_after_posts, paid}
-use Rattle.message_wires.specs.Wires.{paid_between, without_packet, is_due, put_again}
+use Rattle.message_wires.specs.Wires.{paid_between, without_packet, is_due, put_again, is_present}
 use Rattle.message_wires.specs.Play.{MachineState, after_done, made_by, after_any, state_after_handing, comes_in}
-use Rattle.message_wires.specs.Play.{deliver_played, lose_played, repeat_played, has_stopped, fail_played, noted_by}
-use Rattle.message_wires.specs.Play.{notes_from, state_after_tick, tick_played, packet_at, play}
+use Rattle.message_wires.specs.Play.{deliver_played, lose_played, repeat_played, stop_played, fail_played, noted_by}
+use Rattle.message_wires.specs.Play.{notes_from, state_after_tick, tick_played, packet_at, play, reload_played}
 use Rattle.message_wires.specs.Runs.{IsPlayed, played_none, played_more, skipped}
 use Rattle.schedule_runs.specs.Runs.{IsPlay}
 use Rattle.machine_states.proofs.Turning.{drive-cases}
@@ -72,7 +74,8 @@ any-few s (Some done) few = posted-few (letters_of s.site done.world done.sendin
 deliver-few : (k : ℕ) (s : MachineState) (packet : Option Sent) → IsFew s.wires.bus
     → IsFewPlayed (deliver_played k s packet)
 deliver-few k s None few = tt
-deliver-few k s (Some packet) few = by (comes_in (record s { wires = without_packet k s.wires }) packet.letter)
+deliver-few k s (Some packet) few =
+    by (is_present s.wires.before packet && comes_in (record s { wires = without_packet k s.wires }) packet.letter)
   where
     by : (test : Bool)
         → IsFew (if test then state_after_handing packet (record s { wires = without_packet k s.wires }) else record s
@@ -114,14 +117,21 @@ tick-few node s few = by (is_running s.world.stopped node)
         (marks-few node 0 (length s.world.stopped) s few)
     by false = tt
 
-fail-few : (processor : ℕ) (s : MachineState) (done : Option Done) → IsFew s.wires.bus
-    → IsFewPlayed (fail_played processor s done)
+stop-few : (processor : ℕ) (s : MachineState) (done : Option Done) → IsFew s.wires.bus
+    → IsFewPlayed (stop_played processor s done)
+stop-few processor s None few = tt
+stop-few processor s (Some done) few = posted-few (letters_of s.site done.world done.sendings) s.wires few
+
+fail-few : (processor : ℕ) (s : MachineState) (stopped : Option Bool) → IsFew s.wires.bus
+    → IsFewPlayed (fail_played processor s stopped)
+fail-few processor s (Some false) few = stop-few processor s (stop_done processor s.world) few
+fail-few processor s (Some true) few = tt
 fail-few processor s None few = tt
-fail-few processor s (Some done) few = by (has_stopped s.world.stopped)
-  where
-    by : (test : Bool) → IsFewPlayed (if test then Would (SecondStop processor) else Makes (after_done s done))
-    by true = tt
-    by false = posted-few (letters_of s.site done.world done.sendings) s.wires few
+
+reload-few : (processor : ℕ) (s : MachineState) (done : Option Done) → IsFew s.wires.bus
+    → IsFewPlayed (reload_played processor s done)
+reload-few processor s None few = tt
+reload-few processor s (Some done) few = few
 
 play-few : (s : MachineState) (event : Event) → IsFew s.wires.bus → IsFewPlayed (play s event)
 play-few s (Run number) few = made-few s (run_done s.site number s.world) few
@@ -130,7 +140,8 @@ play-few s (Deliver y k) few = deliver-few k s (packet_at s y k) few
 play-few s (Lose y k) few = lose-few k s (packet_at s y k) few
 play-few s (Repeat y k) few = repeat-few s (packet_at s y k) few
 play-few s (Tick node) few = tick-few node s few
-play-few s (Fail processor) few = fail-few processor s (stop_done processor s.world) few
+play-few s (Fail processor) few = fail-few processor s (slice_get s.world.stopped processor) few
+play-few s (Reload processor) few = reload-few processor s (reload_done s.site processor s.world) few
 play-few s (Drive event) few = drive-cases event s IsFewPlayed (λ drives. few) tt (λ process. tt)
 
 -- an event leaves at most 4,096 packets on the bus

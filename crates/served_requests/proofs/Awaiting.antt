@@ -20,9 +20,11 @@ use Rattle.world_semantics.specs.World.{Copy, Pair, Terminal, Down, World, termi
 use Rattle.world_semantics.specs.Messages.{Message, Asking, Replying, Sending, sent_at, Cause, Handing}
 use Rattle.world_semantics.specs.Own.{Around, around, Causes, by_inner, by_take, by_ask, by_answer, by_device, by_write}
 use Rattle.world_semantics.specs.Own.{by_reply}
-use Rattle.world_semantics.specs.Passes.{Passes, by_send, by_pass_again, by_pass, by_apply, by_acknowledge}
+use Rattle.world_semantics.specs.Passes.{Passes, by_send, by_pass_again, by_pass, by_end, by_apply_behind, by_apply}
+use Rattle.world_semantics.specs.Passes.{by_acknowledge}
 use Rattle.world_semantics.specs.Rules.{Change, by_own, by_checkpoint, by_request, by_early_request, by_enter, by_print}
-use Rattle.world_semantics.specs.Rules.{by_stop, by_mark, entered_request}
+use Rattle.world_semantics.specs.Rules.{by_stop, by_mark, by_reload, entered_request}
+use Rattle.world_semantics.proofs.Becoming.{acting-gets-none}
 use Rattle.world_semantics.proofs.Lists.{some-same, Changed, is_new, is_same, changed}
 use Rattle.world_semantics.proofs.Reached.{one-acts}
 use Rattle.process_histories.proofs.Steady.{calm-away, got-calm}
@@ -32,7 +34,7 @@ use Rattle.letter_laws.specs.takeover_laws.proofs.Kept.{IsGood}
 use Rattle.letter_laws.specs.awaited_requests.specs.Awaited.{IsAwaited, by_copy, by_terminal}
 use Rattle.letter_laws.specs.awaited_requests.specs.Served.{request_of}
 use Rattle.letter_laws.specs.Known.{WatchersAreCalm}
-use Rattle.letter_laws.proofs.Calm.{not-both}
+use Rattle.served_requests.proofs.Routes.{IsNoReload}
 use Rattle.served_requests.proofs.Turned.{change-turned}
 use Rattle.served_requests.proofs.Turns.{steady, Turns, is_quiet, has_asked, has_taken, has_answered, has_heard}
 use Rattle.served_requests.proofs.Turns.{has_heard_early, has_taken_over}
@@ -54,7 +56,9 @@ passes-no-reply : {number at : ℕ} {marks : List Down} {kept after : List Act} 
 passes-no-reply (by_send k role at unsent unmarked) same = cc
 passes-no-reply (by_pass_again k role at may less) same = cc
 passes-no-reply (by_pass k role at may most) same = cc
-passes-no-reply (by_apply k message applied role among era is put) same = cc
+passes-no-reply (by_end k role sent at may) same = cc
+passes-no-reply (by_apply_behind k message applied role among era is put less) same = cc
+passes-no-reply (by_apply k message applied role among era is put most) same = cc
 passes-no-reply (by_acknowledge k taken role sent among era is) same = cc
 
 module _ (site : Site) (fit : IsFit site) (events : ℕ) (w : World) (good : IsGood site events w)
@@ -63,7 +67,7 @@ module _ (site : Site) (fit : IsFit site) (events : ℕ) (w : World) (good : IsG
       → (number : ℕ) (terminal : Terminal)
       → slice_get next.terminals number ≡ Some terminal → terminal.entered ≡ terminal.printed + 1
       → WasAwaited site w sendings terminal_node (who.Terminal number) terminal.entered
-  terminal-before (by_own at k pair there role causes advances enters) number terminal is odd =
+  terminal-before (by_own at k pair there role causes advances enters fr) number terminal is odd =
       was_awaited (by_terminal terminal is odd)
   terminal-before (by_checkpoint at pair there passes) number terminal is odd =
       was_awaited (by_terminal terminal is odd)
@@ -71,7 +75,9 @@ module _ (site : Site) (fit : IsFit site) (events : ℕ) (w : World) (good : IsG
       was_awaited (by_terminal terminal is odd)
   terminal-before (by_early_request request k pair among there role) number terminal is odd =
       was_awaited (by_terminal terminal is odd)
-  terminal-before (by_stop processor runs) number terminal is odd = was_awaited (by_terminal terminal is odd)
+  terminal-before (by_stop processor runs whole) number terminal is odd = was_awaited (by_terminal terminal is odd)
+  terminal-before (by_reload processor stopped all counted less) number terminal is odd =
+      was_awaited (by_terminal terminal is odd)
   terminal-before (by_mark node processor stopped runs unmarked) number terminal is odd =
       was_awaited (by_terminal terminal is odd)
   terminal-before (by_enter {words = words} at before to there even next opens) number terminal is odd =
@@ -120,17 +126,18 @@ module _ (site : Site) (fit : IsFit site) (events : ℕ) (w : World) (good : IsG
       of (has_taken found block acted acts away free is known table rest) = absurd (away at)
       of (has_answered place depth said block acted acts away hand known table waits sent) = absurd (away at)
       of (has_heard request acted acts core process waits told is) = same acted core
-      of (has_heard_early request watched watches process waits is) = absurd (not-both role watches)
+      of (has_heard_early request watched watches process waits is) =
+          absurd (acting-gets-none after.role role watches)
       of (has_taken_over watched acts away table waits told) = absurd (away at)
 
   pub awaited-before : {next : World} {cause : Cause} {sendings : List Sending} → Change site w cause sendings next
-      → {asker : ℕ} {one : Who} {n : ℕ}
+      → IsNoReload cause → {asker : ℕ} {one : Who} {n : ℕ}
       → IsAwaited site next asker one n → WasAwaited site w sendings asker one n
-  awaited-before change (by_copy {number = number} {file = file} {n = n} pair k there role at on last) =
-      let turned = change-turned site fit events w good calm change number pair there in
+  awaited-before change no_reload (by_copy {number = number} {file = file} {n = n} pair k there role at on last) =
+      let turned = change-turned site fit events w good calm change no_reload number pair there in
       copy-before number file n turned.before k (copy_of k pair) turned.there (turned.goes k).0 (turned.goes k).1 role
       at on last
-  awaited-before change (by_terminal {number = number} terminal there odd) =
+  awaited-before change no_reload (by_terminal {number = number} terminal there odd) =
       terminal-before change number terminal there odd
 
   -- Replies
@@ -215,8 +222,8 @@ module _ (site : Site) (fit : IsFit site) (events : ℕ) (w : World) (good : IsG
       → (asker : ℕ) (one : Who) (n : ℕ) → opener_of site one
       ≡ Some (record { server = reply.process; place = reply.opener })
       → IsAwaited site next asker one n → ⊥
-  come-none (by_own {after = after} {core = core} {entered = entered} number k pair there role causes advances enters)
-      at reply same asker one n opens awaited =
+  come-none (by_own {after = after} {core = core} {entered = entered} number k pair there role causes advances enters
+      fr) at reply same asker one n opens awaited =
       let got = got-away number pair k there role causes advances at reply same in
       got-none number pair k (record entered { core = core; waiting = after.waiting }) after.sectors _ there role refl
       got.2
@@ -233,5 +240,6 @@ module _ (site : Site) (fit : IsFit site) (events : ℕ) (w : World) (good : IsG
   come-none (by_request request k pair among there role) at reply same asker one n opens awaited = cc
   come-none (by_early_request request k pair among there role) at reply same asker one n opens awaited = cc
   come-none (by_enter number terminal opener there even next opened) at reply same asker one n opens awaited = cc
-  come-none (by_stop processor runs) at reply same asker one n opens awaited = cc
+  come-none (by_stop processor runs whole) at reply same asker one n opens awaited = cc
   come-none (by_mark node processor stopped runs unmarked) at reply same asker one n opens awaited = cc
+  come-none (by_reload processor stopped all counted less) at reply same asker one n opens awaited = cc

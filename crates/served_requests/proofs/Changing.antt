@@ -1,4 +1,4 @@
--- Each change but a mark leaves awaited requests served.
+-- Each change that is neither a mark nor a reload leaves awaited requests served.
 use Rattle.std.proofs.Common.{◌≡◌, ◌⊎◌, inl, inr, ℕ, ℤ, List, ◌++◌, Some, slice_get, refl, ap, sym, ◌∙◌, subst}
 use Rattle.gd_words.specs.Members.{IsAmong}
 use Rattle.gd_words.specs.declared.message.Request.{Request}
@@ -8,10 +8,9 @@ use Rattle.tal_tree.specs.declared.site.Who.{Who}
 use Rattle.plain_semantics.specs.declared.slot.Opener.{Opener}
 use Rattle.plain_semantics.specs.Openers.{opener_of}
 use Rattle.world_semantics.specs.declared.which.Which.{Which}
-use Rattle.world_semantics.specs.Messages.{Asking, Replying, Sending, Cause, Handing, NotingDown}
+use Rattle.world_semantics.specs.Messages.{Asking, Replying, Sending, Cause, Handing}
 use Rattle.world_semantics.specs.Rules.{Change}
 use Rattle.world_semantics.specs.World.{Copy, Pair, World, copy_of}
-use Rattle.world_semantics.proofs.Growing.{change-grows}
 use Rattle.world_semantics.proofs.Lists.{some-same}
 use Rattle.letter_laws.specs.takeover_laws.specs.Fit.{IsFit}
 use Rattle.letter_laws.specs.takeover_laws.specs.Invariant.{IsAsked}
@@ -28,7 +27,8 @@ use Rattle.letter_laws.proofs.Known.{WasSentTo}
 use Rattle.served_requests.proofs.Awaiting.{WasAwaited, was_awaited, is_asked, awaited-before, come-none}
 use Rattle.served_requests.proofs.Coming.{come-seen}
 use Rattle.served_requests.proofs.Numbers.{asked-low, awaited-low, early-low}
-use Rattle.served_requests.proofs.Routes.{route-same, route-where, seat-within, stopped-is, rests-stopped, marks-stay}
+use Rattle.served_requests.proofs.Routes.{KeepsRoutes, routes-no-reload, route-same, route-where}
+use Rattle.served_requests.proofs.Routes.{seat-within, stopped-is, rests-stopped, marks-stay, stopped-stays}
 use Rattle.served_requests.proofs.Routes.{home-before}
 use Rattle.served_requests.proofs.Seeing.{LeavesTold, turn-seen}
 use Rattle.served_requests.proofs.Sending.{letter-in, IsTold, told-now}
@@ -44,21 +44,22 @@ module _ (site : Site) (fit : IsFit site) (events : ℕ) (post : Post) (good : I
     (known : IsKnown site post) (served : AreServed site post) where
   module _ (next : World) (cause : Cause) (sendings : List Sending) (rest : List Letter)
       (change : Change site post.world cause sendings next)
-      (unmarked : (node processor : ℕ) → cause ≡ NotingDown node processor → ⊥) (sent : WasSentTo post cause)
+      (keeps : KeepsRoutes cause) (sent : WasSentTo post cause)
       (left : AreLeft post cause rest) where
     abbrev After : Post
     After = after_change site sendings next (record post { owed = rest })
 
     turned : (number : ℕ) (now : Pair) → slice_get next.processes number ≡ Some now
         → Turned site post.world cause sendings number now
-    turned = change-turned site fit events post.world good known.honest.calm change
+    turned =
+        change-turned site fit events post.world good known.honest.calm change (routes-no-reload cause keeps)
 
     route : (node number : ℕ) (now : Pair) (there : slice_get next.processes number ≡ Some now)
         → route_of next.marks node now ≡ route_of post.world.marks node (turned number now there).before
     route node number now there =
         let was = turned number now there in
-        ap (λ marks. route_of marks node now) (marks-stay change unmarked)
-        ∙ route-same post.world.marks node was.before now (λ k. (was.goes k).0)
+        ap (λ marks. route_of marks node now) (marks-stay change keeps)
+        ∙ route-same post.world.marks node was.before now (λ k. (was.goes k).0) was.led
 
     home-was : (node asker : ℕ) (one : Who) → home_of next node one ≡ Some asker
         → home_of post.world node one ≡ Some asker
@@ -105,7 +106,7 @@ module _ (site : Site) (fit : IsFit site) (events : ℕ) (post : Post) (good : I
         early = λ request role is process place.
             let letter = sent (copy_of k pair).processor request is in
             let early = known.early.sent letter.0 request pair k letter.1 letter.3 (rw process there) letter.2 role in
-            early-low site fit events post.world good request asker one n opener early
+            early-low site fit events post.world good k request asker one n opener early
             (asked (copy_of k pair).processor request is) opens old process place;
       }
 
@@ -118,7 +119,7 @@ module _ (site : Site) (fit : IsFit site) (events : ℕ) (post : Post) (good : I
           let to = route-where post.world.marks asker was.before in
           let within = seat-within to.0 (seated.pairs opener.server was.before was.there) in
           let stopped = stopped-is post.world.stopped (copy_of to.0 was.before).processor within (rw to.1 rests) in
-          let still = (change-grows post.world next cause sendings change).stopped (copy_of to.0 was.before).processor
+          let still = stopped-stays change (routes-no-reload cause keeps) (copy_of to.0 was.before).processor
           stopped in
           route_stopped (rw (route asker opener.server now there, ← to.1)
           (rests-stopped next.stopped (copy_of to.0 was.before).processor still))
@@ -142,19 +143,20 @@ module _ (site : Site) (fit : IsFit site) (events : ℕ) (post : Post) (good : I
           (was.goes k).0
           (leaves old was.before k (copy_of k now) was.there) (was.goes k).1 has)
 
-  -- a change but a mark leaves what is awaited served
+  -- a change that is neither a mark nor a reload leaves what is awaited served
   pub change-served : (next : World) (cause : Cause) (sendings : List Sending) (rest : List Letter)
       → Change site post.world cause sendings next
-      → ((node processor : ℕ) → cause ≡ NotingDown node processor → ⊥) → WasSentTo post cause → AreLeft post cause rest
+      → KeepsRoutes cause → WasSentTo post cause → AreLeft post cause rest
       → AreServed site (after_change site sendings next (record post { owed = rest }))
-  change-served next cause sendings rest change unmarked sent left asker one n opener now opens there awaited =
-      by (awaited-before site fit events post.world good known.honest.calm change awaited)
+  change-served next cause sendings rest change keeps sent left asker one n opener now opens there awaited =
+      by (awaited-before site fit events post.world good known.honest.calm change (routes-no-reload cause keeps)
+      awaited)
     where
       by : WasAwaited site post.world sendings asker one n
           → IsServed site (after_change site sendings next (record post { owed = rest })) asker one n opener now
       by (was_awaited old) =
-          let was = turned next cause sendings rest change unmarked sent left opener.server now there in
-          still-served next cause sendings rest change unmarked sent left asker one n opener opens awaited now there old
+          let was = turned next cause sendings rest change keeps sent left opener.server now there in
+          still-served next cause sendings rest change keeps sent left asker one n opener opens awaited now there old
           (served asker one n opener was.before opens was.there old)
       by (is_asked words asks) =
           is_owed words (among-right _ rest (letters_of site next sendings)

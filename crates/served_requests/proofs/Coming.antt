@@ -9,17 +9,19 @@ use Rattle.plain_semantics.specs.declared.slot.Opener.{Opener}
 use Rattle.plain_semantics.specs.Openers.{opener_of}
 use Rattle.checkpoint_image.specs.declared.receive.RequestStanding.TheVariants.{Kept}
 use Rattle.checkpoint_image.specs.Receive.{standing, standing_at, is_waiting, repeated, waits, came}
-use Rattle.world_semantics.specs.declared.role.Role.TheVariants.{Acting, Watching}
+use Rattle.world_semantics.specs.declared.role.Role.TheVariants.{Acting}
 use Rattle.world_semantics.specs.declared.which.Which.{Which}
 use Rattle.world_semantics.specs.declared.which.Which.TheVariants.{First, Second}
 use Rattle.world_semantics.specs.Core.{Core, Deed}
-use Rattle.world_semantics.specs.World.{Copy, Pair, Down, World, copy_of, with_copy}
+use Rattle.world_semantics.specs.World.{Copy, Pair, Down, World, copy_of, with_copy, receives}
 use Rattle.world_semantics.specs.Messages.{Message, Asking, Replying, Sending, sent_at, Cause, Handing}
 use Rattle.world_semantics.specs.Own.{Around, Causes, by_inner, by_take, by_ask, by_answer, by_device, by_write}
 use Rattle.world_semantics.specs.Own.{by_reply}
-use Rattle.world_semantics.specs.Passes.{Passes, by_send, by_pass_again, by_pass, by_apply, by_acknowledge}
+use Rattle.world_semantics.specs.Passes.{Passes, by_send, by_pass_again, by_pass, by_end, by_apply_behind, by_apply}
+use Rattle.world_semantics.specs.Passes.{by_acknowledge}
 use Rattle.world_semantics.specs.Rules.{Change, by_own, by_checkpoint, by_request, by_early_request, by_enter, by_print}
-use Rattle.world_semantics.specs.Rules.{by_stop, by_mark}
+use Rattle.world_semantics.specs.Rules.{by_stop, by_mark, by_reload}
+use Rattle.world_semantics.proofs.Becoming.{acting-gets-none}
 use Rattle.world_semantics.proofs.Lists.{set-there}
 use Rattle.letter_laws.specs.takeover_laws.specs.Fit.{IsFit}
 use Rattle.letter_laws.specs.takeover_laws.proofs.Kept.{IsGood}
@@ -28,7 +30,6 @@ use Rattle.letters.specs.Routes.{Letter}
 use Rattle.letter_laws.specs.awaited_requests.specs.Awaited.{IsAwaited}
 use Rattle.letter_laws.specs.awaited_requests.specs.Served.{request_of, reply_of, HasSeen}
 use Rattle.letter_laws.specs.Known.{IsEarly}
-use Rattle.letter_laws.proofs.Calm.{not-both}
 use Rattle.served_requests.proofs.Numbers.{asked-low, early-low}
 use Rattle.served_requests.proofs.Queues.{waits-now}
 use Rattle.served_requests.proofs.Sending.{map-in, sent-in, IsTold}
@@ -55,7 +56,9 @@ passes-no-request : {number at : ℕ} {marks : List Down} {kept after : List Act
 passes-no-request (by_send k role at unsent unmarked) same = cc
 passes-no-request (by_pass_again k role at may less) same = cc
 passes-no-request (by_pass k role at may most) same = cc
-passes-no-request (by_apply k message applied role among era is put) same = cc
+passes-no-request (by_end k role sent at may) same = cc
+passes-no-request (by_apply_behind k message applied role among era is put less) same = cc
+passes-no-request (by_apply k message applied role among era is put most) same = cc
 passes-no-request (by_acknowledge k taken role sent among era is) same = cc
 
 changed-copy : (k : Which) (copy : Copy) (pair : Pair) → copy_of k (with_copy k copy pair) ≡ copy
@@ -105,7 +108,7 @@ module _ (site : Site) (fit : IsFit site) (events : ℕ) (w : World) (good : IsG
               (request_of opener n words);
         }) opener n
     heard-seen role told = record {
-      watching = λ r. absurd (not-both role r);
+      watching = λ r. absurd (acting-gets-none (copy_of k pair).role role r);
       next = λ r is.
           let stands = next-is (copy_of k pair).core.receive opener.place n is in
           let wait : is_waiting (standing (copy_of k pair).core.receive (request_of opener n words)) ≡ true =
@@ -137,19 +140,19 @@ module _ (site : Site) (fit : IsFit site) (events : ℕ) (w : World) (good : IsG
         (map Replying (repeated (copy_of k pair).core.receive request))
         (map-in Replying (reply_of opener n words) (repeated (copy_of k pair).core.receive request) among))
 
-    heard-early-seen : (copy_of k pair).role ≡ Watching → IsAwaited site w asker one n
-        → ((request : Request) → IsAmong request (copy_of k pair).waiting → IsEarly site w request)
+    heard-early-seen : receives (copy_of k pair).role ≡ true → IsAwaited site w asker one n
+        → ((request : Request) → IsAmong request (copy_of k pair).waiting → IsEarly site w k request)
         → HasSeen next asker one (record (copy_of k pair)
         { waiting = waits (copy_of k pair).waiting (request_of opener n words) }) opener n
     heard-early-seen role awaited early = record {
       watching = λ r. waits-now (request_of opener n words) (copy_of k pair).waiting (λ other among.
           let known = (good.invariant.processes opener.server pair there).2.waiting k other among in (
             known.0,
-            λ same. early-low site fit events w good other asker one n opener (early other among) known.1 opens
+            λ same. early-low site fit events w good k other asker one n opener (early other among) known.1 opens
                 awaited known.0 same,
           ));
-      next = λ r. absurd (not-both r role);
-      kept = λ r. absurd (not-both r role);
+      next = λ r. absurd (acting-gets-none (copy_of k pair).role r role);
+      kept = λ r. absurd (acting-gets-none (copy_of k pair).role r role);
     }
 
   -- a request that comes is seen to where it comes
@@ -160,8 +163,8 @@ module _ (site : Site) (fit : IsFit site) (events : ℕ) (w : World) (good : IsG
       sendings
       → IsTold (record { world = next; owed = owed; sent = sent }) asker one opener n node words)
       → ((number : ℕ) (pair : Pair) (k : Which) (request : Request) → slice_get w.processes number ≡ Some pair
-      → (copy_of k pair).role ≡ Watching
-      → IsAmong request (copy_of k pair).waiting → IsEarly site w request)
+      → receives (copy_of k pair).role ≡ true
+      → IsAmong request (copy_of k pair).waiting → IsEarly site w k request)
       → IsSeenAt (record { world = next; owed = owed; sent = sent }) asker one opener n at
   come-seen {next = next} (by_request request k pair among there role) owed sent at words same awaited told early =
       let post : Post = record { world = next; owed = owed; sent = sent } in
@@ -182,7 +185,7 @@ module _ (site : Site) (fit : IsFit site) (events : ℕ) (w : World) (good : IsG
       (λ r. record (copy_of k pair) { waiting = waits (copy_of k pair).waiting r }) refl
       (heard-early-seen post k pair request words is there role awaited
       (λ other among. early request.process pair k other there role among)))
-  come-seen (by_own number k pair there role causes advances enters) owed sent at words same awaited told early =
+  come-seen (by_own number k pair there role causes advances enters fr) owed sent at words same awaited told early =
       absurd (own-no-request causes same)
   come-seen (by_checkpoint number pair there passes) owed sent at words same awaited told early =
       absurd (passes-no-request passes same)
@@ -190,5 +193,6 @@ module _ (site : Site) (fit : IsFit site) (events : ℕ) (w : World) (good : IsG
       absurd (cc)
   come-seen (by_print number terminal reply there odd among prints last) owed sent at words same awaited told early =
       absurd (cc)
-  come-seen (by_stop processor runs) owed sent at words same awaited told early = absurd (cc)
+  come-seen (by_stop processor runs whole) owed sent at words same awaited told early = absurd (cc)
   come-seen (by_mark node processor stopped runs unmarked) owed sent at words same awaited told early = absurd (cc)
+  come-seen (by_reload processor stopped all counted less) owed sent at words same awaited told early = absurd (cc)

@@ -1,6 +1,6 @@
 -- A letter that may be dropped, since it changes nothing where it comes, is one that no awaited request stands in need
 -- of.
-use Rattle.std.proofs.Common.{◌≡◌, ◌⊎◌, inl, inr, ℕ, ℤ, true, List, Some, slice_get, refl, sym, subst}
+use Rattle.std.proofs.Common.{◌≡◌, ◌⊎◌, inl, inr, ℕ, ℤ, true, List, Some, slice_get, refl, ap, sym, subst}
 use Rattle.gd_words.specs.Members.{IsAmong}
 use Rattle.tal_tree.specs.declared.act.Act.TheVariants as act
 use Rattle.tal_tree.specs.declared.site.Site.{Site}
@@ -8,14 +8,14 @@ use Rattle.tal_tree.specs.declared.site.Who.{Who}
 use Rattle.plain_semantics.specs.declared.slot.Opener.{Opener}
 use Rattle.plain_semantics.specs.Openers.{opener_of}
 use Rattle.world_semantics.specs.declared.role.Role.{Role}
-use Rattle.world_semantics.specs.declared.role.Role.TheVariants.{Acting, Watching, Gone}
+use Rattle.world_semantics.specs.declared.role.Role.TheVariants.{Acting, Watching, Blank, Gone}
 use Rattle.world_semantics.specs.declared.which.Which.{Which}
 use Rattle.world_semantics.specs.Core.{gets}
 use Rattle.world_semantics.specs.Follows.{IsIdleFor}
 use Rattle.world_semantics.specs.Messages.{Asking, Replying, Handing}
 use Rattle.world_semantics.specs.Own.{by_reply}
 use Rattle.world_semantics.specs.Rules.{by_own, by_request, by_early_request, by_print}
-use Rattle.world_semantics.specs.World.{Pair, World, is_running, copy_of}
+use Rattle.world_semantics.specs.World.{Pair, World, is_running, copy_of, receives}
 use Rattle.world_semantics.proofs.Reached.{gone-is}
 use Rattle.world_semantics.proofs.Running.{enters-as}
 use Rattle.letter_laws.specs.takeover_laws.proofs.Kept.{IsGood}
@@ -54,7 +54,10 @@ module _ (site : Site) (events : ℕ) (w : World) (good : IsGood site events w) 
       by : (role : Role) → (copy_of to.0 pair).role ≡ role
           → IsIdleFor site w (Handing (copy_of to.0 pair).processor (Asking (request_of opener n words))) → ⊥
       by Acting role none = none _ _ (by_request (request_of opener n words) to.0 pair sent there role)
-      by Watching role none = none _ _ (by_early_request (request_of opener n words) to.0 pair sent there role)
+      by Watching role none =
+          none _ _ (by_early_request (request_of opener n words) to.0 pair sent there (ap receives role))
+      by Blank role none =
+          none _ _ (by_early_request (request_of opener n words) to.0 pair sent there (ap receives role))
       by Gone role none =
           let stopped = rests-stopped w.stopped (copy_of to.0 pair).processor
           ((gone-is w.stopped pair (good.roles opener.server pair there) to.0).0 role) in
@@ -69,7 +72,7 @@ module _ (site : Site) (events : ℕ) (w : World) (good : IsGood site events w) 
   reply-taken asker one n opener words opens (by_copy {number = number} pair k there role at on last) sent idle =
       idle _ _ (by_own number k pair there role (by_reply {reply = reply_of opener n words} sent opens (sym last) refl)
       (gets at (sym on))
-      (enters-as number (act.Step number) w.kept (copy_of k pair)))
+      (enters-as number (act.Step number) w.kept (copy_of k pair)) tt)
   reply-taken asker one n opener words opens (by_terminal {number = number} terminal there odd) sent idle =
       idle _ _ (by_print number terminal (reply_of opener terminal.entered words) there odd sent opens refl)
 

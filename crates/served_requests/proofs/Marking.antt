@@ -16,7 +16,7 @@ use Rattle.world_semantics.specs.declared.role.Role.TheVariants.{Acting}
 use Rattle.world_semantics.specs.declared.which.Which.{Which}
 use Rattle.world_semantics.specs.Messages.{Message, Asking, Replying, Sending, Cause, NotingDown}
 use Rattle.world_semantics.specs.Rules.{Change, by_own, by_checkpoint, by_request, by_early_request, by_enter, by_print}
-use Rattle.world_semantics.specs.Rules.{by_stop, by_mark}
+use Rattle.world_semantics.specs.Rules.{by_stop, by_mark, by_reload}
 use Rattle.world_semantics.specs.World.{Pair, World, has_noted, copy_of}
 use Rattle.world_semantics.proofs.Roles.{both-true}
 use Rattle.plain_histories.proofs.Openers.{opener-is}
@@ -35,7 +35,7 @@ use Rattle.served_requests.proofs.Again.{reply-again, copy-again, terminal-again
 use Rattle.served_requests.proofs.Awaiting.{WasAwaited, was_awaited, is_asked, awaited-before}
 use Rattle.served_requests.proofs.Numbers.{awaited-low, few-kept}
 use Rattle.served_requests.proofs.Queues.{filter-in}
-use Rattle.served_requests.proofs.Routes.{SameSeats, route-same, rests-stopped, home-before}
+use Rattle.served_requests.proofs.Routes.{SameSeats, led_at, route-same, rests-stopped, home-before}
 use Rattle.served_requests.proofs.Running.{asker-runs, acting-runs}
 use Rattle.served_requests.proofs.Seeing.{LeavesTold, turn-seen}
 use Rattle.served_requests.proofs.Sending.{letter-in, IsTold, told-now}
@@ -67,7 +67,7 @@ mark-is {w = w} (by_mark at other stopped runs new) node processor same =
       stopped = refl;
       terminals = refl;
     }
-mark-is (by_own number k pair there role causes advances enters) node processor same =
+mark-is (by_own number k pair there role causes advances enters fr) node processor same =
     absurd (let one = causes-one causes in let none = ap acts_by same in cc)
 mark-is (by_checkpoint number pair there passes) node processor same =
     absurd (let one = passes-one passes in let none = ap acts_by same in cc)
@@ -75,7 +75,8 @@ mark-is (by_request request k pair among there role) node processor same = absur
 mark-is (by_early_request request k pair among there role) node processor same = absurd (cc)
 mark-is (by_enter number terminal opener there even next opens) node processor same = absurd (cc)
 mark-is (by_print number terminal reply there odd among opens last) node processor same = absurd (cc)
-mark-is (by_stop other runs) node processor same = absurd (cc)
+mark-is (by_stop other runs whole) node processor same = absurd (cc)
+mark-is (by_reload other stopped all counted less) node processor same = absurd (cc)
 
 module _ (site : Site) (fit : IsFit site) (out : IsLaidOut site) (events later : ℕ) (post : Post)
     (good : IsGood site events post.world) (seated : AreSeated site post.world)
@@ -93,7 +94,7 @@ module _ (site : Site) (fit : IsFit site) (out : IsLaidOut site) (events later :
 
   turned : (number : ℕ) (now : Pair) → slice_get next.processes number ≡ Some now
       → Turned site post.world (NotingDown node processor) sendings number now
-  turned = change-turned site fit events post.world good known.honest.calm change
+  turned = change-turned site fit events post.world good known.honest.calm change tt
 
   -- Letters
 
@@ -128,20 +129,20 @@ module _ (site : Site) (fit : IsFit site) (out : IsLaidOut site) (events later :
 
   -- Routes
 
-  route-stays : (asker : ℕ) (before now : Pair) → SameSeats before now
-      → (node == asker && processor == before.first.processor) ≡ false
+  route-stays : (asker : ℕ) (before now : Pair) → SameSeats before now → now.led ≡ before.led
+      → (node == asker && processor == led_at before) ≡ false
       → route_of next.marks asker now ≡ route_of post.world.marks asker before
-  route-stays asker before now seats other =
+  route-stays asker before now seats led other =
       ap (λ marks. route_of marks asker now) is.marks ∙ route-same
-      (record { node = node; down = processor } ∷ post.world.marks) asker before now seats ∙ rw other refl
+      (record { node = node; down = processor } ∷ post.world.marks) asker before now seats led ∙ rw other refl
 
   rerouted : (number : ℕ) (before : Pair) → slice_get post.world.processes number ≡ Some before
-      → processor ≡ before.first.processor
+      → processor ≡ led_at before
       → is_rerouted post.world node processor number ≡ true
   rerouted number before there same =
-      let new : has_noted post.world.marks node before.first.processor ≡ false =
+      let new : has_noted post.world.marks node (led_at before) ≡ false =
       subst (λ p. has_noted post.world.marks node p ≡ false) same is.unmarked in
-      rw (there, new, eq-eqb before.first.processor processor (sym same)) refl
+      rw (there, new, eq-eqb (led_at before) processor (sym same)) refl
 
   -- another node finds an opener where it did, and so does this one, unless the opener is found elsewhere
   home-was : (from asker : ℕ) (one : Who) → (from ≢ node) ⊎ (is_moved post.world node processor one ≡ false)
@@ -151,7 +152,7 @@ module _ (site : Site) (fit : IsFit site) (out : IsLaidOut site) (events later :
       let was = turned number now there in (
         was.before,
         was.there,
-        route-stays from was.before now (λ k. (was.goes k).0)
+        route-stays from was.before now (λ k. (was.goes k).0) was.led
             (other number file one_is was.before was.there),
       ))
     where
@@ -161,10 +162,10 @@ module _ (site : Site) (fit : IsFit site) (out : IsLaidOut site) (events later :
 
       other : (number file : ℕ) → one ≡ who.File number file → (before : Pair)
           → slice_get post.world.processes number ≡ Some before
-          → (node == from && processor == before.first.processor) ≡ false
+          → (node == from && processor == led_at before) ≡ false
       other number file one_is before there = elim (eqb_tells node from) [
         | inr apart ↦ rw apart.0 refl
-        | inl same ↦ elim (eqb_tells processor before.first.processor) [
+        | inl same ↦ elim (eqb_tells processor (led_at before)) [
           | inr apart ↦ rw apart.0 (and-false (node == from))
           | inl first ↦ elim still [
             | inl apart ↦ absurd (apart (sym same.1))
@@ -238,7 +239,7 @@ module _ (site : Site) (fit : IsFit site) (out : IsLaidOut site) (events later :
     asked-again : IsAwaited site next asker one n → (before now : Pair)
         → slice_get post.world.processes opener.server ≡ Some before
         → slice_get next.processes opener.server ≡ Some now
-        → node ≡ asker → processor ≡ before.first.processor → IsServed site After asker one n opener now
+        → node ≡ asker → processor ≡ led_at before → IsServed site After asker one n opener now
     asked-again awaited before now there there_now mine first = again awaited opens mine
       where
         owed : {asker : ℕ} {one : Who} {n : ℕ} (words : List ℤ) → node ≡ asker
@@ -268,38 +269,43 @@ module _ (site : Site) (fit : IsFit site) (out : IsLaidOut site) (events later :
   -- a mark leaves what is awaited served
   pub mark-served : AreServed site After
   mark-served asker one n opener now opens there awaited =
-      by (awaited-before site fit events post.world good known.honest.calm change awaited)
+      by (awaited-before site fit events post.world good known.honest.calm change tt awaited)
     where
       was : Turned site post.world (NotingDown node processor) sendings opener.server now
       was = turned opener.server now there
 
-      still : IsAwaited site post.world asker one n → (node == asker && processor == was.before.first.processor) ≡ false
+      route : (node == asker && processor == led_at was.before) ≡ false
+          → route_of next.marks asker now ≡ route_of post.world.marks asker was.before
+      route other = route-stays asker was.before now (λ k. (was.goes k).0) was.led other
+
+      still : IsAwaited site post.world asker one n → (node == asker && processor == led_at was.before) ≡ false
           → IsServed site post asker one n opener was.before
           → IsServed site After asker one n opener now
       still old other (route_stopped rests) =
-          route_stopped (rw (is.stopped, route-stays asker was.before now (λ k. (was.goes k).0) other) rests)
+          route_stopped (rw (is.stopped, route other) rests)
       still old other (is_owed words letter) = elim (eqb_tells (route_of post.world.marks asker was.before) processor) [
-        | inl to ↦ route_stopped (rw (is.stopped, route-stays asker was.before now (λ k. (was.goes k).0) other, to.1)
+        | inl to ↦ route_stopped (rw (is.stopped, route other, to.1)
             (rests-stopped post.world.stopped processor is.down))
-        | inr apart ↦ is_owed words (rw (route-stays asker was.before now (λ k. (was.goes k).0) other)
+        | inr apart ↦ is_owed words (rw (route other)
             (stays _ (λ same. asker-runs site events post.world good out seated old (rw same is.down)) apart.1 letter))
       ]
       still old other (is_seen k at has) =
-          is_seen k ((was.goes k).0 ∙ at ∙ sym (route-stays asker was.before now (λ k. (was.goes k).0) other))
+          is_seen k ((was.goes k).0 ∙ at ∙ sym (route other))
           (turn-seen site post After asker one opener n (NotingDown node processor) sendings (copy_of k was.before)
           (copy_of k now) (was.goes k).0
           (leaves asker one n opener opens old was.before now k was.there there (was.goes k).0) (was.goes k).1 has)
 
       either : IsAwaited site post.world asker one n → (test : Bool)
-          → (node == asker && processor == was.before.first.processor) ≡ test
+          → (node == asker && processor == led_at was.before) ≡ test
           → IsServed site After asker one n opener now
-      either old true is = let both = both-true (node == asker) (processor == was.before.first.processor) is in
+      either old true is =
+          let both = both-true (node == asker) (processor == led_at was.before) is in
           asked-again asker one n opener opens old awaited was.before now was.there there (eqb-true node asker both.0)
-          (eqb-true processor was.before.first.processor both.1)
+          (eqb-true processor (led_at was.before) both.1)
       either old false is = still old is (served asker one n opener was.before opens was.there old)
 
       by : WasAwaited site post.world sendings asker one n → IsServed site After asker one n opener now
-      by (was_awaited old) = either old (node == asker && processor == was.before.first.processor) refl
+      by (was_awaited old) = either old (node == asker && processor == led_at was.before) refl
       by (is_asked words asks) =
           is_owed words (sent-owed asker (route_of next.marks asker now) (Asking (request_of opener n words))
           (among-left _ sendings (sent_again site post.world next node processor) (asks opener opens)) (rw there refl))

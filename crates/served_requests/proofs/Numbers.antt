@@ -12,7 +12,7 @@ use Rattle.plain_semantics.specs.declared.slot.Opener.{Opener}
 use Rattle.plain_semantics.specs.Openers.{openers_of, opener_of}
 use Rattle.checkpoint_image.specs.declared.receive.OpenerBlock.{OpenerBlock}
 use Rattle.checkpoint_image.specs.Receive.{holds, answered}
-use Rattle.world_semantics.specs.declared.role.Role.TheVariants.{Acting, Gone}
+use Rattle.world_semantics.specs.declared.role.Role.TheVariants.{Acting, Blank, Gone}
 use Rattle.world_semantics.specs.declared.which.Which.{Which}
 use Rattle.world_semantics.specs.declared.which.Which.TheVariants.{First, Second}
 use Rattle.world_semantics.specs.Core.{next_on}
@@ -54,7 +54,8 @@ module _ (site : Site) (fit : IsFit site) (events : ℕ) (w : World) (good : IsG
       → slice_get (copy_of k pair).core.receive.openers request.opener ≡ Some block → request.number ≤ block.taken + 1
   asked-low number pair k there role request server asked block at =
       let has = copy-takes pair k (good.invariant.processes number pair there).2.led
-      (λ gone. let same : Acting ≡ Gone = sym role ∙ gone in cc) in
+      (λ gone. let same : Acting ≡ Gone = sym role ∙ gone in cc)
+      (λ blank. let same : Acting ≡ Blank = sym role ∙ blank in cc) in
       let opener : Opener = record { server = request.process; place = request.opener } in
       let counts = slot-counts ((booked-ran fit.regular good.invariant.booked).agrees.slots asked.0 opener asked.1).2 in
       let most = entry-most asked.2 in
@@ -71,13 +72,15 @@ module _ (site : Site) (fit : IsFit site) (events : ℕ) (w : World) (good : IsG
   awaited-low asker one n opener pair k opens there awaited role block at =
       stands-low (copy_of k pair).core.receive opener.place n block at
       (awaited-stands site fit events w good.invariant asker one n opener pair k opens there awaited
-      (λ gone. let same : Acting ≡ Gone = sym role ∙ gone in cc))
+      (λ gone. let same : Acting ≡ Gone = sym role ∙ gone in cc)
+      (λ blank. let same : Acting ≡ Blank = sym role ∙ blank in cc))
 
-  pub early-low : (request : Request) (asker : ℕ) (one : Who) (n : ℕ) (opener : Opener) → IsEarly site w request
+  pub early-low : (k : Which) (request : Request) (asker : ℕ) (one : Who) (n : ℕ) (opener : Opener)
+      → IsEarly site w k request
       → IsAsked site good.invariant.ledger request
       → opener_of site one ≡ Some opener → IsAwaited site w asker one n → request.process ≡ opener.server
       → request.opener ≡ opener.place → request.number ≤ n
-  early-low request asker one n opener early asked opens awaited server place = of awaited opens
+  early-low k request asker one n opener early asked opens awaited server place = of awaited opens
     where
       same : opener ≡ record { server = request.process; place = request.opener }
       same = rw (server, place) refl

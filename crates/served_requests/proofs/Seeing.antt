@@ -1,6 +1,6 @@
 -- A copy that has seen to a request has seen to it after each turn as well.
-use Rattle.std.proofs.Common.{◌≡◌, ◌≢◌, ◌⊎◌, inl, inr, ℕ, ◌+◌, ◌≤◌, ℤ, List, Some, slice_get, refl, ap, sym, ◌∙◌, subst}
-use Rattle.std.proofs.Common.{arith}
+use Rattle.std.proofs.Common.{◌≡◌, ◌≢◌, ◌⊎◌, inl, inr, ℕ, ◌+◌, ◌≤◌, ℤ, true, List, Some, slice_get, refl, ap, sym, ◌∙◌}
+use Rattle.std.proofs.Common.{subst, arith}
 use Rattle.gd_words.specs.Members.{IsAmong}
 use Rattle.gd_words.specs.declared.message.Request.{Request}
 use Rattle.gd_words.proofs.Among.{among-given}
@@ -11,12 +11,12 @@ use Rattle.checkpoint_image.specs.declared.receive.OpenerBlock.{OpenerBlock}
 use Rattle.checkpoint_image.specs.declared.receive.ReceiveBlock.{ReceiveBlock}
 use Rattle.checkpoint_image.specs.declared.receive.RequestStanding.TheVariants.{Next, Kept}
 use Rattle.checkpoint_image.specs.Receive.{standing, standing_at, is_waiting, repeated}
-use Rattle.world_semantics.specs.declared.role.Role.TheVariants.{Acting, Watching}
+use Rattle.world_semantics.specs.declared.role.Role.TheVariants.{Acting}
 use Rattle.world_semantics.specs.Messages.{Asking, Replying, Sending, Cause, Handing}
-use Rattle.world_semantics.specs.World.{Copy}
+use Rattle.world_semantics.specs.World.{Copy, receives}
+use Rattle.world_semantics.proofs.Becoming.{acting-gets-none}
 use Rattle.letters.specs.Posts.{Post}
 use Rattle.letter_laws.specs.awaited_requests.specs.Served.{WaitsFor, reply_of, HasSeen}
-use Rattle.letter_laws.proofs.Calm.{not-both}
 use Rattle.served_requests.proofs.Queues.{filter-in, waits-still, came-still, chosen-leaves}
 use Rattle.served_requests.proofs.Sending.{IsTold}
 use Rattle.served_requests.proofs.Standings.{next-is, took-next, took-kept, answered-next, answered-kept}
@@ -25,7 +25,7 @@ use Rattle.served_requests.proofs.Turns.{has_heard_early, has_taken_over}
 
 -- what must be so around the turn of a copy for which it has seen to a request: what was told stays told; what is sent
 -- is told; the number isn't past the next one at the copy where that acts; what comes to a copy that acts isn't either;
--- and what comes to one that watches isn't past the number
+-- and what comes to one that receives checkpoints isn't past the number
 pub record LeavesTold (post next : Post) (asker : ℕ) (one : Who) (opener : Opener) (n : ℕ) (cause : Cause)
     (sendings : List Sending) (before after : Copy) : Type 0 where
   pub carried : (words : List ℤ) → before.role ≡ Acting → after.role ≡ Acting
@@ -40,7 +40,7 @@ pub record LeavesTold (post next : Post) (asker : ℕ) (one : Who) (opener : Ope
       → cause ≡ Handing before.processor (Asking request)
       → request.process ≡ opener.server
       → slice_get before.core.receive.openers request.opener ≡ Some block → request.number ≤ block.taken + 1
-  pub early : (request : Request) → before.role ≡ Watching → cause ≡ Handing before.processor (Asking request)
+  pub early : (request : Request) → receives before.role ≡ true → cause ≡ Handing before.processor (Asking request)
       → request.process ≡ opener.server
       → request.opener ≡ opener.place → request.number ≤ n
 
@@ -64,7 +64,7 @@ module _ (site : Site) (post next : Post) (asker : ℕ) (one : Who) (opener : Op
       → IsTold next asker one opener n before.processor words ⊎ IsKeptIn before.core.receive words)
       → HasSeen post asker one before opener n → HasSeen next asker one after opener n
   acting-seen acted acts was_next waits was_kept has = record {
-    watching = λ r. absurd (not-both acts r);
+    watching = λ r. absurd (acting-gets-none after.role acts r);
     next = λ r is. waits is (has.next acted (was_next is));
     kept = λ r words is. moved words (elim (was_kept words is) [
       | inl told ↦ told
@@ -72,12 +72,12 @@ module _ (site : Site) (post next : Post) (asker : ℕ) (one : Who) (opener : Op
     ]);
   }
 
-  -- a copy watches afterwards
-  watching-seen : after.role ≡ Watching → WaitsFor after.waiting opener n → HasSeen next asker one after opener n
+  -- a copy receives checkpoints afterwards
+  watching-seen : receives after.role ≡ true → WaitsFor after.waiting opener n → HasSeen next asker one after opener n
   watching-seen watches waits = record {
     watching = λ r. waits;
-    next = λ r. absurd (not-both r watches);
-    kept = λ r. absurd (not-both r watches);
+    next = λ r. absurd (acting-gets-none after.role r watches);
+    kept = λ r. absurd (acting-gets-none after.role r watches);
   }
 
   same-seen : after.core.receive ≡ before.core.receive → after.waiting ≡ before.waiting → before.role ≡ Acting
@@ -155,7 +155,7 @@ module _ (site : Site) (post next : Post) (asker : ℕ) (one : Who) (opener : Op
         wait.4,
       )
   turn-seen (has_taken_over watched acts away table waits told) has = record {
-    watching = λ r. absurd (not-both acts r);
+    watching = λ r. absurd (acting-gets-none after.role acts r);
     next = λ r is.
         let next : standing before.core.receive wait.0 ≡ Next =
         rw (wait.3, wait.4) (subst (λ t. standing_at t opener.place n ≡ Next) table is) in (
@@ -176,4 +176,4 @@ module _ (site : Site) (post next : Post) (asker : ℕ) (one : Who) (opener : Op
   }
     where
       wait : WaitsFor before.waiting opener n
-      wait = has.watching watched
+      wait = has.watching (ap receives watched)

@@ -12,6 +12,7 @@ use Rattle.process_semantics.specs.declared.point.Point.TheVariants as point
 use Rattle.process_semantics.specs.Process as process
 use Rattle.plain_semantics.specs.declared.slot.Opener.{Opener}
 use Rattle.plain_semantics.specs.Openers.{openers_of, opener_of}
+use Rattle.checkpoint_image.specs.declared.message.ImageMessage.{ImageMessage}
 use Rattle.checkpoint_image.specs.declared.receive.OpenerBlock.{OpenerBlock}
 use Rattle.checkpoint_image.specs.Receive.{waits, came, repeated, still_waiting, all_repeated, after_taking}
 use Rattle.checkpoint_image.specs.Receive.{after_answering, Chosen, chosen}
@@ -19,13 +20,16 @@ use Rattle.world_semantics.specs.declared.role.Role.TheVariants.{Acting, Watchin
 use Rattle.world_semantics.specs.declared.which.Which.{Which}
 use Rattle.world_semantics.specs.declared.which.Which.TheVariants.{First, Second}
 use Rattle.world_semantics.specs.Core.{Core, Deed, Advances, goes, takes, asks, gets, answers, acts, next_on}
-use Rattle.world_semantics.specs.World.{Copy, Pair, World, copy_of, other_of, with_copy}
+use Rattle.world_semantics.specs.World.{Copy, Pair, World, copy_of, other_of, with_copy, receives}
 use Rattle.world_semantics.specs.Kept.{Enters, holds_on, repeats, begins, keeps, own_acts}
 use Rattle.world_semantics.specs.Messages.{Message, Asking, Replying, Sending, sent_at, Cause, Handing}
 use Rattle.world_semantics.specs.Own.{Around, around, Causes, by_inner, by_take, by_ask, by_answer, by_device, by_write}
 use Rattle.world_semantics.specs.Own.{by_reply, asked_on}
-use Rattle.world_semantics.specs.Passes.{Passes, by_send, by_pass_again, by_pass, by_apply, by_acknowledge}
-use Rattle.world_semantics.specs.Passes.{checkpoint_of, taken_of, after_sending, copy_at_checkpoint, kept_at_checkpoint}
+use Rattle.world_semantics.specs.Passes.{Passes, by_send, by_pass_again, by_pass, by_end, by_apply_behind, by_apply}
+use Rattle.world_semantics.specs.Passes.{by_acknowledge, checkpoint_of, taken_of, after_sending, copy_at_checkpoint}
+use Rattle.world_semantics.specs.Passes.{kept_at_checkpoint, kept_at, point_at, after_sent, after_told, after_getting}
+use Rattle.world_semantics.specs.Shares.{acts_at}
+use Rattle.world_semantics.proofs.Becoming.{acting-gets-none}
 use Rattle.world_semantics.proofs.Lists.{some-same}
 use Rattle.process_histories.proofs.Counts.{take-free}
 use Rattle.process_histories.proofs.Steady.{IsSteady, IsCalm, done-steady, calm-away, inner-calm, took-calm, asked-same}
@@ -35,12 +39,11 @@ use Rattle.letter_laws.specs.takeover_laws.proofs.Kept.{IsGood}
 use Rattle.letter_laws.specs.awaited_requests.specs.Served.{request_of}
 use Rattle.letter_laws.specs.Known.{WatchersAreCalm}
 use Rattle.letter_laws.proofs.Awaited.{acting-done, asked-next}
-use Rattle.letter_laws.proofs.Calm.{not-both}
 
--- a change bears on no request at a copy: if that watches afterwards, it did before; if it acts it did, with the same
--- table, and as the same core if it awaits; and the same requests wait
+-- a change bears on no request at a copy: if that receives checkpoints afterwards, it did before; if it acts it did,
+-- with the same table, and as the same core if it awaits; and the same requests wait
 pub record IsQuiet (before after : Copy) : Type 0 where
-  pub watches : after.role ≡ Watching → before.role ≡ Watching
+  pub watches : receives after.role ≡ true → receives before.role ≡ true
   pub acts : after.role ≡ Acting → before.role ≡ Acting
   pub table : after.role ≡ Acting → after.core.receive ≡ before.core.receive
   pub awaits : after.role ≡ Acting → process.point after.core.state ≡ point.Await → after.core ≡ before.core
@@ -78,7 +81,8 @@ pub data Turns (site : Site) (number : ℕ) (cause : Cause) (sendings : List Sen
       → ((reply : Reply) → IsAmong reply (repeated before.core.receive request)
       → IsAmong (record { node = before.processor; message = Replying reply }) sendings)
       → cause ≡ Handing before.processor (Asking request) → Turns site number cause sendings before after
-  has_heard_early : (request : Request) → before.role ≡ Watching → after.role ≡ Watching → request.process ≡ number
+  has_heard_early : (request : Request) → receives before.role ≡ true → receives after.role ≡ true
+      → request.process ≡ number
       → after.waiting ≡ waits before.waiting request
       → cause ≡ Handing before.processor (Asking request) → Turns site number cause sendings before after
   has_taken_over : before.role ≡ Watching → after.role ≡ Acting → process.point after.core.state ≢ point.Await
@@ -98,7 +102,7 @@ Goes site number cause sendings pair k after =
 pub like : (before after : Copy) → after.role ≡ before.role → after.core ≡ before.core → after.waiting ≡ before.waiting
     → IsQuiet before after
 like before after role core waiting = record {
-  watches = λ r. sym role ∙ r;
+  watches = λ r. ap receives (sym role) ∙ r;
   acts = λ r. sym role ∙ r;
   table = λ r. ap (λ (c : Core). c.receive) core;
   awaits = λ r at. core;
@@ -139,7 +143,7 @@ module _ (site : Site) (fit : IsFit site) (events : ℕ) (w : World) (good : IsG
         → Turns site number cause sendings (copy_of k pair)
         (record entered { core = core; waiting = (copy_of k pair).waiting })
     rests core same away = is_quiet (record {
-      watches = λ r. absurd (not-both acting r);
+      watches = λ r. absurd (acting-gets-none entered.role acting r);
       acts = λ r. role;
       table = λ r. same;
       awaits = λ r at. absurd (calm-away core.state away at);
@@ -220,6 +224,21 @@ module _ (site : Site) (fit : IsFit site) (events : ℕ) (w : World) (good : IsG
         }),
       )
 
+      -- a copy that gets a checkpoint watches then
+      got : {cause : Cause} {sendings : List Sending} (k : Which) (message : ImageMessage) (applied : Core)
+          → receives (copy_of k pair).role ≡ true
+          → Goes site number cause sendings pair k (after_getting message.number applied (copy_of k pair))
+      got k message applied role = (
+        refl,
+        is_quiet (record {
+          watches = λ r. role;
+          acts = λ r. absurd (cc);
+          table = λ r. absurd (cc);
+          awaits = λ r at. absurd (cc);
+          waits = refl;
+        }),
+      )
+
       go : {next : Pair} {kept : List Act} {cause : Cause} {sendings : List Sending}
           → Passes number w.marks w.kept pair cause sendings next kept
           → (k : Which) → Goes site number cause sendings pair k (copy_of k next)
@@ -237,29 +256,29 @@ module _ (site : Site) (fit : IsFit site) (events : ℕ) (w : World) (good : IsG
           (record (copy_at_checkpoint (copy_of k pair))
           { position = own_acts number (kept_at_checkpoint number (copy_of k pair) w.kept); held = [] }) pair
           (marked k _ _ role at) (still First) (still Second)
-      go {cause = cause} {sendings = sendings} (by_apply k message applied role among era is put) =
+      go {cause = cause} {sendings = sendings} (by_end k role sent at may) =
+          each (Goes site number cause sendings pair) k (after_sent (copy_of k pair)) pair
+          (refl, is_quiet (like (copy_of k pair) (after_sent (copy_of k pair)) refl refl refl)) (still First)
+          (still Second)
+      go {cause = cause} {sendings = sendings} (by_apply_behind k message applied role among era is put less) =
+          each (Goes site number cause sendings pair) k (after_getting message.number applied (copy_of k pair))
+          (record pair {
+            base = (copy_of (other_of k) pair).position
+                + own_acts number (acts_at number (point_at (copy_of (other_of k) pair)));
+            takens = taken_of message ∷ pair.takens;
+          }) (got k message applied role) (still First) (still Second)
+      go {cause = cause} {sendings = sendings} (by_apply k message applied role among era is put most) =
           let base : Pair = record pair {
-            base = own_acts number
-                (kept_at_checkpoint number (copy_of (other_of k) pair) w.kept);
-            takens =
-                taken_of message ∷ pair.takens;
+            base = own_acts number (kept_at number (copy_of (other_of k) pair) w.kept);
+            takens = taken_of message ∷ pair.takens;
           } in
           let freed : Copy = record (copy_of (other_of k) pair)
           { position = own_acts number ((copy_of (other_of k) pair).held ++ w.kept); held = [] } in
           let others = each (Goes site number cause sendings pair) (other_of k) freed base
           (refl, is_quiet (like (copy_of (other_of k) pair) freed refl refl refl)) (still First) (still Second) in
-          each (Goes site number cause sendings pair) k
-          (record (copy_of k pair) { core = applied; number = message.number }) (with_copy (other_of k) freed base) (
-            refl,
-            is_quiet (record {
-              watches = λ r. r;
-              acts = λ r. r;
-              table = λ r. absurd (not-both r role);
-              awaits = λ r at. absurd (not-both r role);
-              waits = refl;
-            }),
-          ) (others First) (others Second)
+          each (Goes site number cause sendings pair) k (after_getting message.number applied (copy_of k pair))
+          (with_copy (other_of k) freed base) (got k message applied role) (others First) (others Second)
       go {cause = cause} {sendings = sendings} (by_acknowledge k taken role sent among era is) =
-          each (Goes site number cause sendings pair) k (record (copy_of k pair) { acknowledged = true }) pair
-          (refl, is_quiet (like (copy_of k pair) (record (copy_of k pair) { acknowledged = true }) refl refl refl))
-          (still First) (still Second)
+          each (Goes site number cause sendings pair) k (after_told (copy_of k pair)) pair
+          (refl, is_quiet (like (copy_of k pair) (after_told (copy_of k pair)) refl refl refl)) (still First)
+          (still Second)

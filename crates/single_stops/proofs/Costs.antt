@@ -65,6 +65,7 @@ muted-stops node counts (event.Lose y k) = refl
 muted-stops node counts (event.Repeat y k) = refl
 muted-stops node counts (event.Tick node_told) = refl
 muted-stops node counts (event.Fail processor) = refl
+muted-stops node counts (event.Reload processor) = refl
 muted-stops node counts (event.Drive turn) = refl
 
 spared-stops : (counts : Counts) (event : Event) → stops_in (spared counts event) 1 ≡ stops_in event 1
@@ -79,6 +80,7 @@ spared-stops counts (event.Deliver y k) = refl
 spared-stops counts (event.Repeat y k) = refl
 spared-stops counts (event.Tick node) = refl
 spared-stops counts (event.Fail processor) = refl
+spared-stops counts (event.Reload processor) = refl
 spared-stops counts (event.Drive turn) = refl
 
 decided-stops : (at : LinePlace) (counts : Counts) (event : Event)
@@ -98,6 +100,7 @@ one-less (event.Deliver y k) left some = omega arith
 one-less (event.Lose y k) left some = omega arith
 one-less (event.Repeat y k) left some = omega arith
 one-less (event.Tick node) left some = omega arith
+one-less (event.Reload processor) left some = omega arith
 one-less (event.Drive turn) left some = omega arith
 
 paid-where : (most : ℕ) (test : Bool) (move : Move) → (test ≡ true → IsPaidMove most (Some move))

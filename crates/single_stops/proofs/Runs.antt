@@ -1,12 +1,14 @@
--- Where a schedule asks for one stop at most, none is still to come once a processor has stopped.
-use Rattle.std.proofs.Common.{◌≡◌, ◌≤◌, ◌⊎◌, inl, inr, ℕ, zero, suc, Bool, true, false, List, length, replicate, Option}
-use Rattle.std.proofs.Common.{Some, refl, subst, arith}
+-- Where a schedule asks for one stop at most, none is still to come once the world isn't whole.
+use Rattle.std.proofs.Common.{◌≡◌, ◌≤◌, ◌⊎◌, inl, inr, ℕ, Bool, true, false, List, length, Option, Some, refl, subst}
+use Rattle.std.proofs.Common.{arith}
 use Rattle.tal_tree.specs.declared.site.Site.{Site}
 use Rattle.schedule.specs.declared.event.Event.{Event}
 use Rattle.schedule.specs.declared.event.Event.TheVariants as event
 use Rattle.schedule.specs.declared.line.Line.{Line}
 use Rattle.player.specs.declared.stop.ProcessorStop.{ProcessorStop}
-use Rattle.message_wires.specs.Play.{MachineState, has_stopped}
+use Rattle.world_semantics.specs.World.{is_whole}
+use Rattle.message_wires.specs.Play.{MachineState}
+use Rattle.message_wires_laws.proofs.Whole.{begins-whole}
 use Rattle.schedule_runs.specs.Ends.{EndsAs, IsRunOf}
 use Rattle.schedule_runs.specs.Runs.{Agenda, IsPlay, Plan, PlaysSchedule, RunsToHarm, counts_of, plays_none, plays_on}
 use Rattle.schedule_runs.specs.Runs.{sizes_of}
@@ -18,17 +20,18 @@ use Rattle.single_stops.proofs.Calm.{calm-kept, would-stop}
 use Rattle.single_stops.proofs.Costs.{IsPaid, to_come, upcoming-paid}
 use Rattle.machine_states.specs.States.{SecondStop}
 
--- at most one stop is still to come, and none where a processor has stopped
+-- at most one stop is still to come, and none where the world isn't whole
 record IsSingle (agenda : Agenda) (s : MachineState) : Type 0 where
   few : to_come agenda ≤ 1
-  none : has_stopped s.world.stopped ≡ true → to_come agenda ≡ 0
+  none : is_whole s.world ≡ false → to_come agenda ≡ 0
 
-none-at-first : (processors : ℕ) → has_stopped (replicate processors false) ≡ false
-none-at-first zero = refl
-none-at-first (suc processors) = none-at-first processors
+not-both : (test : Bool) → test ≡ true → test ≡ false → ⊥
+not-both test is isnt = absurd (cc)
 
-not-both : (test : Bool) → test ≡ false → test ≡ true → ⊥
-not-both test isnt is = absurd (cc)
+-- what is kept where it is so wasn't so where it isn't afterwards
+not-before : (before after : Bool) → (before ≡ true → after ≡ true) → after ≡ false → before ≡ false
+not-before true after kept isnt = absurd (not-both after (kept refl) isnt)
+not-before false after kept isnt = refl
 
 stop-or-calm : (event : Event) → (stops_in event 1 ≡ 0) ⊎ (stops_in event 1 ≡ 1)
 stop-or-calm (event.Fail processor) = inr refl
@@ -38,6 +41,7 @@ stop-or-calm (event.Deliver y k) = inl refl
 stop-or-calm (event.Lose y k) = inl refl
 stop-or-calm (event.Repeat y k) = inl refl
 stop-or-calm (event.Tick node) = inl refl
+stop-or-calm (event.Reload processor) = inl refl
 stop-or-calm (event.Drive turn) = inl refl
 
 -- after an event that is paid
@@ -53,17 +57,17 @@ single-on agenda s next plan single paid play = by (stop-or-calm plan.event)
         let few = single.few in
         record {
           few = omega (arith, few, paid);
-          none = λ stopped.
-              let none = single.none (subst (λ (all : List Bool). has_stopped all ≡ true)
-              (calm-kept s plan.event next calm play) stopped) in
-              omega (arith, none, paid);
+          none = λ parts.
+              (let none = single.none (not-before (is_whole s.world) (is_whole next.world)
+              (calm-kept s plan.event next calm play) parts) in
+              omega (arith, none, paid));
         }
 
 played-single : (site : Site) (lines : List Line) (stop : Option ProcessorStop) → stops_asked lines stop ≤ 1
     → (events : List Event) (agenda : Agenda) (s : MachineState)
     → PlaysSchedule site lines stop events agenda s → IsSingle agenda s
 played-single site lines stop few _ _ _ plays_none =
-    record { few = omega (arith, few); none = λ stopped. absurd (not-both _ (none-at-first site.processors) stopped) }
+    record { few = omega (arith, few); none = λ parts. absurd (not-both _ (begins-whole site) parts) }
 played-single site lines stop few _ _ _
     (plays_on {events = events} {agenda = agenda} {s = s} {next = next} plan before comes play) =
     single-on agenda s next plan (played-single site lines stop few events agenda s before)

@@ -8,7 +8,7 @@ ghost use Rattle.schedule_runs.specs.declared.ran.Ran.{Ran};
 ghost use Rattle.single_stops.specs.StopsAsked.{stops_asked};
 
 /// Where a schedule asks for one stop at most, that of the words counted, no run of it ends before an event that would
-/// stop a second processor.
+/// stop a processor in a world that isn't whole.
 pub fn one_stop_has_no_second()
     ensures { (site : Site) (lines : List Line) (stop : Option ProcessorStop) (ran : Ran) (processor : ℕ)
         → stops_asked lines stop ≤ 1

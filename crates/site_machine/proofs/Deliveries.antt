@@ -1,7 +1,7 @@
 -- A packet that is delivered, by what becomes of it.
 use Rattle.std.specs.Option.{option_map}
 use Rattle.std.proofs.Common.{◌≡◌, ℕ, ℤ, Bool, true, false, if◌then◌else◌, List, Option, Some, None, refl, ap, sym}
-use Rattle.std.proofs.Common.{subst, ◌∙◌}
+use Rattle.std.proofs.Common.{◌&&◌, subst, ◌∙◌}
 use Rattle.world_semantics.proofs.Lists.{some-same}
 use Rattle.packet_words.specs.declared.bus_name.BusName.{BusName}
 use Rattle.packet_words.specs.declared.bus_name.BusName.TheVariants as bus
@@ -16,7 +16,7 @@ use Rattle.packet_wires.specs.Nodes.{end_at}
 use Rattle.packet_wires.specs.Play.{Packeted, begun, completed, deliver_acted, ended, handed_words, over, received}
 use Rattle.packet_wires.specs.Wires.{Wires, arrived, nothing_sent, without_packet}
 use Rattle.node.specs.event_parts.specs.Numbers.{CanPush}
-use Rattle.node.specs.event_parts.specs.Parts.{carried_out, completed_by, delivered}
+use Rattle.node.specs.event_parts.specs.Parts.{carried_out, completed_by, delivered, is_current_in}
 use Rattle.node.specs.event_parts.proofs.Numbers.{can-arrived}
 use Rattle.site_machine.specs.Needs.{CanHand, HaveNumbersLeft, IsReady}
 use Rattle.site_machine.specs.Told.{after_part}
@@ -38,6 +38,10 @@ module _ (name : BusName) (k : ℕ) (s : Packeted) where
   abbrev off : Wires
   off = without_packet name k s.wires
 
+  -- whether a packet that was found, and comes to this receiver, comes in there
+  abbrev comes : ℕ → Option Packet → Bool
+  comes receiver found = is_running s.world.stopped receiver && is_current_in found s.wires.nodes
+
   pub none-delivered : (found : Option Packet) → None ≡ option_map (λ (packet : Packet). packet.receiver) found
       → Settles (ended off (deliver_acted name (begun s) found)) s effect.Skipped s
   none-delivered None is = (refl, refl)
@@ -50,14 +54,14 @@ module _ (name : BusName) (k : ℕ) (s : Packeted) where
 
   pub delivery-dropped : (found : Option Packet) (receiver : ℕ) (after : Packeted)
       → Some receiver ≡ option_map (λ (packet : Packet). packet.receiver) found
-      → is_running s.world.stopped receiver ≡ false → after ≡ record s { wires = off }
+      → comes receiver found ≡ false → after ≡ record s { wires = off }
       → Settles (ended off (deliver_acted name (begun s) found)) s effect.Done after
   delivery-dropped None receiver after is stops same = absurd cc
   delivery-dropped (Some packet) receiver after is stops same = (
     refl,
     same ∙ dropped name
-        ∙ sym (ap (λ (runs : Bool). over off (if runs then received name packet (begun s) else begun s))
-        (ap (is_running s.world.stopped) (sym (some-same is)) ∙ stops)),
+        ∙ sym (ap (λ (b : Bool). over off (if b then received name packet (begun s) else begun s))
+        (ap (λ (r : ℕ). comes r (Some packet)) (sym (some-same is)) ∙ stops)),
   )
 
   turned : (of : BusName) (packet : Packet)
@@ -76,7 +80,7 @@ module _ (name : BusName) (k : ℕ) (s : Packeted) where
 
   pub delivery-comes : (found : Option Packet) (receiver : ℕ) (mid after : Packeted) (words : Option (List ℤ))
       → Some receiver ≡ option_map (λ (packet : Packet). packet.receiver) found
-      → is_running s.world.stopped receiver ≡ true → words ≡ completed_by found s.wires.nodes
+      → comes receiver found ≡ true → words ≡ completed_by found s.wires.nodes
       → mid ≡ record s { wires = delivered name k found s.wires }
       → after ≡ after_part (handed_words receiver words) mid
       → Settles (ended off (deliver_acted name (begun s) found)) s effect.Done after
@@ -91,19 +95,19 @@ module _ (name : BusName) (k : ℕ) (s : Packeted) where
         (record s { wires = delivered name k (Some packet) s.wires })) (some-same is)
         ∙ turned name packet
         ∙ sym (ap (λ (b : Bool). over off (if b then received name packet (begun s) else begun s))
-        (ap (is_running s.world.stopped) (sym (some-same is)) ∙ runs)),
+        (ap (λ (r : ℕ). comes r (Some packet)) (sym (some-same is)) ∙ runs)),
   )
 
   -- an I'm-alive packet is all that comes with it
   pub alive-comes : (found : Option Packet) (receiver sender : ℕ) (after : Packeted)
-      → alive_address found ≡ Some (receiver, sender) → is_running s.world.stopped receiver ≡ true
+      → alive_address found ≡ Some (receiver, sender) → comes receiver found ≡ true
       → completed_by found s.wires.nodes ≡ None → after ≡ record s { wires = delivered name k found s.wires }
       → Settles (ended off (deliver_acted name (begun s) found)) s effect.Done after
   alive-comes found receiver sender after is runs none came =
       delivery-comes found receiver after after None (alive-receiver found receiver sender is) runs (sym none) came refl
 
   pub alive-dropped : (found : Option Packet) (receiver sender : ℕ) (after : Packeted)
-      → alive_address found ≡ Some (receiver, sender) → is_running s.world.stopped receiver ≡ false
+      → alive_address found ≡ Some (receiver, sender) → comes receiver found ≡ false
       → after ≡ record s { wires = off } → Settles (ended off (deliver_acted name (begun s) found)) s effect.Done after
   alive-dropped found receiver sender after is stops same =
       delivery-dropped found receiver after (alive-receiver found receiver sender is) stops same

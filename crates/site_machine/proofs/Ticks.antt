@@ -5,17 +5,17 @@ use Rattle.std.proofs.Common.{ap, sym, subst, ◌∙◌}
 use Rattle.world_semantics.specs.declared.which.Which.TheVariants.{First, Second}
 use Rattle.world_semantics.specs.declared.role.Role.TheVariants.{Gone, Watching}
 use Rattle.world_semantics.specs.Rules.{stopped_copy, stopped_pair}
-use Rattle.world_semantics.specs.World.{Copy, Pair, is_running}
+use Rattle.world_semantics.specs.Running.{Done}
+use Rattle.world_semantics.specs.World.{Copy, Pair, is_running, is_whole}
 use Rattle.world_semantics.proofs.Lists.{map-all}
 use Rattle.computed_changes.specs.Stopped.{stopped_world}
-use Rattle.machine_states.specs.States.{Makes, Settles, Skips, Would, SecondStop}
+use Rattle.machine_states.specs.States.{Settles, Skips}
 use Rattle.machine_states.specs.declared.effect.Effect.{Effect}
 use Rattle.machine_states.specs.declared.effect.Effect.TheVariants as effect
-use Rattle.packet_wires.specs.message_wires.specs.Play.{has_stopped}
 use Rattle.open_links.specs.world_copies.specs.number_ranges.specs.HasRoom.{CopyHasRoom}
 use Rattle.packet_wires.specs.Lines.{line_pulled}
 use Rattle.packet_wires.specs.Play.{Packeted, ended, line_of, marks_and_declares, over, pulled, pulls}
-use Rattle.packet_wires.specs.Play.{pulls_its}
+use Rattle.packet_wires.specs.Play.{pulled_first, pulls_its}
 use Rattle.packet_wires.specs.Wires.{nothing_sent, ticked}
 use Rattle.node.specs.event_parts.specs.Numbers.{CanPush}
 use Rattle.node.specs.event_parts.specs.Parts.{carried_out}
@@ -23,6 +23,7 @@ use Rattle.node.specs.event_parts.proofs.Numbers.{can-ticked}
 use Rattle.open_links.specs.world_copies.specs.Room.{AllWatchersHaveRoom, WatchersHaveRoom}
 use Rattle.site_machine.specs.Needs.{IsReady}
 use Rattle.site_machine.specs.Told.{after_part, in_tick}
+use Rattle.site_machine.proofs.Stops.{stop-by}
 use Rattle.site_machine.proofs.Turns.{declared-in-turn}
 
 -- what the next event needs gives what a tick's parts need
@@ -100,11 +101,20 @@ running-pulled s mid halted after node processor ticks halts marks =
     ∙ sym (declared-in-turn (ticked s.site.processors node) node processor
     (record s { world = stopped_world processor s.world }))
 
-pub first-settles : (s after : Packeted) (node processor : ℕ) → has_stopped s.world.stopped ≡ false
+pub first-settles : (s after : Packeted) (node processor : ℕ) → slice_get s.world.stopped processor ≡ Some false
+    → is_whole s.world ≡ true
     → after ≡ over s.wires (marks_and_declares node processor
     (record (in_tick node s) { world = stopped_world processor s.world }))
     → Settles (ended s.wires (pulled node processor (in_tick node s) (Some false))) s effect.Done after
-first-settles s after node processor first same =
-    subst (λ (b : Bool). Settles (ended s.wires (if b then Would (SecondStop processor) else Makes
-    (marks_and_declares node processor (record (in_tick node s) { world = stopped_world processor s.world })))) s
-    effect.Done after) (sym first) (refl, same)
+first-settles s after node processor runs whole same =
+    subst (λ (made : Option Done). Settles (ended s.wires (pulled_first node processor (in_tick node s) made)) s
+    effect.Done after) (sym (stop-by processor s.world true runs whole)) (refl, same)
+
+-- it would stop in a world that isn't whole
+pub none-settles : (s after : Packeted) (node processor : ℕ) → slice_get s.world.stopped processor ≡ Some false
+    → is_whole s.world ≡ false → after ≡ s
+    → Settles (ended s.wires (pulled node processor (in_tick node s) (Some false))) s
+    (effect.WouldStopSecond processor) after
+none-settles s after node processor runs whole same =
+    subst (λ (made : Option Done). Settles (ended s.wires (pulled_first node processor (in_tick node s) made)) s
+    (effect.WouldStopSecond processor) after) (sym (stop-by processor s.world false runs whole)) (refl, same)

@@ -1,4 +1,5 @@
 -- What an event needs: numbers that have successors, and messages that keep to the layout. Our own rule.
+use Rattle.std.specs.Option.{unwrap_or}
 use Rattle.std.specs.Prelude.{◌≡◌, ◌++◌, ℕ, List, Option, Some, None, slice_get}
 use Rattle.std.specs.List.{All}
 use Rattle.tal_tree.specs.declared.site.Site.{Site}
@@ -9,7 +10,7 @@ use Rattle.change_layout.specs.declared.message.ChangeMessage.{ChangeMessage}
 use Rattle.computed_changes.specs.Changed.{change_done}
 use Rattle.computed_changes.specs.Entered.{enter_done}
 use Rattle.computed_changes.specs.Handed.{handed_done}
-use Rattle.computed_changes.specs.Stopped.{down_done, stopped_world}
+use Rattle.computed_changes.specs.Stopped.{down_done, stop_done}
 use Rattle.letters.specs.Again.{sent_again}
 use Rattle.link_control.specs.Ends.{End, HasNumbersLeft}
 use Rattle.packet_wires.specs.message_layout.specs.Layout.{Fits, IsCarriedWithin, IsWithin}
@@ -47,7 +48,7 @@ pub record SendsWithin (site : Site) (w : World) : Type 0 where
   pub changed : (node : ℕ) (change : ChangeMessage) (done : Done) → Fits site (Changing change)
       → change_done site node change w ≡ Some done → AreWithin done.world done.sendings
   pub marked : MarksWithin site w
-  pub pulled : (processor : ℕ) → MarksWithin site (stopped_world processor w)
+  pub pulled : (processor : ℕ) (done : Done) → stop_done processor w ≡ Some done → MarksWithin site done.world
 
 -- a message that was read, if one was, keeps to the layout
 abbrev pub IsReadWithin : Option NodeMessage → Type 0
@@ -65,8 +66,23 @@ abbrev pub HaveNumbersLeft : List Node → Type 0
 HaveNumbersLeft nodes = (x y : ℕ) (node : Node) (e : End) → slice_get nodes x ≡ Some node
     → slice_get node.ends y ≡ Some e → HasNumbersLeft e
 
+-- how often a node was loaded again; that of the terminals never was
+abbrev pub times_loaded : List ℕ → ℕ → ℕ
+times_loaded reloads node = unwrap_or (slice_get reloads node) 0
+
+-- an end bears how often its two nodes were loaded again
+pub record BearsReloads (reloads : List ℕ) (e : End) : Type 0 where
+  pub sender : e.incarnation.sender ≡ times_loaded reloads e.here
+  pub receiver : e.incarnation.receiver ≡ times_loaded reloads e.there
+
+-- each end of each node
+abbrev pub AllBearReloads : List ℕ → List Node → Type 0
+AllBearReloads reloads nodes = (x y : ℕ) (node : Node) (e : End) → slice_get nodes x ≡ Some node
+    → slice_get node.ends y ≡ Some e → BearsReloads reloads e
+
 -- what the next event needs
 pub record IsReady (s : Packeted) : Type 0 where
   pub room : WorldHasRoom s.world
   pub numbers : HaveNumbersLeft s.wires.nodes
+  pub bears : AllBearReloads s.world.reloads s.wires.nodes
   pub messages : SendsWithin s.site s.world

@@ -1,4 +1,4 @@
-ghost use Rattle.std.specs.Prelude.{◌≡◌, is_some, slice_get, IfOk, OnOk, Some};
+ghost use Rattle.std.specs.Prelude.{◌≡◌, ◌&&◌, is_some, slice_get, IfOk, OnOk, Some};
 ghost use Rattle.std.specs.Bool.{OnFalse, OnTrue};
 ghost use Rattle.std.specs.Option.{option_map};
 ghost use Rattle.schedule.specs.declared.event.Event.TheVariants as event;
@@ -7,7 +7,8 @@ ghost use Rattle.machine_states.specs.declared.effect.Effect.TheVariants as effe
 ghost use Rattle.node.specs.Calls.{alive_address};
 ghost use Rattle.packet_wires.specs.Play.{begun, deliver_acted, ended, play};
 ghost use Rattle.packet_wires.specs.Wires.{bus_named, on_bus, without_packet};
-ghost use Rattle.node.specs.event_parts.specs.Parts.{completed_by, delivered};
+ghost use Rattle.world_semantics.specs.World.{is_running};
+ghost use Rattle.node.specs.event_parts.specs.Parts.{completed_by, delivered, is_current_in};
 ghost use Rattle.site_machine.specs.Needs.{HaveNumbersLeft, IsReady};
 
 use crate::whole::MachineParts;
@@ -23,8 +24,31 @@ pub(crate) fn bus_named(y: bool) -> BusName
 }
 
 impl MachineParts {
-    /// The packet at a position of a bus is taken off, and comes at its receiver, where that runs.
+    /// The packet at a position of a bus is taken off, and comes at its receiver, where it comes in there.
     pub(crate) fn deliver(&mut self, y: bool, k: u32) -> Result<Effect, NoMemory>
+        requires { IsReady self.old }
+        ensures { IfOk result (λ effect. Settles (play self.old (event.Deliver y k)) self.old effect self.new) }
+    {
+        if k == 0 {
+            self.deliver_front(y)
+        } else {
+            self.deliver_any(y, k)
+        }
+    }
+
+    /// The same of the first packet. An I'm-alive packet is delivered at once.
+    fn deliver_front(&mut self, y: bool) -> Result<Effect, NoMemory>
+        requires { IsReady self.old }
+        ensures { IfOk result (λ effect. Settles (play self.old (event.Deliver y 0)) self.old effect self.new) }
+    {
+        if self.deliver_at_once(y) {
+            return Ok(Effect::Done);
+        }
+        self.deliver_any(y, 0)
+    }
+
+    /// The same of a packet of any kind.
+    fn deliver_any(&mut self, y: bool, k: u32) -> Result<Effect, NoMemory>
         requires { IsReady self.old }
         ensures { IfOk result (λ effect. Settles (play self.old (event.Deliver y k)) self.old effect self.new) }
     {
@@ -33,8 +57,8 @@ impl MachineParts {
         match self.receiver_at(bus, place) {
             None => Ok(Effect::Skipped),
             Some(receiver) => {
-                if !self.world.is_running(receiver) {
-                    self.wires.take(bus, place);
+                if !self.comes_in(bus, place, receiver) {
+                    self.drop_packet(bus, place);
                     return Ok(Effect::Done);
                 }
                 let words = self.arrive(bus, place)?;
@@ -45,12 +69,28 @@ impl MachineParts {
     }
 
     /// The first packet of a bus is delivered, if it is an I'm-alive packet. Answers whether it was.
+    #[inline(always)]
     pub(crate) fn deliver_at_once(&mut self, y: bool) -> bool
         ensures alive { result ≡ is_some (alive_address (slice_get (on_bus (bus_named y) self.old.wires) 0)) }
         ensures done { OnTrue result (Settles (play self.old (event.Deliver y 0)) self.old effects.Done self.new) }
         ensures same { OnFalse result (self.new ≡ self.old) }
     {
-        let bus = bus_named(y);
+        if y {
+            self.deliver_first(BusName::Y)
+        } else {
+            self.deliver_first(BusName::X)
+        }
+    }
+
+    /// The same of a bus by its name. In line, so that it is found once where the packet stands on that bus.
+    #[inline(always)]
+    fn deliver_first(&mut self, bus: BusName) -> bool
+        ensures alive { result ≡ is_some (alive_address (slice_get (on_bus bus self.old.wires) 0)) }
+        ensures done { OnTrue result (Settles (ended (without_packet bus 0 self.old.wires)
+            (deliver_acted bus (begun self.old) (slice_get (on_bus bus self.old.wires) 0))) self.old effects.Done
+            self.new) }
+        ensures same { OnFalse result (self.new ≡ self.old) }
+    {
         match self.alive_first(bus) {
             None => false,
             Some((receiver, sender)) => {
@@ -67,17 +107,28 @@ impl MachineParts {
         self.wires.alive_address(bus, 0)
     }
 
-    /// The first packet of a bus, an I'm-alive packet from this sender, comes at its receiver, where that runs.
+    /// Whether the packet at a position of a bus, which comes to this receiver, comes in there: the receiver runs, and
+    /// the packet was sent since it and its sender were loaded last.
+    #[inline(always)]
+    fn comes_in(&self, bus: BusName, place: usize, receiver: u8) -> bool
+        ensures { result ≡ (is_running self.now.world.stopped receiver
+            && is_current_in (slice_get (on_bus bus self.now.wires) place) self.now.wires.nodes) }
+    {
+        self.world.is_running(receiver) && self.wires.is_current(bus, place)
+    }
+
+    /// The first packet of a bus, an I'm-alive packet from this sender, comes at its receiver, where it comes in there.
+    #[inline(always)]
     fn deliver_alive(&mut self, bus: BusName, receiver: u8, sender: u8)
         requires { alive_address (slice_get (on_bus bus self.old.wires) 0) ≡ Some (receiver, sender) }
         ensures { Settles (ended (without_packet bus 0 self.old.wires)
             (deliver_acted bus (begun self.old) (slice_get (on_bus bus self.old.wires) 0))) self.old effects.Done
             self.new }
     {
-        if self.world.is_running(receiver) {
+        if self.comes_in(bus, 0, receiver) {
             self.hear_first(bus, receiver, sender);
         } else {
-            self.drop_first(bus);
+            self.drop_packet(bus, 0);
         }
     }
 
@@ -91,11 +142,11 @@ impl MachineParts {
         self.wires.hear_at(bus, 0, receiver, sender);
     }
 
-    /// The first packet of a bus is taken off, and comes to nobody.
-    fn drop_first(&mut self, bus: BusName)
-        ensures { self.new ≡ record self.old { wires = without_packet bus 0 self.old.wires } }
+    /// The packet at a position of a bus is taken off, and comes to nobody.
+    fn drop_packet(&mut self, bus: BusName, place: usize)
+        ensures { self.new ≡ record self.old { wires = without_packet bus place self.old.wires } }
     {
-        let _lost = self.wires.take(bus, 0);
+        let _lost = self.wires.take(bus, place);
     }
 
     /// The receiver of the packet at a position of a bus.

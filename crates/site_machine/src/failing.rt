@@ -1,21 +1,31 @@
-ghost use Rattle.std.specs.Prelude.{◌≡◌};
+ghost use Rattle.std.specs.Prelude.{◌≡◌, Some, false, slice_get};
 ghost use Rattle.schedule.specs.declared.event.Event.TheVariants as event;
-ghost use Rattle.computed_changes.specs.Stopped.{stopped_world};
+ghost use Rattle.computed_changes.specs.Stopped.{stop_done, stopped_world};
 ghost use Rattle.machine_states.specs.States.{Settles};
-ghost use Rattle.packet_wires.specs.Play.{play};
+ghost use Rattle.packet_wires.specs.Play.{begun, ended, play, stop_acted};
 
 use crate::whole::MachineParts;
 use machine_states::Effect;
 
 impl MachineParts {
-    /// A processor stops, unless another one has stopped.
+    /// A processor stops, if it runs, but not in a world that isn't whole.
+    #[inline(never)]
     pub(crate) fn fail(&mut self, processor: u8) -> Effect
         ensures { Settles (play self.old (event.Fail processor)) self.old result self.new }
     {
-        if !self.world.can_stop(processor) {
-            return Effect::Skipped;
+        match self.has_stopped(processor) {
+            None | Some(true) => Effect::Skipped,
+            Some(false) => self.stop_where_whole(processor),
         }
-        if self.world.has_stopped() {
+    }
+
+    /// A processor that runs stops, but not in a world that isn't whole.
+    fn stop_where_whole(&mut self, processor: u8) -> Effect
+        requires { slice_get self.old.world.stopped processor ≡ Some false }
+        ensures { Settles (ended self.old.wires
+            (stop_acted processor (begun self.old) (stop_done processor self.old.world))) self.old result self.new }
+    {
+        if !self.world.is_whole() {
             return Effect::WouldStopSecond(processor);
         }
         self.stop(processor);

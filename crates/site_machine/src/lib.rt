@@ -14,6 +14,7 @@ mod knowing;
 pub mod machine;
 mod marking;
 mod posting;
+mod reloading;
 mod running;
 mod ticking;
 mod turning;

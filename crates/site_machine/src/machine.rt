@@ -212,6 +212,13 @@ impl Machine {
         self.whole.world.stopped()
     }
 
+    /// How often each processor was loaded again.
+    pub fn reloads(&self) -> &[u8]
+        ensures { result.now ≡ self.now.state.world.reloads }
+    {
+        self.whole.world.reloads()
+    }
+
     /// How many processors there are.
     pub fn processors(&self) -> u8
         ensures { result ≡ length self.now.state.world.stopped }
@@ -280,6 +287,7 @@ impl Machine {
 }
 
 impl MachineParts {
+    #[inline(always)]
     fn event(&mut self, event: Event) -> Result<Effect, NoMemory>
         requires { IsReady self.old }
         ensures { IfOk result (λ effect. Settles (play self.old event) self.old effect self.new) }
@@ -292,6 +300,7 @@ impl MachineParts {
             Event::Repeat { y, k } => Ok(self.repeat(y, k)),
             Event::Tick(node) => self.tick(node),
             Event::Fail(processor) => Ok(self.fail(processor)),
+            Event::Reload(processor) => self.reload(processor),
             Event::Drive(turn) => Ok(self.turn(turn)),
         }
     }

@@ -36,6 +36,7 @@ impl MachineParts {
     }
 
     /// A node ticks, and pulls the line of a processor.
+    #[inline(never)]
     fn tick_and_pull(&mut self, node: u8, processor: u8) -> Result<Effect, NoMemory>
         requires { IsReady self.old }
         ensures { IfOk result (λ effect. Settles (ended self.old.wires
@@ -53,10 +54,11 @@ impl MachineParts {
         }
     }
 
-    /// A node ticks, and pulls the line of a processor that is there. Where that runs and is the first, it stops. The
-    /// node marks it, and tells the others.
+    /// A node ticks, and pulls the line of a processor that is there. Where that runs, it stops, but not in a world that
+    /// isn't whole. The node marks it, and tells the others.
     fn tick_and_mark(&mut self, node: u8, processor: u8, stopped: bool) -> Result<Effect, NoMemory>
-        requires { IsReady self.old }
+        requires ready { IsReady self.old }
+        requires stopped { slice_get self.old.world.stopped processor ≡ Some stopped }
         ensures { IfOk result (λ effect. Settles (ended self.old.wires
             (pulled node processor (in_tick node self.old) (Some stopped))) self.old effect self.new) }
     {
@@ -65,7 +67,7 @@ impl MachineParts {
             self.mark_and_declare(node, processor)?;
             return Ok(Effect::Done);
         }
-        if self.world.has_stopped() {
+        if !self.world.is_whole() {
             return Ok(Effect::WouldStopSecond(processor));
         }
         self.tick_wires(node)?;
@@ -75,10 +77,10 @@ impl MachineParts {
     }
 
     /// Whether a processor has stopped, if it is there.
-    fn has_stopped(&self, processor: u8) -> Option<bool>
+    pub(crate) fn has_stopped(&self, processor: u8) -> Option<bool>
         ensures { result ≡ slice_get self.now.world.stopped processor }
     {
-        self.world.stopped().get(usize::from(processor)).copied()
+        self.world.stopped_at(processor)
     }
 
     /// A node sends what its tick sends.

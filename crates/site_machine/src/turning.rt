@@ -8,6 +8,7 @@ use schedule::DriveEvent;
 
 impl MachineParts {
     /// A drive of a disc changes, if the disc has two and this one can change so.
+    #[inline(never)]
     pub(crate) fn turn(&mut self, turn: DriveEvent) -> Effect
         ensures { Settles (play self.old (event.Drive turn)) self.old result self.new }
     {

@@ -1,2 +1,1 @@
-mod DeedLayers
-mod NamedLayers
+mod Told

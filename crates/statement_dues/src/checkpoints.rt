@@ -1,8 +1,12 @@
-ghost use Rattle.std.specs.Prelude.{◌≡◌, ◌++◌, IfOk, OnOk};
+ghost use Rattle.std.specs.Prelude.{◌≡◌, ◌++◌, flat_map, IfOk, OnOk};
+ghost use Rattle.process_semantics.specs.SeenEntries.{entry_of};
 ghost use Rattle.statement_dues.specs.Checkpoints as spec;
-ghost use Rattle.statement_dues.specs.Checkpoints.{named_in, named_of, named_within};
+ghost use Rattle.statement_dues.specs.Checkpoints.{named_at, named_by, named_of};
+ghost use Rattle.tal_tree.specs.declared.statement.What.{out-What};
 
 use gd_words::{List, NoMemory};
+use process_semantics::Entry;
+use program_entries::entries_of;
 use std::alloc::Global;
 use tal_tree::{Program, Statement, What};
 
@@ -19,60 +23,65 @@ pub struct NamedCheckpoint {
 pub fn checkpoints_of(alloc: Global, program: &Program) -> Result<List<NamedCheckpoint>, NoMemory>
     ensures { IfOk result (λ found. found ≡ spec.checkpoints_of program.now) }
 {
+    let entries = entries_of(alloc, program)?;
+    let found = checkpoints_among(alloc, entries.as_slice())?;
+    Ok(found)
+}
+
+fn checkpoints_among(
+    alloc: Global,
+    entries: &[Entry<'_>],
+) -> Result<List<NamedCheckpoint>, NoMemory>
+    ensures { IfOk result (λ found. found ≡ flat_map (λ entry. named_at (entry_of entry)) entries.now) }
+{
     let mut found = List::new(alloc);
-    let procedures = program.procedures.as_slice();
-    for procedure in procedures {
-        push_named(alloc, procedure.body.as_slice(), &mut found)?;
+    for entry in entries {
+        push_named(alloc, *entry, &mut found)?;
     }
     Ok(found)
 }
 
-/// Puts the CHECKPOINTs among statements, and among those that stand in them, behind others.
-#[cycle(checkpoints)]
+/// Puts what has to be done behind others, if it is a CHECKPOINT.
 fn push_named(
     alloc: Global,
-    statements: &[Statement],
+    entry: Entry<'_>,
     found: &mut List<NamedCheckpoint>,
 ) -> Result<(), NoMemory>
-    ensures { OnOk result (found.new ≡ found.old ++ named_in statements.now) }
+    ensures { OnOk result (found.new ≡ found.old ++ named_at (entry_of entry.entry)) }
 {
-    for statement in statements {
-        push_within(alloc, statement, found)?;
+    match entry {
+        Entry::Run(statement) => push_checkpoint(alloc, statement, found),
+        Entry::Test(_) | Entry::Last(_) => Ok(()),
     }
-    Ok(())
 }
 
-/// Puts a statement, if it is a CHECKPOINT, and the CHECKPOINTs in it behind others.
-#[cycle(checkpoints)]
-fn push_within(
+fn push_checkpoint(
     alloc: Global,
     statement: &Statement,
     found: &mut List<NamedCheckpoint>,
 ) -> Result<(), NoMemory>
     ensures { OnOk result (found.new ≡ found.old
-        ++ named_within statement.now.number statement.now.line statement.now.what) }
+        ++ named_by statement.now.number statement.now.line (out-What statement.now.what)) }
 {
     match &statement.what {
         What::Checkpoint { items, files } => {
             let named = named_of(alloc, statement, items.as_slice(), files.as_slice())?;
             found.push(named)?;
         }
-        What::If { test: _, yes, no } => {
-            push_named(alloc, yes.as_slice(), found)?;
-            push_named(alloc, no.as_slice(), found)?;
-        }
-        What::While { test: _, body } => push_named(alloc, body.as_slice(), found)?,
-        What::For {
-            variable: _,
-            from: _,
-            to: _,
-            down: _,
-            step: _,
-            body,
-            last: _,
-        } => push_named(alloc, body.as_slice(), found)?,
-        What::DoUntil { body, test: _ } => push_named(alloc, body.as_slice(), found)?,
-        _ => {}
+        What::Assign { .. }
+        | What::AssignCall { .. }
+        | What::If { .. }
+        | What::While { .. }
+        | What::For { .. }
+        | What::DoUntil { .. }
+        | What::Call { .. }
+        | What::Return(_)
+        | What::ReadUpdate { .. }
+        | What::Reply { .. }
+        | What::WriteRead { .. }
+        | What::CheckMonitor
+        | What::Open(_)
+        | What::Stop => {}
     }
     Ok(())
 }

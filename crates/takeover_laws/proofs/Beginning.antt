@@ -27,11 +27,10 @@ first-pair site from (spec ∷ specs) (suc k) pair at =
 
 -- at its beginning the first copy leads, and no checkpoint is due
 pub first-sound : (site : Site) (number : ℕ) (spec : ProcessSpec)
-    → IsSound site [] empty_ledger 0 number spec (pair_at_boot site number spec)
+    → IsSound site empty_ledger 0 number spec (pair_at_boot site number spec)
 first-sound site number spec = record {
-  led = by_first (with_other (λ e. absurd (cc))
-      (is_level {more = []} refl none_held refl nothing_done (λ sent. absurd (cc))) (λ e. absurd (cc))
-      (is_even (record {
+  led = by_first (with_other refl (is_level {more = []} refl none_held refl nothing_done (λ sent. absurd (cc)))
+      (is_even (λ e. absurd (cc)) (record {
         since = [];
         before = [];
         split = refl;
@@ -40,9 +39,11 @@ first-sound site number spec = record {
         done = nothing_done;
         role = refl;
         unsent = refl;
+        era = refl;
         checkpoints = λ m among. absurd among;
         takens = λ t among. absurd among;
-      }) refl refl refl));
+      }) refl refl refl refl)
+      (record { other = omega arith; checkpoints = λ m among. absurd among; takens = λ t among. absurd among }));
   sectors = refl;
   waiting = none-waits;
   count = omega arith;
@@ -65,14 +66,14 @@ beginning-keeps site = record {
   where
     processes : (number : ℕ) (pair : Pair) → slice_get (boot site).processes number ≡ Some pair
         → (spec : ProcessSpec) × (slice_get site.processes number ≡ Some spec)
-        × IsSound site [] empty_ledger 0 number spec pair
+        × IsSound site empty_ledger 0 number spec pair
     processes number pair at =
         let first = first-pair site 0 site.processes number pair at in
         let is : pair ≡ pair_at_boot site number first.0 =
         first.2 ∙ ap (λ n. pair_at_boot site n first.0) (omega arith) in (
           first.0,
           first.1,
-          subst (λ p. IsSound site [] empty_ledger 0 number first.0 p) (sym is)
+          subst (λ p. IsSound site empty_ledger 0 number first.0 p) (sym is)
               (first-sound site number first.0),
         )
 

@@ -8,22 +8,26 @@ use Rattle.tal_tree.specs.declared.act.Act.TheVariants.{Step}
 use Rattle.tal_tree.specs.declared.site.Site.{Site}
 use Rattle.world_semantics.specs.Core.{Core, Deed}
 use Rattle.world_semantics.specs.Kept.{is_own, own_acts}
-use Rattle.world_semantics.specs.Messages.{Message, Sending, Cause, Stopping, NotingDown}
+use Rattle.world_semantics.specs.Messages.{Message, Sending, Cause, Stopping, NotingDown, Reloading}
 use Rattle.world_semantics.specs.Own.{Around, Causes, by_inner, by_take, by_ask, by_answer, by_device, by_write}
 use Rattle.world_semantics.specs.Own.{by_reply}
 use Rattle.world_semantics.specs.Passes.{Passes, by_send, by_pass_again, by_pass, by_apply, by_acknowledge}
-use Rattle.world_semantics.specs.Passes.{kept_at_checkpoint}
-use Rattle.world_semantics.specs.Rules.{stopped_pair, pair_after_down}
+use Rattle.world_semantics.specs.Passes.{kept_at_checkpoint, by_apply_behind, by_end, kept_at, point_at}
+use Rattle.world_semantics.specs.Rules.{stopped_pair, pair_after_down, reloaded_by, renewals_ended}
 use Rattle.world_semantics.specs.declared.which.Which.{Which}
 use Rattle.world_semantics.specs.declared.which.Which.TheVariants.{First, Second}
 use Rattle.world_semantics.specs.World.{Copy, Pair, Down, copy_of, with_copy}
 use Rattle.world_semantics.proofs.Counting.{own-append, own-step, own-one}
+use Rattle.world_semantics.specs.Shares.{acts_at}
 use Rattle.takeover_laws.proofs.Waiting.{still-all}
+use Rattle.process_semantics.specs.declared.point.Point.{Point}
+use Rattle.process_semantics.specs.declared.point.Point.TheVariants as point
 
 -- how many acts a change adds at most
 abbrev pub acts_by : Cause → ℕ
 acts_by (Stopping processor) = 0
 acts_by (NotingDown node processor) = 0
+acts_by (Reloading processor) = 0
 acts_by _ = 1
 
 pub causes-one : {site : Site} {number node : ℕ} {core : Core} {before after : Around} {cause : Cause} {deed : Deed}
@@ -43,7 +47,9 @@ pub passes-one : {number : ℕ} {marks : List Down} {kept after : List Act} {pai
 passes-one (by_send k role at sent unmarked) = refl
 passes-one (by_pass_again k role at may less) = refl
 passes-one (by_pass k role at may most) = refl
-passes-one (by_apply k message applied role sent era is put) = refl
+passes-one (by_end k role sent away may) = refl
+passes-one (by_apply_behind k message applied role sent era is put at) = refl
+passes-one (by_apply k message applied role sent era is put at) = refl
 passes-one (by_acknowledge k taken role sent among era is) = refl
 
 -- Held acts, sectors and waiting requests after a checkpoint went on
@@ -64,6 +70,24 @@ kept-most number copy kept =
     rw (own-one number (Step number) (copy.held ++ kept) (own-step number), own-append number copy.held kept)
     (omega (arith, held))
 
+step-most : (number : ℕ) (p : Point) → own_acts number (acts_at number p) ≤ 1
+step-most number point.AtCheckpoint = own-most number (Step number ∷ [])
+step-most number point.Inner = omega arith
+step-most number point.Take = omega arith
+step-most number point.Ask = omega arith
+step-most number point.Await = omega arith
+step-most number point.Answer = omega arith
+step-most number point.Device = omega arith
+step-most number point.Ended = omega arith
+
+kept-at-most : (number : ℕ) (copy : Copy) (kept : List Act)
+    → own_acts number (kept_at number copy kept) ≤ length copy.held + own_acts number kept + 1
+kept-at-most number copy kept =
+    let held = own-most number copy.held in
+    let step = step-most number (point_at copy) in
+    rw (own-append number (acts_at number (point_at copy)) (copy.held ++ kept), own-append number copy.held kept)
+    (omega (arith, held, step))
+
 pub passes-held : {number : ℕ} {marks : List Down} {kept after : List Act} {pair next : Pair} {cause : Cause}
     {sendings : List Sending}
     → Passes number marks kept pair cause sendings next after
@@ -77,10 +101,14 @@ passes-held {number = n} {kept = kept} {pair = pair} (by_pass First role at may 
     let few = kept-most n pair.first kept in omega (arith, few)
 passes-held {number = n} {kept = kept} {pair = pair} (by_pass Second role at may most) =
     let few = kept-most n pair.second kept in omega (arith, few)
-passes-held {number = n} {kept = kept} {pair = pair} (by_apply First message applied role sent era is put) =
-    let few = kept-most n pair.second kept in omega (arith, few)
-passes-held {number = n} {kept = kept} {pair = pair} (by_apply Second message applied role sent era is put) =
-    let few = kept-most n pair.first kept in omega (arith, few)
+passes-held (by_end First role sent away may) = omega arith
+passes-held (by_end Second role sent away may) = omega arith
+passes-held (by_apply_behind First message applied role sent era is put at) = omega arith
+passes-held (by_apply_behind Second message applied role sent era is put at) = omega arith
+passes-held {number = n} {kept = kept} {pair = pair} (by_apply First message applied role sent era is put at) =
+    let few = kept-at-most n pair.second kept in omega (arith, few)
+passes-held {number = n} {kept = kept} {pair = pair} (by_apply Second message applied role sent era is put at) =
+    let few = kept-at-most n pair.first kept in omega (arith, few)
 passes-held (by_acknowledge First taken role sent among era is) = omega arith
 passes-held (by_acknowledge Second taken role sent among era is) = omega arith
 
@@ -93,8 +121,12 @@ passes-sectors (by_pass_again First role at may less) = refl
 passes-sectors (by_pass_again Second role at may less) = refl
 passes-sectors (by_pass First role at may most) = refl
 passes-sectors (by_pass Second role at may most) = refl
-passes-sectors (by_apply First message applied role sent era is put) = refl
-passes-sectors (by_apply Second message applied role sent era is put) = refl
+passes-sectors (by_end First role sent away may) = refl
+passes-sectors (by_end Second role sent away may) = refl
+passes-sectors (by_apply_behind First message applied role sent era is put at) = refl
+passes-sectors (by_apply_behind Second message applied role sent era is put at) = refl
+passes-sectors (by_apply First message applied role sent era is put at) = refl
+passes-sectors (by_apply Second message applied role sent era is put at) = refl
 passes-sectors (by_acknowledge First taken role sent among era is) = refl
 passes-sectors (by_acknowledge Second taken role sent among era is) = refl
 
@@ -114,10 +146,18 @@ passes-waiting (by_pass First role at may most) First = refl
 passes-waiting (by_pass First role at may most) Second = refl
 passes-waiting (by_pass Second role at may most) First = refl
 passes-waiting (by_pass Second role at may most) Second = refl
-passes-waiting (by_apply First message applied role sent era is put) First = refl
-passes-waiting (by_apply First message applied role sent era is put) Second = refl
-passes-waiting (by_apply Second message applied role sent era is put) First = refl
-passes-waiting (by_apply Second message applied role sent era is put) Second = refl
+passes-waiting (by_end First role sent away may) First = refl
+passes-waiting (by_end First role sent away may) Second = refl
+passes-waiting (by_end Second role sent away may) First = refl
+passes-waiting (by_end Second role sent away may) Second = refl
+passes-waiting (by_apply_behind First message applied role sent era is put at) First = refl
+passes-waiting (by_apply_behind First message applied role sent era is put at) Second = refl
+passes-waiting (by_apply_behind Second message applied role sent era is put at) First = refl
+passes-waiting (by_apply_behind Second message applied role sent era is put at) Second = refl
+passes-waiting (by_apply First message applied role sent era is put at) First = refl
+passes-waiting (by_apply First message applied role sent era is put at) Second = refl
+passes-waiting (by_apply Second message applied role sent era is put at) First = refl
+passes-waiting (by_apply Second message applied role sent era is put at) Second = refl
 passes-waiting (by_acknowledge First taken role sent among era is) First = refl
 passes-waiting (by_acknowledge First taken role sent among era is) Second = refl
 passes-waiting (by_acknowledge Second taken role sent among era is) First = refl
@@ -165,3 +205,34 @@ pub stopped-waiting : (P : Request → Type 0) (processor : ℕ) (pair : Pair) �
     → AllWait P (stopped_pair processor pair)
 stopped-waiting P processor pair all First = all First
 stopped-waiting P processor pair all Second = all Second
+
+-- Reloads
+
+pub reloaded-sectors : (core : Core) (pair : Pair) (a b : Bool) → (reloaded_by core pair a b).sectors ≡ pair.sectors
+reloaded-sectors core pair false false = refl
+reloaded-sectors core pair true false = refl
+reloaded-sectors core pair false true = refl
+reloaded-sectors core pair true true = refl
+
+pub reloaded-held : (core : Core) (pair : Pair) (a b : Bool)
+    → length (reloaded_by core pair a b).first.held + length (reloaded_by core pair a b).second.held
+    ≤ length pair.first.held + length pair.second.held
+reloaded-held core pair false false = omega arith
+reloaded-held core pair true false = omega arith
+reloaded-held core pair false true = omega arith
+reloaded-held core pair true true = omega arith
+
+pub reloaded-waiting : (P : Request → Type 0) (core : Core) (pair : Pair) (a b : Bool) → AllWait P pair
+    → AllWait P (reloaded_by core pair a b)
+reloaded-waiting P core pair false false all which = all which
+reloaded-waiting P core pair true false all First = λ request among. absurd among
+reloaded-waiting P core pair true false all Second = all Second
+reloaded-waiting P core pair false true all First = all First
+reloaded-waiting P core pair false true all Second = λ request among. absurd among
+reloaded-waiting P core pair true true all First = λ request among. absurd among
+reloaded-waiting P core pair true true all Second = λ request among. absurd among
+
+pub ended-waiting : (P : Request → Type 0) (node processor : ℕ) (pair : Pair) → AllWait P pair
+    → AllWait P (renewals_ended node processor pair)
+ended-waiting P node processor pair all First = all First
+ended-waiting P node processor pair all Second = all Second

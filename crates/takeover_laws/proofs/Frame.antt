@@ -6,12 +6,12 @@ use Rattle.tal_tree.specs.declared.site.ProcessSpec.{ProcessSpec}
 use Rattle.gd_words.specs.declared.message.Request.{Request}
 use Rattle.gd_words.specs.declared.message.Reply.{Reply}
 use Rattle.world_semantics.specs.Core.{Deed}
-use Rattle.world_semantics.specs.World.{Copy, Pair, Down}
+use Rattle.world_semantics.specs.World.{Copy, Pair}
 use Rattle.world_semantics.specs.Kept.{Enters, holds_on, repeats, begins, keeps}
 use Rattle.plain_histories.specs.Ledgers.{Ledger}
 use Rattle.plain_histories.proofs.Held.{held-stays}
-use Rattle.takeover_laws.specs.Invariant.{Stage, IsLead, is_level, is_applied, is_behind, FirstLeads, with_other, alone}
-use Rattle.takeover_laws.specs.Invariant.{IsLed, by_first, by_second, IsAsked, IsAnswered, IsSound}
+use Rattle.takeover_laws.specs.Invariant.{Stage, IsLead, is_level, is_applied, is_behind, FirstLeads, with_other, IsLed}
+use Rattle.takeover_laws.specs.Invariant.{by_first, by_second, IsAsked, IsAnswered, IsSound}
 use Rattle.takeover_laws.proofs.Settled.{IsLeft, Keeps}
 
 module _ {site : Site} {ledger more : Ledger} {number : ℕ} {spec : ProcessSpec}
@@ -19,17 +19,16 @@ module _ {site : Site} {ledger more : Ledger} {number : ℕ} {spec : ProcessSpec
   lead-frame : {deeds : List Deed} {copy : Copy} {stage : Stage} → IsLead site ledger number spec deeds copy stage
       → IsLead site more number spec deeds copy stage
   lead-frame (is_level is held pos done sent) = is_level is (held-stays left.waits held) pos done sent
-  lead-frame (is_applied before is split pos done sent) = is_applied before is split pos done sent
+  lead-frame (is_applied before is split pos done) = is_applied before is split pos done
   lead-frame (is_behind since next before is split one all pos done unsent) =
       is_behind since next before is split one all pos done unsent
 
-  leads-frame : {marks : List Down} {deeds : List Deed} {pair : Pair}
-      → FirstLeads site marks ledger number spec deeds pair → FirstLeads site marks more number spec deeds pair
-  leads-frame (with_other role lead stage other) = with_other role (lead-frame lead) stage other
-  leads-frame (alone role lead stage unsent gone marked) = alone role (lead-frame lead) stage unsent gone marked
+  leads-frame : {deeds : List Deed} {pair : Pair} → FirstLeads site ledger number spec deeds pair
+      → FirstLeads site more number spec deeds pair
+  leads-frame (with_other role lead other dated) = with_other role (lead-frame lead) other dated
 
-  led-frame : {marks : List Down} {pair : Pair} → IsLed site marks ledger number spec (ledger.deeds number) pair
-      → IsLed site marks more number spec (more.deeds number) pair
+  led-frame : {pair : Pair} → IsLed site ledger number spec (ledger.deeds number) pair
+      → IsLed site more number spec (more.deeds number) pair
   led-frame (by_first leads) = rw left.deeds (by_first (leads-frame leads))
   led-frame (by_second leads) = rw left.deeds (by_second (leads-frame leads))
 
@@ -42,10 +41,10 @@ pub answered-more : {ledger more : Ledger} → Keeps ledger more → (reply : Re
 answered-more stay reply answered =
     stay.answered (record { server = reply.process; place = reply.opener }) reply.number reply.words answered
 
-pub process-frame : {site : Site} {marks : List Down} {ledger more : Ledger} {events number : ℕ} {spec : ProcessSpec}
-    {pair : Pair} (later : ℕ) → events ≤ later
-    → IsLeft site ledger more number → Keeps ledger more → IsSound site marks ledger events number spec pair
-    → IsSound site marks more later number spec pair
+pub process-frame : {site : Site} {ledger more : Ledger} {events number : ℕ} {spec : ProcessSpec} {pair : Pair}
+    (later : ℕ) → events ≤ later
+    → IsLeft site ledger more number → Keeps ledger more → IsSound site ledger events number spec pair
+    → IsSound site more later number spec pair
 process-frame {site = site} later few left stay sound = record {
   led = led-frame left sound.led;
   sectors = rw left.deeds sound.sectors;

@@ -5,14 +5,15 @@ use Rattle.schedule.specs.declared.event.Event.{Event}
 use Rattle.plain_semantics.specs.Machine.{IsPossible, shown_by}
 use Rattle.world_semantics.specs.Follows.{Follows, runs, cannot_run, enters, cannot_enter, delivers_none, delivers}
 use Rattle.world_semantics.specs.Follows.{delivers_mark, loses, doubles, ticks_none, ticks, ticks_stop, fails}
-use Rattle.world_semantics.specs.Follows.{turns_drive}
-use Rattle.world_semantics.specs.Follows.{cannot_fail, NotesDowns, marks_none, marks_one, Leads, stays, goes_on, IsRun}
+use Rattle.world_semantics.specs.Follows.{turns_drive, cannot_fail, NotesDowns, marks_none, marks_one, Leads, stays}
+use Rattle.world_semantics.specs.Follows.{goes_on, IsRun, cannot_reload, reloads}
 use Rattle.world_semantics.specs.Kept.{acts_of}
 use Rattle.world_semantics.specs.Messages.{Sending, Cause}
 use Rattle.world_semantics.specs.Rules.{Change}
 use Rattle.world_semantics.specs.World.{World, boot}
 use Rattle.world_semantics.proofs.Growing.{AreStopped, change-marks}
 use Rattle.world_semantics.proofs.Roles.{AllRoles, change-roles, roles-begin}
+use Rattle.world_semantics.proofs.Steady.{IsSeated, IsSteady, change-seated, change-steady, seats-begin, steady-begins}
 use Rattle.plain_histories.proofs.Possible.{booked-ran}
 use Rattle.takeover_laws.specs.Fit.{IsFit}
 use Rattle.takeover_laws.specs.Invariant.{Invariant}
@@ -24,6 +25,8 @@ use Rattle.takeover_laws.proofs.Keeping.{change-keeps}
 pub record IsGood (site : Site) (events : ℕ) (w : World) : Type 0 where
   pub roles : AllRoles w
   pub stopped : AreStopped w
+  pub steady : IsSteady w
+  pub seated : IsSeated site w
   pub invariant : Invariant site events w
 
 more-events : {site : Site} {events : ℕ} (more : ℕ) {w : World} → events ≤ more → Invariant site events w
@@ -49,8 +52,13 @@ more-events more few inv = record {
 
 module _ (site : Site) (fit : IsFit site) where
   more-good : {events : ℕ} (more : ℕ) {w : World} → events ≤ more → IsGood site events w → IsGood site more w
-  more-good more few good =
-      record { roles = good.roles; stopped = good.stopped; invariant = more-events more few good.invariant }
+  more-good more few good = record {
+    roles = good.roles;
+    stopped = good.stopped;
+    steady = good.steady;
+    seated = good.seated;
+    invariant = more-events more few good.invariant;
+  }
 
   pub change-good : (events : ℕ) (w next : World) (cause : Cause) (sendings : List Sending) → events < 4294967295
       → IsGood site events w → Change site w cause sendings next
@@ -58,7 +66,10 @@ module _ (site : Site) (fit : IsFit site) where
   change-good events w next cause sendings few good change = record {
     roles = change-roles w next cause sendings change good.roles;
     stopped = change-marks w next cause sendings change good.stopped;
-    invariant = change-keeps site fit events w next cause sendings few good.roles good.stopped good.invariant change;
+    steady = change-steady w next cause sendings good.stopped change good.steady;
+    seated = change-seated w next cause sendings change good.seated;
+    invariant = change-keeps site fit events w next cause sendings few good.roles good.stopped good.steady good.seated
+        good.invariant change;
   }
 
   marks-good : (events : ℕ) {node : ℕ} {w end : World} {sendings : List Sending} → events < 4294967295
@@ -91,6 +102,9 @@ module _ (site : Site) (fit : IsFit site) where
   follows-good events w next sendings few good (fails change) =
       more-good (events + 1) (omega arith) (change-good events w next _ _ few good change)
   follows-good events w next sendings few good (cannot_fail idle) = more-good (events + 1) (omega arith) good
+  follows-good events w next sendings few good (reloads change) =
+      more-good (events + 1) (omega arith) (change-good events w next _ _ few good change)
+  follows-good events w next sendings few good (cannot_reload idle) = more-good (events + 1) (omega arith) good
 
   leads-good : (before : ℕ) {w end : World} (events : List Event) → before + length events < 4294967296
       → IsGood site before w → Leads site w events end
@@ -105,7 +119,13 @@ module _ (site : Site) (fit : IsFit site) where
       → Invariant site (length events) w
   run-keeps events w few run =
       let first : IsGood site 0 (boot site) =
-      record { roles = roles-begin site; stopped = λ mark among. absurd among; invariant = beginning-keeps site } in
+      record {
+        roles = roles-begin site;
+        stopped = λ mark among. absurd among;
+        steady = steady-begins site;
+        seated = seats-begin site;
+        invariant = beginning-keeps site;
+      } in
       (subst (λ n. IsGood site n w) (omega arith) (leads-good 0 events (omega (arith, few)) first run)).invariant
 
   pub kept-possible : (events : List Event) (w : World) → length events < 4294967296 → IsRun site events w

@@ -26,6 +26,8 @@ use Rattle.takeover_laws.proofs.Backed.{IsBacked, IsSentBy, IsOld, IsNew, same-d
 use Rattle.takeover_laws.proofs.Backed.{old-call, allowed-by, got-same, call-same}
 use Rattle.takeover_laws.proofs.Repeating.{no-mark, repeatable-unmarked}
 use Rattle.takeover_laws.proofs.Stops.{lead-from}
+use Rattle.process_semantics.specs.Process as process
+use Rattle.process_semantics.specs.declared.point.Point.TheVariants as point
 
 -- what becomes of a lead: the ledger stays, or has the deed
 pub data Becomes (site : Site) (kept : List Act) (ledger : Ledger) (number : ℕ) (spec : ProcessSpec) (deed : Deed)
@@ -167,25 +169,26 @@ module _ (site : Site) (regular : AreRegular site) (number : ℕ) (spec : Proces
 
   pub lead-own : (after : List Act) (deed : Deed) (copy entered : Copy) (next : Core) {stage : Stage}
       → IsLead site ledger number spec (ledger.deeds number) copy stage
+      → (copy.sent ≡ true → process.point copy.core.state ≡ point.Await)
       → Advances (openers_of site number) copy.core deed next → deed ≢ Checkpointed
       → IsBacked site ledger number spec copy.core deed
       → Enters number (act_of number deed) kept copy entered after
       → Becomes site kept ledger number spec deed stage copy.core (record entered { core = next }) after
-  lead-own after deed copy entered next (is_level is none_held pos done sent) advances other back enters =
-      level-free after deed copy entered next is pos done (λ s. not-at-mark advances other (sent s)) advances other
+  lead-own after deed copy entered next (is_level is none_held pos done sent) free advances other back enters =
+      level-free after deed copy entered next is pos done (λ s. sent s (free s)) advances other
       (allowed-by site regular number spec there ledger booked done advances back) enters
-  lead-own after deed copy entered next (is_level is (take_held awaits) pos done sent) advances other back enters =
+  lead-own after deed copy entered next (is_level is (take_held awaits) pos done sent) free advances other back enters =
       level-held after deed copy entered next _ _ is (λ e. absurd (cc)) (take_held awaits) pos done
-      (λ s. not-at-mark advances other (sent s)) advances other enters
-  lead-own after deed copy entered next (is_level is (step_held held) pos done sent) advances other back enters =
+      (λ s. sent s (free s)) advances other enters
+  lead-own after deed copy entered next (is_level is (step_held held) pos done sent) free advances other back enters =
       level-held after deed copy entered next _ _ is (λ e. absurd (cc)) (step_held held) pos done
-      (λ s. not-at-mark advances other (sent s)) advances other enters
-  lead-own after deed copy entered next (is_applied before is split pos done sent) advances other back enters =
+      (λ s. sent s (free s)) advances other enters
+  lead-own after deed copy entered next (is_applied before is split pos done) free advances other back enters =
       let stands = ((booked-ran regular booked).agrees.processes number spec there).2 in
       absurd (not-at-mark advances other (stands-there
       (done-last done (subst (λ all. HasDone site number spec all stands.core) split stands.done))))
-  lead-own after deed copy entered next (is_behind since then before is split one all pos done unsent) advances other
-      back enters =
+  lead-own after deed copy entered next (is_behind since then before is split one all pos done unsent) free advances
+      other back enters =
       let stands = ((booked-ran regular booked).agrees.processes number spec there).2 in
       let old = done-before since (then ∷ before)
       (subst (λ g. HasDone site number spec g stands.core) split stands.done) in
@@ -217,7 +220,7 @@ module _ (site : Site) (regular : AreRegular site) (number : ℕ) (spec : Proces
           let new = lead-from site ledger number spec (ledger.deeds number)
           (record copy { position = copy.position + 1; core = next }) since (deed ∷ before) is at all
           (omega (arith, pos))
-          (one_more done advances) unsent in
+          (one_more done advances) (λ s. absurd (unsent s (free s))) in
           lead_stays refl new.2 (λ e. absurd (cc)) (λ e. absurd (cc)) new.1
           (sent-by site regular number spec there ledger since before at done advances)
           (old-call site regular number spec there ledger since before at done advances

@@ -1,6 +1,6 @@
 -- What a copy does, and what comes to it, keeps the invariant.
 use Rattle.std.proofs.Common.{◌≡◌, ◌<◌, ◌≤◌, ℕ, ◌+◌, List, [], ◌∷◌, ◌++◌, length, Some, slice_get, ap, sym, ◌∙◌, subst}
-use Rattle.std.proofs.Common.{arith}
+use Rattle.std.proofs.Common.{arith, true}
 use Rattle.gd_words.specs.Members.{IsAmong}
 use Rattle.gd_words.specs.declared.message.Request.{Request}
 use Rattle.gd_words.specs.declared.message.Reply.{Reply}
@@ -8,18 +8,20 @@ use Rattle.tal_tree.specs.declared.act.Act.{Act}
 use Rattle.tal_tree.specs.declared.act.Shown.{Shown}
 use Rattle.tal_tree.specs.declared.site.Site.{Site}
 use Rattle.tal_tree.specs.declared.site.ProcessSpec.{ProcessSpec}
+use Rattle.tal_tree.specs.declared.site.OpenerSpec.{OpenerSpec}
 use Rattle.plain_semantics.specs.Openers.{openers_of}
 use Rattle.disc_device.specs.Sectors.{Stored}
 use Rattle.world_semantics.specs.declared.role.Role.TheVariants.{Acting}
-use Rattle.world_semantics.specs.Core.{Core, Deed, Advances}
+use Rattle.world_semantics.specs.Core.{Core, Deed, Advances, gets}
 use Rattle.world_semantics.specs.Kept.{Enters, own_acts}
 use Rattle.world_semantics.specs.Messages.{Message, Sending, Cause}
-use Rattle.world_semantics.specs.Own.{Around, around, Causes}
+use Rattle.world_semantics.specs.Own.{Around, around, Causes, by_answer, by_ask, by_device, by_inner, by_reply, by_take}
+use Rattle.world_semantics.specs.Own.{by_write}
 use Rattle.world_semantics.specs.Passes.{Passes}
-use Rattle.world_semantics.specs.Rules.{after_own}
+use Rattle.world_semantics.specs.Rules.{after_own, IsFreeFor}
 use Rattle.world_semantics.specs.declared.which.Which.{Which}
 use Rattle.world_semantics.specs.declared.which.Which.TheVariants.{First, Second}
-use Rattle.world_semantics.specs.World.{Copy, Pair, Down, World, copy_of, with_copy, with_pair}
+use Rattle.world_semantics.specs.World.{Copy, Pair, World, copy_of, with_copy, with_pair}
 use Rattle.world_semantics.proofs.Growing.{AreStopped}
 use Rattle.world_semantics.proofs.Roles.{AllRoles}
 use Rattle.process_histories.specs.Devices.{sectors_after}
@@ -37,16 +39,17 @@ use Rattle.takeover_laws.proofs.Pairs.{Outcome, it_stays, it_is_kept, led-own, l
 use Rattle.takeover_laws.proofs.Passing.{led-pass}
 use Rattle.takeover_laws.proofs.Settled.{Keeps, IsSettled, settled-none, settled-more}
 use Rattle.takeover_laws.proofs.Changing.{passes-held, passes-sectors, passes-waiting, each-copy, same-sectors, AllWait}
+use Rattle.process_semantics.specs.Process as process
+use Rattle.process_semantics.specs.declared.point.Point.TheVariants as point
 
 -- a request is to a process, and was asked
 abbrev pub IsFor : Site → Ledger → ℕ → Request → Type 0
 IsFor site ledger number request = (request.process ≡ number) × IsAsked site ledger request
 
 -- a process of the site is sound
-abbrev pub SoundAs : Site → List Down → Ledger → ℕ → ℕ → Pair → Type 0
-SoundAs site marks ledger events number pair =
-    (spec : ProcessSpec) × (slice_get site.processes number ≡ Some spec)
-    × IsSound site marks ledger events number spec pair
+abbrev pub SoundAs : Site → Ledger → ℕ → ℕ → Pair → Type 0
+SoundAs site ledger events number pair =
+    (spec : ProcessSpec) × (slice_get site.processes number ≡ Some spec) × IsSound site ledger events number spec pair
 
 module _ (site : Site) (fit : IsFit site) where
   -- one process changed, with its deeds in the ledger
@@ -54,7 +57,7 @@ module _ (site : Site) (fit : IsFit site) where
       (next : Pair) (kept : List Act) (shown : List Shown)
       (requests : List Request) (replies : List Reply) (deeds : List Deed)
       → IsSettled site kept shown inv.ledger number deeds → slice_get site.processes number ≡ Some spec
-      → IsSound site w.marks (with_deeds number deeds inv.ledger) (events + 1) number spec next
+      → IsSound site (with_deeds number deeds inv.ledger) (events + 1) number spec next
       → AllAsked site (with_deeds number deeds inv.ledger) requests
       → AllAnswered (with_deeds number deeds inv.ledger) replies
       → Invariant site (events + 1) (record (with_pair number next w)
@@ -63,8 +66,7 @@ module _ (site : Site) (fit : IsFit site) where
       record {
         ledger = with_deeds number deeds inv.ledger;
         booked = settled.booked;
-        processes = set-one (SoundAs site w.marks (with_deeds number deeds inv.ledger) (events + 1)) w.processes
-            number next
+        processes = set-one (SoundAs site (with_deeds number deeds inv.ledger) (events + 1)) w.processes number next
             (λ other pair apart at. let was = inv.processes other pair at in
             (was.0, was.1, process-frame (events + 1) (omega arith) (settled.left other apart) settled.keeps was.2))
             (λ _ _. (spec, there, sound));
@@ -74,11 +76,25 @@ module _ (site : Site) (fit : IsFit site) where
             record { entered = rw settled.entered was.entered; printed = rw settled.printed was.printed });
       }
 
+  -- nothing is sent where a copy does an act, unless it awaits a reply
+  free-by : {number node : ℕ} {core next : Core} {before after : Around} {cause : Cause} {deed : Deed} {act : Act}
+      {messages : List Message} {openers : List OpenerSpec} (copy : Copy)
+      → Causes site number node core before cause deed act messages after → Advances openers core deed next
+      → IsFreeFor cause copy → copy.sent ≡ true
+      → process.point core.state ≡ point.Await
+  free-by copy by_inner advances free sent = absurd (let u = free.0 in cc)
+  free-by copy (by_take is) advances free sent = absurd (let u = free.0 in cc)
+  free-by copy by_ask advances free sent = absurd (let u = free.0 in cc)
+  free-by copy (by_answer there) advances free sent = absurd (let u = free.0 in cc)
+  free-by copy (by_device stood) advances free sent = absurd (let u = free.0 in cc)
+  free-by copy (by_write new) advances free sent = absurd (let u = free.0 in cc)
+  free-by copy (by_reply among is last said) (gets at named) free sent = at
+
   -- Acts of copies
 
   module _ (events : ℕ) (w : World) (inv : Invariant site events w) (number : ℕ) (k : Which) (pair : Pair) where
-    still-waiting : {marks : List Down} {spec : ProcessSpec} (waiting : List Request) (copy : Copy)
-        (sectors : List Stored) → IsSound site marks inv.ledger events number spec pair
+    still-waiting : {spec : ProcessSpec} (waiting : List Request) (copy : Copy) (sectors : List Stored)
+        → IsSound site inv.ledger events number spec pair
         → ((request : Request) → IsAmong request waiting → IsAmong request (copy_of k pair).waiting) → (more : Ledger)
         → Keeps inv.ledger more
         → AllWait (IsFor site more number) (with_copy k (record copy { waiting = waiting })
@@ -113,19 +129,19 @@ module _ (site : Site) (fit : IsFit site) where
         by First mine = omega (arith, mine, all)
         by Second mine = omega (arith, mine, all)
 
-    led-around : {marks : List Down} {spec : ProcessSpec} (ledger : Ledger) (deeds : List Deed) (entered : Copy)
-        (core : Core) (waiting : List Request) (sectors : List Stored)
-        → IsLed site marks ledger number spec deeds (with_copy k (record entered { core = core }) pair)
-        → IsLed site marks ledger number spec deeds
-        (with_copy k (record entered { core = core; waiting = waiting }) (record pair { sectors = sectors }))
-    led-around {marks = marks} {spec = spec} ledger deeds entered core waiting sectors led = by k led
+    led-around : {spec : ProcessSpec} (ledger : Ledger) (deeds : List Deed) (entered : Copy) (core : Core)
+        (waiting : List Request) (sectors : List Stored)
+        → IsLed site ledger number spec deeds (with_copy k (record entered { core = core }) pair)
+        → IsLed site ledger number spec deeds (with_copy k (record entered { core = core; waiting = waiting })
+        (record pair { sectors = sectors }))
+    led-around {spec = spec} ledger deeds entered core waiting sectors led = by k led
       where
-        by : (k : Which) → IsLed site marks ledger number spec deeds (with_copy k (record entered { core = core }) pair)
-            → IsLed site marks ledger number spec deeds
-            (with_copy k (record entered { core = core; waiting = waiting }) (record pair { sectors = sectors }))
-        by First led = led-waits site number spec marks ledger deeds First
+        by : (k : Which) → IsLed site ledger number spec deeds (with_copy k (record entered { core = core }) pair)
+            → IsLed site ledger number spec deeds (with_copy k (record entered { core = core; waiting = waiting })
+            (record pair { sectors = sectors }))
+        by First led = led-waits site number spec ledger deeds First
             (record pair { first = record entered { core = core } }) waiting sectors led
-        by Second led = led-waits site number spec marks ledger deeds Second
+        by Second led = led-waits site number spec ledger deeds Second
             (record pair { second = record entered { core = core } }) waiting sectors led
 
     pub own-keeps : {cause : Cause} {deed : Deed} {act : Act} {messages : List Message} {after : Around} {core : Core}
@@ -134,10 +150,10 @@ module _ (site : Site) (fit : IsFit site) where
         → Causes site number (copy_of k pair).processor (copy_of k pair).core (around (copy_of k pair) pair w) cause
         deed act messages after
         → Advances (openers_of site number) (copy_of k pair).core deed core
-        → Enters number act w.kept (copy_of k pair) entered kept
+        → Enters number act w.kept (copy_of k pair) entered kept → IsFreeFor cause (copy_of k pair)
         → Invariant site (events + 1) (after_own number k pair core entered after kept w)
     own-keeps {deed = deed} {act = act} {after = after} {core = core} {entered = entered} {kept = kept} at role causes
-        advances enters =
+        advances enters free =
         let was = inv.processes number pair at in
         let c = caused site inv.ledger number (copy_of k pair).processor was.0 (copy_of k pair).core
         (around (copy_of k pair) pair w) inv.requests inv.replies
@@ -145,15 +161,15 @@ module _ (site : Site) (fit : IsFit site) where
         let e : Enters number (act_of number deed) w.kept (copy_of k pair) entered kept =
         subst (λ a. Enters number a w.kept (copy_of k pair) entered kept) c.act_is enters in
         by was.0 was.1 was.2 c e (led-own site number was.0 fit.regular (fit.disciplined number was.0 was.1) was.1
-        inv.ledger inv.booked w.marks kept deed k pair entered core
-        was.2.led role advances c.no_mark c.backed e)
+        inv.ledger inv.booked kept deed k pair entered core
+        was.2.led role (free-by (copy_of k pair) causes advances free) advances c.no_mark c.backed e)
       where
         by : (spec : ProcessSpec) → slice_get site.processes number ≡ Some spec
-            → IsSound site w.marks inv.ledger events number spec pair
+            → IsSound site inv.ledger events number spec pair
             → IsCaused site inv.ledger number spec (copy_of k pair).core (around (copy_of k pair) pair w) after deed act
             → Enters number (act_of number deed) w.kept (copy_of k pair) entered kept
-            → Outcome site w.marks w.kept inv.ledger number spec deed (copy_of k pair).core
-            (λ l deeds. IsLed site w.marks l number spec deeds (with_copy k (record entered { core = core }) pair)) kept
+            → Outcome site w.kept inv.ledger number spec deed (copy_of k pair).core
+            (λ l deeds. IsLed site l number spec deeds (with_copy k (record entered { core = core }) pair)) kept
             → Invariant site (events + 1) (after_own number k pair core entered after kept w)
         by spec there sound c e (it_stays is sent old led) =
             let left = c.old old in
@@ -202,11 +218,11 @@ module _ (site : Site) (fit : IsFit site) where
         (settled-none number inv.booked) was.1 (by k all was.0 was.2) inv.requests inv.replies
       where
         by : (k : Which) → ((request : Request) → IsAmong request waiting → IsFor site inv.ledger number request)
-            → (spec : ProcessSpec) → IsSound site w.marks inv.ledger events number spec pair
-            → IsSound site w.marks inv.ledger (events + 1) number spec
+            → (spec : ProcessSpec) → IsSound site inv.ledger events number spec pair
+            → IsSound site inv.ledger (events + 1) number spec
             (with_copy k (record (copy_of k pair) { waiting = waiting }) pair)
         by First all spec sound = record {
-          led = led-waits site number spec w.marks inv.ledger (inv.ledger.deeds number) First pair waiting pair.sectors
+          led = led-waits site number spec inv.ledger (inv.ledger.deeds number) First pair waiting pair.sectors
               sound.led;
           sectors = sound.sectors;
           waiting = each-copy (λ (c : Copy). (request : Request) → IsAmong request c.waiting
@@ -215,8 +231,8 @@ module _ (site : Site) (fit : IsFit site) where
           count = (let count = sound.count in omega (arith, count));
         }
         by Second all spec sound = record {
-          led = led-waits site number spec w.marks inv.ledger (inv.ledger.deeds number) Second pair waiting
-              pair.sectors sound.led;
+          led = led-waits site number spec inv.ledger (inv.ledger.deeds number) Second pair waiting pair.sectors
+              sound.led;
           sectors = sound.sectors;
           waiting = each-copy (λ (c : Copy). (request : Request) → IsAmong request c.waiting
               → IsFor site inv.ledger number request) Second (record pair.second { waiting = waiting }) pair all
@@ -244,8 +260,7 @@ module _ (site : Site) (fit : IsFit site) where
       let more = passes-held passes in
       process-changed events w inv number was.0 next kept w.shown w.requests w.replies on.deeds on.settled was.1
       (record {
-        led = subst (λ d. IsLed site w.marks (with_deeds number on.deeds inv.ledger) number was.0 d next) (sym deeds)
-            on.led;
+        led = subst (λ d. IsLed site (with_deeds number on.deeds inv.ledger) number was.0 d next) (sym deeds) on.led;
         sectors = passes-sectors passes ∙ was.2.sectors
             ∙ sym (idle-sectors was.0.what on.deeds (inv.ledger.deeds number) on.idle)
             ∙ ap (sectors_after was.0.what) (sym deeds);

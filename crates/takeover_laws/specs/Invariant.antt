@@ -13,10 +13,10 @@ use Rattle.process_semantics.specs.Process as process
 use Rattle.plain_semantics.specs.Openers.{opener_of}
 use Rattle.checkpoint_image.specs.declared.message.ImageMessage.{ImageMessage}
 use Rattle.checkpoint_image.specs.declared.message.TakenMessage.{TakenMessage}
-use Rattle.world_semantics.specs.declared.role.Role.TheVariants.{Watching, Gone}
-use Rattle.world_semantics.specs.Core.{Deed, Checkpointed, Took, carried}
+use Rattle.world_semantics.specs.declared.role.Role.TheVariants.{Watching, Gone, Acting, Blank}
+use Rattle.world_semantics.specs.Core.{Deed, Checkpointed, Took, carried, carried_whole}
 use Rattle.world_semantics.specs.declared.which.Which.{Which}
-use Rattle.world_semantics.specs.World.{Copy, Pair, Terminal, Down, World, has_noted, copy_of}
+use Rattle.world_semantics.specs.World.{Copy, Pair, Terminal, World, copy_of, receives}
 use Rattle.process_histories.specs.Devices.{sectors_after}
 use Rattle.process_histories.specs.Histories.{HasDone}
 use Rattle.plain_histories.specs.Booking.{AreBooked, AreHeld}
@@ -44,29 +44,29 @@ pub data Stage : Type 0 where
   Applied : Stage
   Behind : Stage
 
--- a copy that leads stands at a stage to the kept deeds of its process. What it did beyond them it holds, and it sends
--- one at its checkpoints alone
+-- a copy that leads stands at a stage to the kept deeds of its process. What it did beyond them it holds, and where it
+-- awaits a reply it has sent nothing
 pub data IsLead (site : Site) (ledger : Ledger) (number : ℕ) (spec : ProcessSpec) (deeds : List Deed) (copy : Copy) :
     Stage → Type 0 where
   is_level : {held : List Act} {more : List Deed} → copy.held ≡ held → AreHeld site ledger number held more
       → copy.position ≡ length deeds
       → HasDone site number spec (more ++ deeds) copy.core
-      → (copy.sent ≡ true → process.point copy.core.state ≡ point.AtCheckpoint)
+      → (copy.sent ≡ true → process.point copy.core.state ≢ point.Await)
       → IsLead site ledger number spec deeds copy Level
   is_applied : (before : List Deed) → copy.held ≡ [] → deeds ≡ Checkpointed ∷ before → copy.position ≡ length before
       → HasDone site number spec before copy.core
-      → copy.sent ≡ true → IsLead site ledger number spec deeds copy Applied
+      → IsLead site ledger number spec deeds copy Applied
   is_behind : (since : List Deed) (next : Deed) (before : List Deed) → copy.held ≡ [] → deeds ≡ since ++ next ∷ before
       → IsRepeatable next
       → AreRepeatable since → copy.position ≡ length before → HasDone site number spec before copy.core
-      → copy.sent ≡ false
+      → (copy.sent ≡ true → process.point copy.core.state ≢ point.Await)
       → IsLead site ledger number spec deeds copy Behind
 
 -- The other copy
 
 -- the second copy of a process watches: it has what the process had at the base, since which no checkpoint and no take
--- are kept, and no checkpoint of a later number than the first copy's, nor any message that one of a later number than
--- its own was taken, was ever sent
+-- are kept, and in the copies' era no checkpoint of a later number than the first copy's, nor any message that one of a
+-- later number than its own was taken, was ever sent
 pub record Watches (site : Site) (number : ℕ) (spec : ProcessSpec) (deeds : List Deed) (pair : Pair) : Type 0 where
   pub since : List Deed
   pub before : List Deed
@@ -76,47 +76,79 @@ pub record Watches (site : Site) (number : ℕ) (spec : ProcessSpec) (deeds : Li
   pub done : HasDone site number spec before pair.second.core
   pub role : pair.second.role ≡ Watching
   pub unsent : pair.second.sent ≡ false
-  pub checkpoints : (message : ImageMessage) → IsAmong message pair.checkpoints → message.number ≤ pair.first.number
-  pub takens : (taken : TakenMessage) → IsAmong taken pair.takens → taken.number ≤ pair.second.number
+  pub era : pair.second.era ≡ pair.first.era
+  pub checkpoints : (message : ImageMessage) → IsAmong message pair.checkpoints → message.era ≡ pair.first.era
+      → message.number ≤ pair.first.number
+  pub takens : (taken : TakenMessage) → IsAmong taken pair.takens → taken.era ≡ pair.first.era
+      → taken.number ≤ pair.second.number
 
--- how the second copy stands to the first one, which leads: it is gone; a checkpoint of what the first one has may be
--- on its way; none is; or it applied that of the one at which the first one still stands
+-- the second copy of a process is blank: the first one acts and has to send everything, and in the copies' era at most
+-- a checkpoint of everything that it has was sent
+pub record IsBlank (site : Site) (number : ℕ) (spec : ProcessSpec) (pair : Pair) : Type 0 where
+  pub role : pair.second.role ≡ Blank
+  pub acting : pair.first.role ≡ Acting
+  pub renewal : pair.first.renewal ≡ true
+  pub told : pair.first.acknowledged ≡ false
+  pub begun : HasDone site number spec [] pair.second.core
+  pub unsent : pair.second.sent ≡ false
+  pub era : pair.second.era ≡ pair.first.era
+  pub even : pair.first.sent ≡ false → pair.first.number ≡ pair.second.number
+  pub ahead : pair.first.sent ≡ true → pair.first.number ≡ pair.second.number + 1
+  pub checkpoints : (message : ImageMessage) → IsAmong message pair.checkpoints → message.era ≡ pair.first.era
+      → message.number ≤ pair.first.number
+  pub image : pair.first.sent ≡ true → (message : ImageMessage) → IsAmong message pair.checkpoints
+      → message.era ≡ pair.first.era → message.number ≡ pair.first.number
+      → message.image ≡ carried_whole pair.first.core
+  pub takens : (taken : TakenMessage) → IsAmong taken pair.takens → taken.era ≡ pair.first.era
+      → taken.number ≤ pair.second.number
+
+-- how the second copy stands to the first one, which leads: it is gone; it is blank; a checkpoint of what the first one
+-- has may be on its way; none is; it applied that of the one at which the first one still stands; or it applied one of
+-- everything, sent at another point, at which the first one still stands
 pub data IsOther (site : Site) (number : ℕ) (spec : ProcessSpec) (deeds : List Deed) (pair : Pair) : Stage
     → Type 0 where
   is_lost : {stage : Stage} → pair.second.role ≡ Gone → IsOther site number spec deeds pair stage
+  is_blank : {stage : Stage} → IsBlank site number spec pair → IsOther site number spec deeds pair stage
   is_due : Watches site number spec deeds pair → pair.first.sent ≡ true → pair.first.acknowledged ≡ false
       → pair.first.number ≡ pair.second.number + 1
-      → ((message : ImageMessage) → IsAmong message pair.checkpoints → message.number ≡ pair.first.number
+      → process.point pair.first.core.state ≡ point.AtCheckpoint
+      → ((message : ImageMessage) → IsAmong message pair.checkpoints → message.era ≡ pair.first.era
+      → message.number ≡ pair.first.number
       → message.image ≡ carried pair.first.core)
       → IsOther site number spec deeds pair Level
-  is_even : Watches site number spec deeds pair → pair.first.number ≡ pair.second.number → pair.first.sent ≡ false
-      → pair.first.acknowledged ≡ false
-      → IsOther site number spec deeds pair Level
-  has_applied : Watches site number spec deeds pair → pair.first.number ≡ pair.second.number
-      → IsOther site number spec deeds pair Applied
+  is_even : {stage : Stage} → stage ≢ Applied → Watches site number spec deeds pair
+      → pair.first.number ≡ pair.second.number → pair.first.sent ≡ false
+      → pair.first.acknowledged ≡ false → pair.first.renewal ≡ false → IsOther site number spec deeds pair stage
+  has_applied : Watches site number spec deeds pair → pair.first.number ≡ pair.second.number → pair.first.sent ≡ true
+      → (pair.first.acknowledged ≡ true → pair.first.renewal ≡ false) → IsOther site number spec deeds pair Applied
+  has_renewed : {stage : Stage} → stage ≢ Applied → process.point pair.first.core.state ≢ point.AtCheckpoint
+      → Watches site number spec deeds pair
+      → pair.first.number ≡ pair.second.number → pair.first.sent ≡ true
+      → (pair.first.acknowledged ≡ true → pair.first.renewal ≡ false)
+      → IsOther site number spec deeds pair stage
 
--- the first copy of a process leads: with the other one, so far as that isn't lost; or alone, after it took over and
--- its node marked the other's processor
-pub data FirstLeads (site : Site) (marks : List Down) (ledger : Ledger) (number : ℕ) (spec : ProcessSpec)
-    (deeds : List Deed) (pair : Pair) : Type 0 where
-  with_other : {stage : Stage} → pair.first.role ≢ Watching → IsLead site ledger number spec deeds pair.first stage
-      → stage ≢ Behind
-      → IsOther site number spec deeds pair stage → FirstLeads site marks ledger number spec deeds pair
-  alone : {stage : Stage} → pair.first.role ≢ Watching → IsLead site ledger number spec deeds pair.first stage
-      → stage ≢ Applied → pair.first.sent ≡ false
-      → pair.second.role ≡ Gone → has_noted marks pair.first.processor pair.second.processor ≡ true
-      → FirstLeads site marks ledger number spec deeds pair
+-- no message is of a later era than the first copy's
+pub record IsDated (pair : Pair) : Type 0 where
+  pub other : pair.second.era ≤ pair.first.era
+  pub checkpoints : (message : ImageMessage) → IsAmong message pair.checkpoints → message.era ≤ pair.first.era
+  pub takens : (taken : TakenMessage) → IsAmong taken pair.takens → taken.era ≤ pair.first.era
+
+-- the first copy of a process leads, and the other one stands to it
+pub data FirstLeads (site : Site) (ledger : Ledger) (number : ℕ) (spec : ProcessSpec) (deeds : List Deed)
+    (pair : Pair) : Type 0 where
+  with_other : {stage : Stage} → receives pair.first.role ≡ false
+      → IsLead site ledger number spec deeds pair.first stage
+      → IsOther site number spec deeds pair stage → IsDated pair → FirstLeads site ledger number spec deeds pair
 
 -- a process with its copies exchanged
 abbrev pub exchanged : Pair → Pair
 exchanged pair = record pair { first = pair.second; second = pair.first }
 
 -- one of the two copies leads, whichever it is
-pub data IsLed (site : Site) (marks : List Down) (ledger : Ledger) (number : ℕ) (spec : ProcessSpec)
-    (deeds : List Deed) (pair : Pair) : Type 0 where
-  by_first : FirstLeads site marks ledger number spec deeds pair → IsLed site marks ledger number spec deeds pair
-  by_second : FirstLeads site marks ledger number spec deeds (exchanged pair)
-      → IsLed site marks ledger number spec deeds pair
+pub data IsLed (site : Site) (ledger : Ledger) (number : ℕ) (spec : ProcessSpec) (deeds : List Deed) (pair : Pair) :
+    Type 0 where
+  by_first : FirstLeads site ledger number spec deeds pair → IsLed site ledger number spec deeds pair
+  by_second : FirstLeads site ledger number spec deeds (exchanged pair) → IsLed site ledger number spec deeds pair
 
 -- Messages
 
@@ -135,9 +167,8 @@ IsAnswered ledger reply =
 
 -- a process is led by one of its copies, its device has what its deeds left there, all that waits is to it and was
 -- asked, and its deeds with the held acts are no more than the events
-pub record IsSound (site : Site) (marks : List Down) (ledger : Ledger) (events number : ℕ) (spec : ProcessSpec)
-    (pair : Pair) : Type 0 where
-  pub led : IsLed site marks ledger number spec (ledger.deeds number) pair
+pub record IsSound (site : Site) (ledger : Ledger) (events number : ℕ) (spec : ProcessSpec) (pair : Pair) : Type 0 where
+  pub led : IsLed site ledger number spec (ledger.deeds number) pair
   pub sectors : pair.sectors ≡ sectors_after spec.what (ledger.deeds number)
   pub waiting : (k : Which) (request : Request) → IsAmong request (copy_of k pair).waiting
       → (request.process ≡ number) × IsAsked site ledger request
@@ -155,7 +186,7 @@ pub record Invariant (site : Site) (events : ℕ) (w : World) : Type 0 where
   pub booked : AreBooked site w.kept w.shown ledger
   pub processes : (number : ℕ) (pair : Pair) → slice_get w.processes number ≡ Some pair
       → (spec : ProcessSpec) × (slice_get site.processes number ≡ Some spec)
-      × IsSound site w.marks ledger events number spec pair
+      × IsSound site ledger events number spec pair
   pub requests : (request : Request) → IsAmong request w.requests → IsAsked site ledger request
   pub replies : (reply : Reply) → IsAmong reply w.replies → IsAnswered ledger reply
   pub terminals : (number : ℕ) (terminal : Terminal) → slice_get w.terminals number ≡ Some terminal

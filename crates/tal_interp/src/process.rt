@@ -119,6 +119,10 @@ impl Behaviour for TalProcess {
         self.interpreter.listed()
     }
 
+    fn everything(&self) -> &Listed {
+        self.interpreter.table.everything()
+    }
+
     fn marked(&mut self) {
         self.interpreter.marked();
     }

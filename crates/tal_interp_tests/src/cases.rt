@@ -473,3 +473,14 @@ fn whole_programs_go_along_and_take_no_image_of_another(rt: HostRuntime) -> Resu
     }
     Ok(())
 }
+
+#[test]
+fn a_program_may_name_its_words_and_the_files_of_processes(rt: HostRuntime) -> Result<(), Fail> {
+    let program = program_of(rt.alloc(), BANK)?;
+    let process = TalProcess::load(rt.alloc(), &program)?;
+    let everything = process.everything();
+    let items: [u16; 4] = [0, 1, 4, 5];
+    assert!(rt; everything.items.as_slice() == items.as_slice());
+    assert!(rt; everything.files.as_slice() == [1].as_slice());
+    Ok(())
+}

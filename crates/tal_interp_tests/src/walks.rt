@@ -1,6 +1,6 @@
 ghost use Rattle.tal_interp.specs.Sound.{IsLoadable};
 
-use crate::programs::{everything, image_of};
+use crate::programs::image_of;
 use checkpoint_image::Behaviour;
 use gd_words::{List, NoMemory, Words};
 use plain_program::Execution;
@@ -52,8 +52,8 @@ impl<'a> Sides<'a> {
 
     /// Whether an image is that of the plain program's state.
     fn is_plain(&self, alloc: Global, image: &[i16]) -> Result<bool, NoMemory> {
-        let everything = everything(alloc, &self.process)?;
-        let words = self.plain.state_words(alloc, everything.items.as_slice())?;
+        let items = self.process.everything().items.as_slice();
+        let words = self.plain.state_words(alloc, items)?;
         Ok(are_same(words.as_slice(), image))
     }
 

@@ -115,10 +115,10 @@ module _ (program : Program) (numbered : IsNumbered program) (number : ℕ) (som
 -- What a table tells of a number
 
 -- the table of a program that is seen, by what its fields keep
-pub table-seen : {A B : Type 0} (value program : Program) (nodes : List Node) (headings : List Heading)
-    → value ≡ program → A × (B × IsTable value nodes headings)
+pub table-seen : {A B C : Type 0} (value program : Program) (nodes : List Node) (headings : List Heading)
+    → value ≡ program → A × (B × (IsTable value nodes headings × C))
     → IsTable program nodes headings
-table-seen value program nodes headings is kept = subst (λ (p : Program). IsTable p nodes headings) is kept.1.1
+table-seen value program nodes headings is kept = subst (λ (p : Program). IsTable p nodes headings) is kept.1.1.0
 
 module _ (program : Program) (nodes : List Node) (headings : List Heading) (table : IsTable program nodes headings)
     (number : ℕ) where

@@ -9,6 +9,7 @@
 //! definition keeps what remains.
 #![tactic(auto)]
 
+mod everything;
 mod fill;
 mod load;
 pub mod node;

@@ -1,4 +1,5 @@
 ghost use Rattle.std.specs.Prelude.{◌≡◌, ◌≤◌, [], length, slice_get, None, IfOk, IfSome, IfNone};
+ghost use Rattle.process_images.specs.Images.{asking_from, listable_from};
 ghost use Rattle.process_semantics.specs.Rests.{next_number};
 ghost use Rattle.tal_tree.specs.Limits.{IsWithinLimits};
 ghost use Rattle.tal_tree.specs.Ordered.{IsNumbered};
@@ -7,8 +8,10 @@ ghost use Rattle.tal_code.specs.Waiting.{WaitsBelow};
 ghost use Rattle.tal_table.specs.Places.{places, rest_at};
 ghost use Rattle.tal_table.specs.Tables.{Tells, Heads, told_in, told_if};
 
+use crate::everything::everything;
 use crate::load::{copied_items, headings_of, nodes_of};
 use crate::node::{Heading, Node};
+use checkpoint_image::Listed;
 use gd_words::{List, NoMemory};
 use std::alloc::Global;
 use std::marker::Model;
@@ -24,6 +27,7 @@ pub struct Table {
     items: List<Item>,
     headings: Vec<Heading>,
     nodes: Vec<Node>,
+    everything: Listed,
 }
 
 impl Model for Table {
@@ -31,6 +35,7 @@ impl Model for Table {
     ghost use Rattle.std.specs.Coded.{codes};
     ghost use Rattle.tal_tree.specs.contracts.statement.Statement as statement;
     ghost use Rattle.tal_tree.specs.declared.program.Program.{Program};
+    ghost use Rattle.process_images.specs.Images.{asking_from, listable_from};
     ghost use Rattle.tal_table.specs.Tables.{IsTable};
 
     ghost Value = { Program };
@@ -40,7 +45,9 @@ impl Model for Table {
     ghost view = { λ table. table.program.value };
 
     ghost invariant = { λ table. (table.main ≡ table.program.value.main) × ((table.items ≡ table.program.value.items)
-        × IsTable table.program.value table.nodes.items table.headings.items) };
+        × (IsTable table.program.value table.nodes.items table.headings.items
+        × ((table.everything.items ≡ listable_from 0 table.program.value.items)
+        × (table.everything.files ≡ asking_from 0 table.program.value.files)))) };
 }
 
 impl Table {
@@ -57,12 +64,14 @@ impl Table {
         let items = copied_items(alloc, program.items.as_slice())?;
         let headings = headings_of(alloc, procedures)?;
         let nodes = nodes_of(alloc, procedures)?;
+        let everything = everything(alloc, program.items.as_slice(), program.files.as_slice())?;
         Ok(Table {
             program: Snapshot::of(program),
             main: program.main,
             items,
             headings,
             nodes,
+            everything,
         })
     }
 
@@ -78,6 +87,14 @@ impl Table {
         ensures { result.now ≡ self.now.items }
     {
         self.items.as_slice()
+    }
+
+    /// All that the program may name at a checkpoint.
+    pub fn everything(&self) -> &Listed
+        ensures items { result.now.items ≡ listable_from 0 self.now.items }
+        ensures files { result.now.files ≡ asking_from 0 self.now.files }
+    {
+        &self.everything
     }
 
     /// How many procedures the program has.

@@ -70,7 +70,8 @@ pub fn findings_are_told_so()
     ensures marks { (node processor : ℕ) → found_text adder_site places (finding.Marks node processor)
         ≡ codes "node " ++ decimal node ++ [] ++ (codes " marks processor " ++ decimal processor ++ []) }
     ensures second { (processor : ℕ) → found_text adder_site places (finding.WouldStopSecond processor)
-        ≡ codes "processor " ++ decimal processor ++ codes " would be the second to stop: the run ends here" }
+        ≡ codes "processor " ++ decimal processor
+        ++ codes " would stop while another has, or a process has no backup: the run ends here" }
     ensures disc { found_text adder_site places (finding.DiscGoesOn point.Device) ≡ codes "calls its device" }
     ensures lost { found_text adder_site places (packet sort.Alive 1 0 fate.Lost)
         ≡ (codes "an alive packet" ++ ((codes " from " ++ decimal 1 ++ []) ++ (codes " for " ++ decimal 0 ++ []))

@@ -42,6 +42,7 @@ event_text site (event.Lose y k) = packet_place_text (codes "lose ") y k
 event_text site (event.Repeat y k) = packet_place_text (codes "repeat ") y k
 event_text site (event.Tick node) = numbered_text (codes "tick ") node []
 event_text site (event.Fail processor) = numbered_text (codes "fail ") processor []
+event_text site (event.Reload processor) = numbered_text (codes "reload ") processor []
 event_text site (event.Drive one) = drive_event_text (process_name site one.process) one
 
 abbrev pub event_line : Site → Places → ℕ → Event → List Finding → List Shown → List ℕ

@@ -71,7 +71,8 @@ abbrev pub found_text : Site → Places → Finding → List ℕ
 found_text site places finding.Skipped = codes "skipped"
 found_text site places (finding.StandsStill point) = still_text point
 found_text site places (finding.WouldStopSecond processor) =
-    numbered_text (codes "processor ") processor (codes " would be the second to stop: the run ends here")
+    numbered_text (codes "processor ") processor
+    (codes " would stop while another has, or a process has no backup: the run ends here")
 found_text site places (finding.WouldLoseDisc process) = loses_text (process_name site process)
 found_text site places (finding.Packet packet fate message) = packet_of_text site packet fate message
 found_text site places (finding.Sends sender receiver last message again) =
@@ -81,6 +82,8 @@ found_text site places (finding.Sets process item place value) = set_text site p
 found_text site places (finding.DiscGoesOn point) = disc_text point
 found_text site places (finding.SendsCheckpoint number) = codes "comes to its CHECKPOINT"
 found_text site places finding.PassesCheckpoint = codes "goes on behind its CHECKPOINT"
+found_text site places (finding.SendsEverything number) = codes "sends a checkpoint of all that it has"
+found_text site places finding.EndsSending = codes "goes on behind a checkpoint of all that it has"
 found_text site places (finding.AppliesCheckpoint process processor number) =
     applies_text (process_name site process) processor number
 found_text site places (finding.IgnoresCheckpoint process processor number why) =
@@ -94,6 +97,8 @@ found_text site places (finding.TakesOver process processor era statement) =
 found_text site places (finding.Keeps act) = act_text site (codes "keeps ") act
 found_text site places (finding.HoldsBack act) = act_text site (codes "holds back ") act
 found_text site places (finding.Stops processor) = numbered_text (codes "processor ") processor (codes " stops")
+found_text site places (finding.Reloads processor) =
+    numbered_text (codes "processor ") processor (codes " is loaded again")
 found_text site places (finding.Marks node processor) = marks_text node processor
 found_text site places (finding.Misses node processor) =
     pair_text (codes "node ") node (codes " misses processor ") processor

@@ -21,6 +21,7 @@ fate_text fate.Came = codes " comes"
 fate_text fate.CameAgain = codes " comes again"
 fate_text fate.Dropped = codes " is dropped, since its receiver has stopped"
 fate_text fate.Refused = codes " is dropped, since its receiver has marked its sender"
+fate_text fate.Old = codes " is dropped, since its sender or its receiver was loaded again"
 fate_text fate.Lost = codes " is lost"
 fate_text fate.Repeated = codes " goes once more over its bus"
 

@@ -17,7 +17,8 @@ item_in item (kind.Pair program) = slice_get program.items item
 
 -- a global of a process by its number
 abbrev pub item_at : Site → ℕ → ℕ → Option Item
-item_at site process item = option_and_then (λ (spec : ProcessSpec). item_in item spec.what) (slice_get site.processes process)
+item_at site process item =
+    option_and_then (λ (spec : ProcessSpec). item_in item spec.what) (slice_get site.processes process)
 
 -- the index of a word in an array that begins with this one: an array has at most 65,536 words
 abbrev pub index_text : ℤ → ℕ → List ℕ

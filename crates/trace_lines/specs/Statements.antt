@@ -31,7 +31,8 @@ trimmed [] = []
 trimmed (sign ∷ rest) = if is_blank sign then trimmed rest else sign ∷ rest
 
 abbrev pub placed_text : Places → ℕ → List ℕ
-placed_text places line = numbered_text (codes "line ") line (codes ": ") ++ map shown_sign (trimmed (source_of places line))
+placed_text places line =
+    numbered_text (codes "line ") line (codes ": ") ++ map shown_sign (trimmed (source_of places line))
 
 -- a statement of a process, or a procedure's end, which has the number 0
 abbrev pub statement_text : Places → ℕ → ℕ → List ℕ

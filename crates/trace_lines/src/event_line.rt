@@ -50,6 +50,7 @@ pub fn put_event_name(text: &mut List<u8>, site: &Site, event: Event) -> Result<
         Event::Repeat { y, k } => put_packet_place(text, b"repeat ", y, k),
         Event::Tick(node) => put_numbered(text, b"tick ", u64::from(node), b""),
         Event::Fail(processor) => put_numbered(text, b"fail ", u64::from(processor), b""),
+        Event::Reload(processor) => put_numbered(text, b"reload ", u64::from(processor), b""),
         Event::Drive(one) => put_drive_event(text, process_name(site, one.process), one),
     }
 }

@@ -11,7 +11,8 @@ pub enum Finding {
     Skipped,
     /// A process that was to run can't go on from where it stands.
     StandsStill(Point),
-    /// It would have stopped this processor as the second one, and the run ended before it.
+    /// It would have stopped this processor while another had, or while a process had no backup, and the run ended
+    /// before it.
     WouldStopSecond(u8),
     /// It would have lost the disc that is this process, and the run ended before it.
     WouldLoseDisc(u8),
@@ -47,6 +48,10 @@ pub enum Finding {
     SendsCheckpoint(u32),
     /// A process went on behind its checkpoint.
     PassesCheckpoint,
+    /// A process sent the checkpoint of this number with everything that it has, where it stood.
+    SendsEverything(u32),
+    /// Such a checkpoint of a process ended: it goes on where it stood.
+    EndsSending,
     /// The copy of a process in a processor put the checkpoint of this number in.
     AppliesCheckpoint {
         process: u8,
@@ -85,6 +90,8 @@ pub enum Finding {
     HoldsBack(ActName),
     /// A processor stopped.
     Stops(u8),
+    /// A processor was loaded again.
+    Reloads(u8),
     /// A node marked a processor as down.
     Marks {
         node: u8,
@@ -197,6 +204,8 @@ pub enum Fate {
     Dropped,
     /// It came to a node that has marked its sender as down.
     Refused,
+    /// Its sender or its receiver was loaded again since it was sent.
+    Old,
     Lost,
     /// It was put on its bus once more.
     Repeated,

@@ -60,7 +60,7 @@ pub fn put_found(
             text,
             b"processor ",
             u64::from(processor),
-            b" would be the second to stop: the run ends here",
+            b" would stop while another has, or a process has no backup: the run ends here",
         ),
         Finding::WouldLoseDisc(process) => put_loses(text, process_name(site, process)),
         Finding::Packet {
@@ -85,6 +85,8 @@ pub fn put_found(
         Finding::DiscGoesOn(point) => put(text, disc_text(point)),
         Finding::SendsCheckpoint(_) => put(text, b"comes to its CHECKPOINT"),
         Finding::PassesCheckpoint => put(text, b"goes on behind its CHECKPOINT"),
+        Finding::SendsEverything(_) => put(text, b"sends a checkpoint of all that it has"),
+        Finding::EndsSending => put(text, b"goes on behind a checkpoint of all that it has"),
         Finding::AppliesCheckpoint {
             process,
             processor,
@@ -120,6 +122,12 @@ pub fn put_found(
         Finding::Stops(processor) => {
             put_numbered(text, b"processor ", u64::from(processor), b" stops")
         }
+        Finding::Reloads(processor) => put_numbered(
+            text,
+            b"processor ",
+            u64::from(processor),
+            b" is loaded again",
+        ),
         Finding::Marks { node, processor } => put_marks(text, node, processor),
         Finding::Misses { node, processor } => {
             put_pair(text, b"node ", node, b" misses processor ", processor)

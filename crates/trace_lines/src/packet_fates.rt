@@ -50,6 +50,7 @@ fn fate_text(fate: Fate) -> &'static [u8]
         Fate::CameAgain => b" comes again",
         Fate::Dropped => b" is dropped, since its receiver has stopped",
         Fate::Refused => b" is dropped, since its receiver has marked its sender",
+        Fate::Old => b" is dropped, since its sender or its receiver was loaded again",
         Fate::Lost => b" is lost",
         Fate::Repeated => b" goes once more over its bus",
     }

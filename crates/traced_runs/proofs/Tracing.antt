@@ -39,8 +39,8 @@ made_is s next event (inl makes) = ap (λ made. state_after made s) makes
 made_is s next event (inr skips) = ap (λ made. state_after made s) skips.0 ∙ sym skips.1
 
 -- events of a schedule lead to the state that playing each of them makes
-pub leads_there : {site : Site} {lines : List Line} {stop : Option ProcessorStop} {events : List Event} {agenda : Agenda}
-    {s : Packeted}
+pub leads_there : {site : Site} {lines : List Line} {stop : Option ProcessorStop} {events : List Event}
+    {agenda : Agenda} {s : Packeted}
     → Plays packet_rules (course_on site lines stop) events agenda s → end_of (packeted_at_boot site) events ≡ s
 leads_there seen_none = refl
 leads_there {site} (seen_on {events = before} {agenda = stood} {s = mid} {next = after} plan plays comes goes) =

@@ -10,14 +10,13 @@
 pub mod fault;
 mod lines;
 pub mod manner;
-pub mod packets;
-pub mod running;
+mod running;
 
 pub use event_findings;
 pub use event_findings::trace_lines;
 pub use fault::TraceFault;
 pub use lines::ending_of;
 pub use manner::{Manner, Span};
-pub use packet_runs::{Ran, site_machine};
+pub use packet_runs::{PlayedPackets, Ran, site_machine, sizes_of};
 pub use running::run;
 pub use trace_forms::Form;

@@ -1,5 +1,5 @@
 ghost use Rattle.std.specs.Prelude.{◌≡◌, false, IfErr, IfOk};
-ghost use Rattle.packet_runs.specs.Runs.{course_on, packet_rules, sizes_of};
+ghost use Rattle.packet_runs.specs.Runs.{course_on, packet_rules};
 ghost use Rattle.schedule_loop.specs.Ends.{CanBePlayed, IsEndBy};
 ghost use Rattle.packet_runs.specs.site_machine.specs.Needs.{IsReady};
 ghost use Rattle.packet_runs.specs.site_machine.specs.packet_wires.specs.Idle.{is_idle};
@@ -10,11 +10,10 @@ ghost use Rattle.traced_runs.specs.Traces.{IsWantOfMemory, Traces};
 use crate::fault::TraceFault;
 use crate::lines::{Asked, tried_and_told};
 use crate::manner::Manner;
-use crate::packets::ToldPackets;
 use gd_io::Sink;
 use logs::Shared;
-use packet_runs::Ran;
-use player::{ProcessorStop, Sizes};
+use packet_runs::{PlayedPackets, Ran, sizes_of};
+use player::ProcessorStop;
 use schedule::Line;
 use schedule_loop::{Ending, Schedule, ScheduleMachine};
 use std::alloc::Global;
@@ -36,7 +35,7 @@ pub fn run<K: Sink>(
     requires can { CanBePlayed packet_rules IsReady (course_on site.now lines.now stop) }
     ensures { Traces K.held K.faults K.sure sink.old sink.new site.now places.now lines.now stop manner result }
 {
-    match ToldPackets::boot(alloc, site) {
+    match PlayedPackets::boot(alloc, site) {
         Ok(packets) => played(
             alloc,
             site.get(),
@@ -59,7 +58,7 @@ fn played<K: Sink>(
     lines: &[Line],
     stop: Option<ProcessorStop>,
     manner: Manner,
-    packets: ToldPackets,
+    packets: PlayedPackets,
     sink: &mut K,
 ) -> Result<Ran, TraceFault>
     requires startable { IsStartable site.now }
@@ -93,7 +92,7 @@ fn played<K: Sink>(
 }
 
 /// The end of a run that is over.
-fn ended(packets: ToldPackets, played: u32) -> Result<Ran, TraceFault>
+fn ended(packets: PlayedPackets, played: u32) -> Result<Ran, TraceFault>
     requires { packets.machine.is_broken ≡ false }
     ensures end { IfOk result (λ ran. IsEndBy packet_rules packets.machine.state played
         (is_idle packets.machine.state) ran.machine.state ran.asked ran.ending) }
@@ -116,17 +115,5 @@ fn ended(packets: ToldPackets, played: u32) -> Result<Ran, TraceFault>
             ending: Ending::Idle,
         }),
         Err(memory) => Err(TraceFault::NoMemory(memory)),
-    }
-}
-
-/// How many processors, processes and terminals a site has.
-pub fn sizes_of(site: &Site) -> Sizes
-    requires { IsStartable site.now }
-    ensures { result ≡ sizes_of site.now }
-{
-    Sizes {
-        processors: site.processors,
-        processes: site.processes.len() as u8,
-        terminals: site.terminals.len() as u8,
     }
 }

@@ -1,6 +1,6 @@
 -- What the acts that are left would show.
-use Rattle.std.proofs.Common.{◌≡◌, ◌∙◌, ◌+◌, ◌<◌, ℕ, Bool, true, false, List, [], ◌∷◌, ◌++◌, Option, Some, None, ap, drop}
-use Rattle.std.proofs.Common.{get_or, inl, inr, is_some, length, refl, subst, sym, take}
+use Rattle.std.proofs.Common.{◌≡◌, ◌∙◌, ◌+◌, ◌<◌, ℕ, Bool, true, false, List, [], ◌∷◌, ◌++◌, Option, Some, None, ap}
+use Rattle.std.proofs.Common.{drop, get_or, inl, inr, is_some, length, refl, subst, sym, take}
 use Rattle.std.specs.List.{list_any}
 use Rattle.std.proofs.lemmas.List.{drop_more, take_more, take-append-drop}
 use Rattle.plain_machine.specs.Machines.{listed, shown_of}
@@ -38,7 +38,8 @@ module _ (acts : List Act) (place : ℕ) (d : Act) (replay : Replay) (there : pl
   plain = replay.plain.state
 
   parts : acts ≡ take place acts ++ act ∷ drop (place + 1) acts
-  parts = sym (take-append-drop place acts) ∙ ap (λ (xs : List Act). take place acts ++ xs) (drop_more acts place d there)
+  parts = sym (take-append-drop place acts)
+      ∙ ap (λ (xs : List Act). take place acts ++ xs) (drop_more acts place d there)
 
   shows : (shown : Shown) (all : Option Made) → made site plain act ≡ all → shown ∷ [] ≡ shown_of all
       → (after : Plain) × (made site plain act ≡ Some (record { plain = after; shown = shown ∷ [] }))

@@ -1,6 +1,6 @@
 -- There is one order, it keeps turns, and its acts are possible.
-use Rattle.std.proofs.Common.{◌≡◌, ◌∙◌, ◌⊎◌, List, [], ◌∷◌, ◌++◌, Option, Some, None, ap, append_assoc, append-nil, inl, inr}
-use Rattle.std.proofs.Common.{refl, subst, sym}
+use Rattle.std.proofs.Common.{◌≡◌, ◌∙◌, ◌⊎◌, List, [], ◌∷◌, ◌++◌, Option, Some, None, ap, append_assoc, append-nil, inl}
+use Rattle.std.proofs.Common.{inr, refl, subst, sym}
 use Rattle.std.specs.Option.{option_and_then, option_map}
 use Rattle.plain_semantics.specs.Machine.{Made, Plain, made, made_all, made_before}
 use Rattle.tal_tree.specs.declared.act.Act.{Act}
@@ -74,7 +74,8 @@ module _ (site : Site) (act other : Act) (old new end : Way) (one : GoesOn site 
     (two : GoesOn site other old end) where
   same-step : (one.before ≡ two.before) × (act ≡ other) × (one.after ≡ two.after) → (act ≡ other) × (new ≡ end)
   same-step (before, act-is, after) =
-      let made-same : record { plain = new.plain; shown = one.shown } ≡ record { plain = end.plain; shown = two.shown } =
+      let made-same : record { plain = new.plain; shown = one.shown }
+      ≡ record { plain = end.plain; shown = two.shown } =
       of-some (sym one.possible ∙ ap (made site old.plain) act-is ∙ two.possible) in
       let shown-same : one.shown ≡ two.shown = ap (λ (m : Made). m.shown) made-same in (
         act-is,

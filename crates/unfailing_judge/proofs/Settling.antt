@@ -1,6 +1,7 @@
 -- Acts that are made in the order in which they can go.
 use Rattle.std.proofs.Common.{◌≡◌, ◌∙◌, ◌+◌, ◌<◌, ℕ, List, [], ◌∷◌, ◌++◌, Option, Some, ap, append_assoc}
-use Rattle.std.proofs.Common.{Bool, arith, drop, false, get_or, length, length-append, refl, slice_get, suc, subst, sym, take, true, zero}
+use Rattle.std.proofs.Common.{Bool, arith, drop, false, get_or, length, length-append, refl, slice_get, suc, subst, sym}
+use Rattle.std.proofs.Common.{take, true, zero}
 use Rattle.std.specs.List.{remove}
 use Rattle.std.proofs.lemmas.List.{drop_more, take_more}
 use Rattle.plain_semantics.specs.Machine.{made, plain_start}
@@ -8,8 +9,8 @@ use Rattle.tal_tree.specs.declared.act.Act.{Act}
 use Rattle.tal_tree.specs.declared.act.Shown.{Shown}
 use Rattle.tal_tree.specs.declared.site.Site.{Site}
 use Rattle.unfailing_judge.specs.Order.{GoesBy, GoesOn, way_of}
-use Rattle.unfailing_judge.specs.Replays.{GoesInTurn, IsAsItWas, IsCarriedOn, IsFirstGone, IsMadeBy, IsSettledOf, NoneGoesIn}
-use Rattle.unfailing_judge.specs.Replays.{due_in, way_in}
+use Rattle.unfailing_judge.specs.Replays.{GoesInTurn, IsAsItWas, IsCarriedOn, IsFirstGone, IsMadeBy, IsSettledOf}
+use Rattle.unfailing_judge.specs.Replays.{NoneGoesIn, due_in, way_in}
 use Rattle.unfailing_judge.specs.Turns.{HasTurn}
 use Rattle.unfailing_judge.specs.declared.replay.Replay.{Replay}
 use Rattle.unfailing_judge.proofs.Ways.{goes-behind, goes-both, goes-one, none-more}
@@ -121,7 +122,8 @@ waits-none shown left act old new by none =
 
 -- of no acts none went
 pub carried-none : (shown : List Shown) (acts : List Act) (replay : Replay) → IsCarriedOn shown acts acts replay replay
-carried-none shown acts replay = record { order = []; on_site = refl; goes = refl; counted = omega arith; reached = refl }
+carried-none shown acts replay =
+    record { order = []; on_site = refl; goes = refl; counted = omega arith; reached = refl }
 
 -- the list parts at a place
 pub parts-at : (acts : List Act) (place : ℕ) (act : Act) → slice_get acts place ≡ Some act
@@ -173,8 +175,8 @@ made-from : (shown : List Shown) (act : Act) (old mid new : Replay) → IsAsItWa
 made-from shown act old mid new same by = record {
   told = by.told;
   on_site = by.on_site ∙ ap (λ p. p.site) same.plain;
-  possible = subst (λ p. made p.site p.state act ≡ Some (record { plain = new.plain.state; shown = by.told })) same.plain
-      by.possible;
+  possible = subst (λ p. made p.site p.state act ≡ Some (record { plain = new.plain.state; shown = by.told }))
+      same.plain by.possible;
   fits = sym (same-due shown old mid same) ∙ by.fits;
   counted = omega (arith, by.counted, same.counted);
   reached = omega (arith, by.reached, same.agreed);

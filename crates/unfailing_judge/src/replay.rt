@@ -27,7 +27,8 @@ impl<'a> Replay<'a> {
 
     pub(crate) fn start(alloc: Global, site: &'a Site) -> Result<Replay<'a>, NoMemory>
         requires { IsPlayable site.now }
-        ensures plain { IfOk result (λ replay. replay.plain ≡ record { site = site.now; state = plain_start site.now }) }
+        ensures plain { IfOk result (λ replay. replay.plain
+            ≡ record { site = site.now; state = plain_start site.now }) }
         ensures agreed { IfOk result (λ replay. replay.agreed ≡ 0) }
         ensures made { IfOk result (λ replay. replay.made ≡ 0) }
     {

@@ -25,13 +25,14 @@ acting core waiting = record {
   number = 4;
   sent = true;
   acknowledged = false;
+  renewal = false;
   core = core;
   waiting = waiting;
   position = 1;
   held = [];
 }
 
--- a copy that has sent none
+-- a copy that has sent none, and has to send everything
 abbrev pub watching : Core → List Request → Copy
 watching core waiting = record {
   processor = 8;
@@ -40,6 +41,7 @@ watching core waiting = record {
   number = 3;
   sent = false;
   acknowledged = true;
+  renewal = true;
   core = core;
   waiting = waiting;
   position = 9;

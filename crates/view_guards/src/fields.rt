@@ -24,6 +24,7 @@ pub fn a_copy_is_told_field_by_field()
           era = 3;
           number = 4;
           sent = true;
+          renewal = false;
           awaited = awaited_by (core_of state table);
           point = point state;
           next = next_number_of state;
@@ -40,6 +41,7 @@ pub fn a_copy_is_told_field_by_field()
           era = 4;
           number = 3;
           sent = false;
+          renewal = true;
           awaited = awaited_by (core_of state table);
           point = point state;
           next = next_number_of state;
@@ -77,6 +79,7 @@ pub fn a_terminal_is_told_field_by_field()
 /// What is told of a world has each part in its place.
 pub fn a_world_is_told_part_by_part()
     ensures stopped { (w : World) → (view_of w).stopped ≡ stopped_in w.stopped }
+    ensures reloads { (w : World) → (view_of w).reloads ≡ w.reloads }
     ensures down { (w : World) → (view_of w).down ≡ marks_in w.marks }
     ensures terminals { (w : World) → (view_of
         (record w {

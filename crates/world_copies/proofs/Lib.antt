@@ -6,6 +6,7 @@ pub mod Kept
 pub mod Lookups
 pub mod Marks
 pub mod Places
+pub mod Reloads
 pub mod Reroutes
 pub mod Room
 pub mod Steps

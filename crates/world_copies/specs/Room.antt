@@ -8,7 +8,7 @@ use Rattle.world_semantics.specs.declared.which.Which.{Which}
 use Rattle.world_semantics.specs.World.{Pair, copy_of}
 use Rattle.world_semantics.specs.Messages.{Message, Asking}
 use Rattle.computed_changes.specs.Laws.{NamesOpener}
-use Rattle.process_copies.specs.number_ranges.specs.HasRoom.{CopyHasRoom}
+use Rattle.process_copies.specs.number_ranges.specs.HasRoom.{CopyHasRoom, PairHasRoom}
 
 -- of a process at a mark: each copy that watches has room, since only such a copy takes over. A copy that took over
 -- acts, and the other one keeps its numbers, so this lasts from one mark of a tick to the next
@@ -18,6 +18,10 @@ WatchersHaveRoom pair = (k : Which) → (copy_of k pair).role ≡ Watching → C
 -- of each process at a mark
 abbrev pub AllWatchersHaveRoom : List Pair → Type 0
 AllWatchersHaveRoom pairs = (number : ℕ) (pair : Pair) → slice_get pairs number ≡ Some pair → WatchersHaveRoom pair
+
+-- of each process where a processor is loaded again: both copies have room, since the eras rise
+abbrev pub AllHaveRoom : List Pair → Type 0
+AllHaveRoom pairs = (number : ℕ) (pair : Pair) → slice_get pairs number ≡ Some pair → PairHasRoom pair
 
 -- of a message that is handed over: a request names an opener of the process that it is for
 abbrev pub NamesItsOpener : Site → Message → Type 0

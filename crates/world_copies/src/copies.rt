@@ -1,4 +1,4 @@
-ghost use Rattle.std.specs.Prelude.{◌≡◌, length, reverse};
+ghost use Rattle.std.specs.Prelude.{◌≡◌, length, reverse, slice_get};
 ghost use Rattle.std.specs.Option.{option_copied};
 ghost use Rattle.computed_changes.specs.Changed.{checkpoint_before};
 ghost use Rattle.process_copies.specs.node_copies.specs.ShownCounts.{replies_in, writes_in};
@@ -6,6 +6,7 @@ ghost use Rattle.world_semantics.specs.Kept.{acts_of};
 ghost use Rattle.world_semantics.specs.World.{has_noted, is_running};
 ghost use Rattle.world_copies.specs.Seen.{ArePlaced, drives_in, pairs_in};
 
+use crate::counts::ReloadCounts;
 use crate::processors::Processors;
 use crate::terminal::Terminal;
 use checkpoint_image::ImageMessage;
@@ -18,14 +19,15 @@ use std::alloc::Global;
 use std::marker::Model;
 use tal_tree::{Act, Shown, Site};
 
-/// The world of copies: its site, where its terminals stand, which processors have stopped, which node has marked
-/// which, the processes, the terminals, and what happened.
+/// The world of copies: its site, where its terminals stand, which processors have stopped, how often each was loaded
+/// again, which node has marked which, the processes, the terminals, and what happened.
 #[derive(Drop)]
 pub struct WorldCopies {
     pub(crate) alloc: Global,
     pub(crate) site: Shared<Site>,
     pub(crate) places: List<Option<Address>>,
     pub(crate) stopped: Processors,
+    pub(crate) reloads: ReloadCounts,
     pub(crate) marks: Downs,
     pub(crate) processes: Vec<ProcessCopies>,
     pub(crate) terminals: Vec<Terminal>,
@@ -36,6 +38,7 @@ impl Model for WorldCopies {
     ghost use Rattle.std.specs.Prelude.{◌≡◌, length};
     ghost use Rattle.std.specs.Coded.{codes};
     ghost use Rattle.tal_tree.specs.contracts.statement.Statement as statement;
+    ghost use Rattle.process_copies.specs.Starting.{IsStartable};
     ghost use Rattle.world_copies.specs.SiteWorld.{SiteWorld};
     ghost use Rattle.world_copies.specs.Seen.{ArePlaced, drives_in, pairs_in, terminal_row};
 
@@ -47,6 +50,7 @@ impl Model for WorldCopies {
       site = m.site;
       world = record {
         stopped = m.stopped;
+        reloads = m.reloads;
         marks = m.marks;
         requests = m.records.requests;
         replies = m.records.replies;
@@ -60,7 +64,7 @@ impl Model for WorldCopies {
 
     ghost invariant = { λ m. ArePlaced m.site m.processes.items
         × (length m.processes.items ≡ length m.site.processes)
-        × (m.places ≡ terminal_row m.site 0 m.site.terminals) };
+        × ((m.places ≡ terminal_row m.site 0 m.site.terminals) × IsStartable m.site) };
 }
 
 impl WorldCopies {
@@ -83,6 +87,20 @@ impl WorldCopies {
         ensures { result ≡ length self.now.world.stopped }
     {
         self.stopped.count()
+    }
+
+    /// Whether a processor has stopped; none where it isn't there.
+    pub fn stopped_at(&self, processor: u8) -> Option<bool>
+        ensures { result ≡ slice_get self.now.world.stopped processor }
+    {
+        self.stopped.as_slice().get(usize::from(processor)).copied()
+    }
+
+    /// How often each processor was loaded again.
+    pub fn reloads(&self) -> &[u8]
+        ensures { result.now ≡ self.now.world.reloads }
+    {
+        self.reloads.as_slice()
     }
 
     /// Whether a node runs.

@@ -1,5 +1,5 @@
 //! The world of copies in code: a site with both copies of each of its processes, its terminals, which processors have
-//! stopped, which node has marked which, and what happened.
+//! stopped, how often each was loaded again, which node has marked which, and what happened.
 //!
 //! Below stand `process_copies` with what one process does, `node_copies` with the records of what happened, `sendings`
 //! with messages, and `computed_changes` with what each change makes of a world. The layer above uses that
@@ -12,6 +12,7 @@
 mod asking_again;
 mod closing;
 pub mod copies;
+mod counts;
 mod entering;
 mod handing;
 mod idle;
@@ -19,6 +20,7 @@ pub mod laws;
 mod marking;
 mod printing;
 mod processors;
+mod reloading;
 mod routing;
 mod running;
 mod starting;

@@ -3,6 +3,7 @@ ghost use Rattle.std.specs.Option.{option_and_then, option_map};
 ghost use Rattle.letters.specs.Routes.{end_of, home_of, receiver_of, route_of, route_to};
 ghost use Rattle.plain_semantics.specs.Openers.{openers_of};
 ghost use Rattle.sendings.specs.Seen.{message_of};
+ghost use Rattle.world_semantics.specs.World.{other_of};
 
 use crate::copies::WorldCopies;
 use process_copies::ProcessCopies;
@@ -15,11 +16,21 @@ use world_semantics::Which;
 fn route_of(marks: &Downs, node: u8, process: &ProcessCopies) -> u8
     ensures { result ≡ route_of marks.now node process.now.pair }
 {
-    let first = process.processor(Which::First);
-    if marks.has(node, first) {
-        process.processor(Which::Second)
+    let led = process.led();
+    let processor = process.processor(led);
+    if marks.has(node, processor) {
+        process.processor(other_of(led))
     } else {
-        first
+        processor
+    }
+}
+
+fn other_of(which: Which) -> Which
+    ensures { result ≡ other_of which }
+{
+    match which {
+        Which::First => Which::Second,
+        Which::Second => Which::First,
     }
 }
 

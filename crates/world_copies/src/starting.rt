@@ -9,6 +9,7 @@ ghost use Rattle.world_copies.specs.SiteWorld.{begun};
 ghost use Rattle.world_copies.specs.Starting.{placed_from};
 
 use crate::copies::WorldCopies;
+use crate::counts::ReloadCounts;
 use crate::processors::Processors;
 use crate::terminal::Terminal;
 use gd_words::{List, NoMemory};
@@ -27,6 +28,7 @@ impl WorldCopies {
     {
         let places = terminal_places(alloc, site.get())?;
         let stopped = Processors::new(alloc, site.get().processors)?;
+        let reloads = ReloadCounts::new(alloc, site.get().processors)?;
         let processes = first_processes(alloc, site.get())?;
         let terminals = first_terminals(alloc, site.get().terminals.as_slice())?;
         let records = Records::new(alloc)?;
@@ -36,6 +38,7 @@ impl WorldCopies {
             site,
             places,
             stopped,
+            reloads,
             marks: Downs::new(alloc),
             processes,
             terminals,

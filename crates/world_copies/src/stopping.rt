@@ -1,24 +1,21 @@
-ghost use Rattle.std.specs.Prelude.{◌≡◌, [], if◌then◌else◌, map, None, Some};
-ghost use Rattle.computed_changes.specs.Stopped.{stop_done, stopped_world};
+ghost use Rattle.std.specs.Prelude.{◌≡◌, map, not};
+ghost use Rattle.std.specs.List.{list_any};
+ghost use Rattle.computed_changes.specs.Stopped.{stopped_world};
 ghost use Rattle.process_copies.specs.message_wires.specs.Play.{has_stopped};
 ghost use Rattle.world_semantics.specs.Rules.{stopped_pair};
+ghost use Rattle.world_semantics.specs.World.{is_pair_of, is_whole};
 ghost use Rattle.world_copies.specs.Changes.{changed};
+ghost use Rattle.world_copies.specs.Seen.{pairs_in};
 
 use crate::copies::WorldCopies;
 use process_copies::ProcessCopies;
 
 impl WorldCopies {
-    /// Whether a processor can stop: it is there, and runs.
-    pub fn can_stop(&self, processor: u8) -> bool
-        ensures { stop_done processor self.now.world
-            ≡ (if result then Some (record { world = stopped_world processor self.now.world; sendings = [] }) else
-            None) }
+    /// Whether the world is whole: no processor has stopped, and each process has a copy that acts and one that watches.
+    pub fn is_whole(&self) -> bool
+        ensures { result ≡ is_whole self.now.world }
     {
-        let place = usize::from(processor);
-        if place >= self.stopped.len() {
-            return false;
-        }
-        !self.stopped.as_slice()[place]
+        !self.stopped.has_stopped() && are_pairs(self.processes.as_slice())
     }
 
     /// Whether any processor has stopped.
@@ -43,4 +40,16 @@ fn stop_all(processes: &mut [ProcessCopies], processor: u8)
     for number in 0..processes.len() {
         processes[number].stop(processor);
     }
+}
+
+fn are_pairs(processes: &[ProcessCopies]) -> bool
+    ensures { result ≡ not (list_any (λ pair. not (is_pair_of pair.first.role pair.second.role))
+        (pairs_in processes.now)) }
+{
+    for process in processes {
+        if !process.is_pair() {
+            return false;
+        }
+    }
+    true
 }

@@ -1,35 +1,38 @@
 -- What a change does to each copy of a process.
 use Rattle.std.proofs.Common.{◌≡◌, inl, ℕ, ◌+◌, Bool, true, false, if◌then◌else◌, List, [], map, Option, Some, None}
-use Rattle.std.proofs.Common.{slice_get, slice_set, refl, subst, sym, ◌∙◌}
+use Rattle.std.proofs.Common.{slice_get, slice_set, refl, subst, sym, ◌∙◌, ◌==◌, ◌≢◌}
+use Rattle.std.proofs.lemmas.Bool.{eqb-true}
 use Rattle.gd_words.specs.Members.{IsAmong}
 use Rattle.gd_words.specs.declared.message.Request.{Request}
 use Rattle.tal_tree.specs.declared.act.Act.{Act}
 use Rattle.tal_tree.specs.declared.site.Site.{Site}
-use Rattle.plain_semantics.specs.process_semantics.specs.declared.point.Point.TheVariants as point
-use Rattle.plain_semantics.specs.process_semantics.specs.Process as process
 use Rattle.plain_semantics.specs.Openers.{openers_of}
 use Rattle.checkpoint_image.specs.declared.message.ImageMessage.{ImageMessage}
 use Rattle.checkpoint_image.specs.declared.message.TakenMessage.{TakenMessage}
 use Rattle.world_semantics.specs.declared.role.Role.{Role}
-use Rattle.world_semantics.specs.declared.role.Role.TheVariants.{Acting, Watching, Gone}
+use Rattle.world_semantics.specs.declared.role.Role.TheVariants.{Acting, Watching, Blank, Gone}
 use Rattle.checkpoint_image.specs.Receive.{waits, came}
 use Rattle.world_semantics.specs.Core.{Core, Deed, Advances, put_in}
-use Rattle.world_semantics.specs.World.{Copy, Pair, World, Which, First, Second, copy_of, with_copy}
+use Rattle.world_semantics.specs.World.{Copy, Pair, World, Which, First, Second, copy_of, other_of, with_copy}
+use Rattle.world_semantics.specs.World.{receives}
 use Rattle.world_semantics.specs.Kept.{Enters, holds_on, repeats, begins, keeps}
 use Rattle.world_semantics.specs.Messages.{Message, Asking, Checkpointing, Taking, Sending, Cause, Running, Handing}
-use Rattle.world_semantics.specs.Messages.{Stopping, NotingDown}
+use Rattle.world_semantics.specs.Messages.{Stopping, NotingDown, Reloading}
 use Rattle.world_semantics.specs.Own.{Around, around, Causes}
-use Rattle.world_semantics.specs.Passes.{Passes, by_send, by_pass_again, by_pass, by_apply, by_acknowledge}
-use Rattle.world_semantics.specs.Passes.{checkpoint_of, after_sending, copy_at_checkpoint}
+use Rattle.world_semantics.specs.Passes.{Passes, MaySend, by_send, by_pass_again, by_pass, by_end, by_apply}
+use Rattle.world_semantics.specs.Passes.{by_apply_behind, by_acknowledge, checkpoint_of, after_sending, after_sent}
+use Rattle.world_semantics.specs.Passes.{copy_at_checkpoint, after_getting, after_told}
 use Rattle.world_semantics.specs.Rules.{Change, by_own, by_checkpoint, by_request, by_early_request, by_enter, by_print}
-use Rattle.world_semantics.specs.Rules.{by_stop, by_mark, stopped_copy, stopped_pair, taken_over, taker}
-use Rattle.world_semantics.specs.Rules.{pair_after_down, pair_at_down}
+use Rattle.world_semantics.specs.Rules.{by_stop, by_mark, by_reload, IsFreeFor, stopped_copy, stopped_pair, taken_over}
+use Rattle.world_semantics.specs.Rules.{taker, pair_after_down, pair_at_down, renewals_ended, blank_copy, renewed}
+use Rattle.world_semantics.specs.Rules.{begun, reloaded_by}
 use Rattle.world_semantics.proofs.Lists.{some-same, Changed, is_new, is_same, changed, mapped}
-use Rattle.world_semantics.proofs.Roles.{Takes, taker-is}
+use Rattle.world_semantics.proofs.Roles.{Takes, taker-is, reload-all}
 
 -- what one copy of a process is after a change, where these are the checkpoints that were sent by then: it is as
--- before, acts, sends its checkpoint or passes it; it applies a checkpoint, or is told that one was taken; what it held
--- is kept or dropped; a request comes to it; its processor stops; or it takes over
+-- before, acts, sends a checkpoint, passes its checkpoint, or what it has sent comes to its end; it applies a
+-- checkpoint, or is told that one was taken; what it held is kept or dropped; a request comes to it; its processor
+-- stops; it takes over, or needn't send everything any more; its processor is loaded again, or the other one's
 pub data Becomes (site : Site) (w : World) (number : ℕ) (pair : Pair) (sent : List ImageMessage) (k : Which) : Cause
     → Copy → Type 0 where
   stays : {cause : Cause} → Becomes site w number pair sent k cause (copy_of k pair)
@@ -39,37 +42,49 @@ pub data Becomes (site : Site) (w : World) (number : ℕ) (pair : Pair) (sent : 
       → Causes site number (copy_of k pair).processor (copy_of k pair).core (around (copy_of k pair) pair w) cause deed
       done messages after
       → Advances (openers_of site number) (copy_of k pair).core deed core
-      → Enters number done w.kept (copy_of k pair) entered kept
+      → Enters number done w.kept (copy_of k pair) entered kept → IsFreeFor cause (copy_of k pair)
       → Becomes site w number pair sent k cause (record entered { core = core; waiting = after.waiting })
-  sends : (copy_of k pair).role ≡ Acting → process.point (copy_of k pair).core.state ≡ point.AtCheckpoint
+  sends : (copy_of k pair).role ≡ Acting → MaySend (copy_of k pair)
       → IsAmong (checkpoint_of number (copy_of k pair)) sent
       → Becomes site w number pair sent k (Running number) (after_sending (copy_of k pair))
   passes : {position : ℕ} {held : List Act} → (copy_of k pair).role ≡ Acting
       → Becomes site w number pair sent k (Running number)
       (record (copy_at_checkpoint (copy_of k pair)) { position = position; held = held })
-  applies : {applied : Core} → (message : ImageMessage) → (copy_of k pair).role ≡ Watching
+  ends : (copy_of k pair).role ≡ Acting
+      → Becomes site w number pair sent k (Running number) (after_sent (copy_of k pair))
+  applies : {applied : Core} → (message : ImageMessage) → receives (copy_of k pair).role ≡ true
       → IsAmong message pair.checkpoints
       → message.era ≡ (copy_of k pair).era → message.number ≡ (copy_of k pair).number + 1
       → put_in (copy_of k pair).core message.image ≡ Some applied
       → Becomes site w number pair sent k (Handing (copy_of k pair).processor (Checkpointing message))
-      (record (copy_of k pair) { core = applied; number = message.number })
+      (after_getting message.number applied (copy_of k pair))
   is_told : (taken : TakenMessage) → (copy_of k pair).role ≡ Acting → (copy_of k pair).sent ≡ true
       → IsAmong taken pair.takens
       → taken.era ≡ (copy_of k pair).era → taken.number ≡ (copy_of k pair).number
       → Becomes site w number pair sent k (Handing (copy_of k pair).processor (Taking taken))
-      (record (copy_of k pair) { acknowledged = true })
-  is_freed : {cause : Cause} {position : ℕ}
-      → Becomes site w number pair sent k cause (record (copy_of k pair) { position = position; held = [] })
+      (after_told (copy_of k pair))
+  is_freed : {cause : Cause} {position : ℕ} {renewal : Bool}
+      → Becomes site w number pair sent k cause
+      (record (copy_of k pair) { position = position; held = []; renewal = renewal })
+  needs_less : {cause : Cause} {renewal : Bool}
+      → Becomes site w number pair sent k cause (record (copy_of k pair) { renewal = renewal })
   hears : (request : Request) → (copy_of k pair).role ≡ Acting
       → Becomes site w number pair sent k (Handing (copy_of k pair).processor (Asking request))
       (record (copy_of k pair) { waiting = came (copy_of k pair).core.receive (copy_of k pair).waiting request })
-  hears_early : (request : Request) → (copy_of k pair).role ≡ Watching
+  hears_early : (request : Request) → receives (copy_of k pair).role ≡ true
       → Becomes site w number pair sent k (Handing (copy_of k pair).processor (Asking request))
       (record (copy_of k pair) { waiting = waits (copy_of k pair).waiting request })
   stops : (processor : ℕ) → Becomes site w number pair sent k (Stopping processor)
       (stopped_copy processor (copy_of k pair))
-  takes_over : (node processor : ℕ) → Takes node processor k pair
-      → Becomes site w number pair sent k (NotingDown node processor) (taken_over pair.base (copy_of k pair))
+  takes_over : {renewal : Bool} (node processor : ℕ) → Takes node processor k pair
+      → Becomes site w number pair sent k (NotingDown node processor)
+      (record (taken_over pair.base (copy_of k pair)) { renewal = renewal })
+  is_blank : {era : ℕ} (processor : ℕ) → (copy_of k pair).processor ≡ processor
+      → ((copy_of (other_of k) pair).processor ≢ processor → era ≡ (copy_of (other_of k) pair).era + 1)
+      → Becomes site w number pair sent k (Reloading processor)
+      (blank_copy (copy_of k pair).processor era (begun site number (slice_get site.processes number) pair.first.core))
+  renews : (processor : ℕ) → (copy_of (other_of k) pair).processor ≡ processor
+      → Becomes site w number pair sent k (Reloading processor) (renewed (copy_of k pair))
 
 -- what an act leaves of a copy as it was, however the act enters the kept acts
 pub record IsEntered (copy entered : Copy) : Type 0 where
@@ -83,6 +98,13 @@ entered-same (holds_on e) = record { role = refl; sent = refl; acknowledged = re
 entered-same (repeats e l) = record { role = refl; sent = refl; acknowledged = refl }
 entered-same (begins e l t) = record { role = refl; sent = refl; acknowledged = refl }
 entered-same (keeps e l t) = record { role = refl; sent = refl; acknowledged = refl }
+
+-- a copy that acts gets no checkpoint
+pub acting-gets-none : (role : Role) → role ≡ Acting → receives role ≡ true → ⊥
+acting-gets-none Acting a r = cc
+acting-gets-none Watching a r = cc
+acting-gets-none Blank a r = cc
+acting-gets-none Gone a r = cc
 
 -- the role that a copy has had where it has this one after a stop
 pub was-role : (gone : Bool) (role wanted : Role) → (wanted ≡ Gone → ⊥) → (if gone then Gone else role) ≡ wanted
@@ -106,13 +128,13 @@ own-copies : {site : Site} {w : World} {number : ℕ} {cause : Cause} {deed : De
     → Causes site number (copy_of k pair).processor (copy_of k pair).core (around (copy_of k pair) pair w) cause deed
     done messages after
     → Advances (openers_of site number) (copy_of k pair).core deed core
-    → Enters number done w.kept (copy_of k pair) entered kept
+    → Enters number done w.kept (copy_of k pair) entered kept → IsFreeFor cause (copy_of k pair)
     → BothBecome site w number pair cause (with_copy k (record entered { core = core; waiting = after.waiting })
     (record pair { sectors = after.sectors }))
-own-copies First pair r c a e First = acts r c a e
-own-copies First pair r c a e Second = stays
-own-copies Second pair r c a e First = stays
-own-copies Second pair r c a e Second = acts r c a e
+own-copies First pair r c a e fr First = acts r c a e fr
+own-copies First pair r c a e fr Second = stays
+own-copies Second pair r c a e fr First = stays
+own-copies Second pair r c a e fr Second = acts r c a e fr
 
 passes-copies : {site : Site} {w : World} {number : ℕ} {kept : List Act} {pair next : Pair} {cause : Cause}
     {sendings : List Sending}
@@ -129,10 +151,18 @@ passes-copies (by_pass First r p m l) First = passes r
 passes-copies (by_pass First r p m l) Second = stays
 passes-copies (by_pass Second r p m l) First = stays
 passes-copies (by_pass Second r p m l) Second = passes r
-passes-copies (by_apply First message applied r i e n a) First = applies message r i e n a
-passes-copies (by_apply First message applied r i e n a) Second = is_freed
-passes-copies (by_apply Second message applied r i e n a) First = is_freed
-passes-copies (by_apply Second message applied r i e n a) Second = applies message r i e n a
+passes-copies (by_end First r s p m) First = ends r
+passes-copies (by_end First r s p m) Second = stays
+passes-copies (by_end Second r s p m) First = stays
+passes-copies (by_end Second r s p m) Second = ends r
+passes-copies (by_apply_behind First message applied r i e n a l) First = applies message r i e n a
+passes-copies (by_apply_behind First message applied r i e n a l) Second = stays
+passes-copies (by_apply_behind Second message applied r i e n a l) First = stays
+passes-copies (by_apply_behind Second message applied r i e n a l) Second = applies message r i e n a
+passes-copies (by_apply First message applied r i e n a l) First = applies message r i e n a
+passes-copies (by_apply First message applied r i e n a l) Second = is_freed
+passes-copies (by_apply Second message applied r i e n a l) First = is_freed
+passes-copies (by_apply Second message applied r i e n a l) Second = applies message r i e n a
 passes-copies (by_acknowledge First taken r s i e n) First = is_told taken r s i e n
 passes-copies (by_acknowledge First taken r s i e n) Second = stays
 passes-copies (by_acknowledge Second taken r s i e n) First = stays
@@ -150,7 +180,7 @@ hears-copies request Second pair r First = stays
 hears-copies request Second pair r Second = hears request r
 
 early-copies : {site : Site} {w : World} (request : Request) (k : Which) (pair : Pair)
-    → (copy_of k pair).role ≡ Watching
+    → receives (copy_of k pair).role ≡ true
     → BothBecome site w request.process pair (Handing (copy_of k pair).processor (Asking request))
     (with_copy k (record (copy_of k pair) { waiting = waits (copy_of k pair).waiting request }) pair)
 early-copies request First pair r First = hears_early request r
@@ -165,13 +195,29 @@ stop-copies processor pair Second = stops processor
 
 mark-copies : {site : Site} {w : World} {number : ℕ} (node processor : ℕ) (pair : Pair) (k : Option Which)
     → taker node processor pair ≡ k
-    → BothBecome site w number pair (NotingDown node processor) (pair_after_down k pair)
-mark-copies node processor pair None e j = stays
+    → BothBecome site w number pair (NotingDown node processor)
+    (renewals_ended node processor (pair_after_down k pair))
+mark-copies node processor pair None e First = needs_less
+mark-copies node processor pair None e Second = needs_less
 mark-copies node processor pair (Some First) e First = takes_over node processor (taker-is node processor pair First e)
 mark-copies node processor pair (Some First) e Second = is_freed
 mark-copies node processor pair (Some Second) e First = is_freed
 mark-copies node processor pair (Some Second) e Second =
     takes_over node processor (taker-is node processor pair Second e)
+
+reload-copies : {site : Site} {w : World} (number processor : ℕ) (pair : Pair) (one two : Bool)
+    → (pair.first.processor == processor) ≡ one → (pair.second.processor == processor) ≡ two
+    → BothBecome site w number pair (Reloading processor)
+    (reloaded_by (begun site number (slice_get site.processes number) pair.first.core) pair one two)
+reload-copies number processor pair false false a b k = stays
+reload-copies number processor pair true false a b First = is_blank processor (eqb-true _ _ a) (λ _. refl)
+reload-copies number processor pair true false a b Second = renews processor (eqb-true _ _ a)
+reload-copies number processor pair false true a b First = renews processor (eqb-true _ _ b)
+reload-copies number processor pair false true a b Second = is_blank processor (eqb-true _ _ b) (λ _. refl)
+reload-copies number processor pair true true a b First =
+    is_blank processor (eqb-true _ _ a) (λ apart. absurd (apart (eqb-true _ _ b)))
+reload-copies number processor pair true true a b Second =
+    is_blank processor (eqb-true _ _ b) (λ apart. absurd (apart (eqb-true _ _ a)))
 
 same-was : {site : Site} {w : World} {cause : Cause} (number : ℕ) (after : Pair)
     → slice_get w.processes number ≡ Some after → Was site w number cause after
@@ -205,7 +251,8 @@ map-was {site = site} {w = w} {cause = cause} f copies number after now =
 pub change-was : {site : Site} (w next : World) (cause : Cause) (sendings : List Sending)
     → Change site w cause sendings next → (number : ℕ) (after : Pair)
     → slice_get next.processes number ≡ Some after → Was site w number cause after
-change-was w next cause sendings (by_own n k pair there r c a e) = set-was n pair _ there (own-copies k pair r c a e)
+change-was w next cause sendings (by_own n k pair there r c a e fr) =
+    set-was n pair _ there (own-copies k pair r c a e fr)
 change-was w next cause sendings (by_checkpoint n pair there p) = set-was n pair _ there (passes-copies p)
 change-was w next cause sendings (by_request request k pair i there r) =
     set-was request.process pair _ there (hears-copies request k pair r)
@@ -213,9 +260,16 @@ change-was w next cause sendings (by_early_request request k pair i there r) =
     set-was request.process pair _ there (early-copies request k pair r)
 change-was w next cause sendings (by_enter n terminal opener t e q o) = same-was
 change-was w next cause sendings (by_print n terminal reply t e i o m) = same-was
-change-was w next cause sendings (by_stop x s) = map-was (stopped_pair x) (λ number pair. stop-copies x pair)
+change-was w next cause sendings (by_stop x s h) = map-was (stopped_pair x) (λ number pair. stop-copies x pair)
 change-was w next cause sendings (by_mark m x s q n) =
     map-was (pair_at_down m x) (λ number pair. mark-copies m x pair (taker m x pair) refl)
+change-was {site = site} w next cause sendings (by_reload x s m t l) =
+    reload-all (λ n p. Was site w n (Reloading x) p) site x w.processes
+    (λ n p there. record {
+      before = p;
+      there = there;
+      copies = reload-copies n x p (p.first.processor == x) (p.second.processor == x) refl refl;
+    })
 
 -- what a copy becomes by a change
 pub change-copy : {site : Site} (w next : World) (cause : Cause) (sendings : List Sending) (number : ℕ)

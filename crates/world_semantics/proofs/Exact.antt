@@ -19,18 +19,20 @@ use Rattle.world_semantics.specs.declared.role.Role.TheVariants.{Acting, Watchin
 use Rattle.checkpoint_image.specs.Receive.{standing, reply_to, repeated_by, repeated}
 use Rattle.world_semantics.specs.Core.{Core, Deed, Advances, gets}
 use Rattle.world_semantics.specs.World.{Copy, Pair, Down, Terminal, World, Which, copy_of, other_of, terminal_node}
+use Rattle.world_semantics.specs.World.{receives}
 use Rattle.world_semantics.specs.Messages.{Message, Asking, Replying, Checkpointing, Taking, Sending, sent_at, Cause}
-use Rattle.world_semantics.specs.Messages.{Handing, NotingDown}
+use Rattle.world_semantics.specs.Messages.{Handing, NotingDown, Reloading}
 use Rattle.world_semantics.specs.Own.{Around, Causes, by_inner, by_take, by_ask, by_answer, by_device, by_write}
 use Rattle.world_semantics.specs.Own.{by_reply}
-use Rattle.world_semantics.specs.Passes.{Passes, by_send, by_pass_again, by_pass, by_apply, by_acknowledge}
+use Rattle.world_semantics.specs.Passes.{Passes, by_send, by_pass_again, by_pass, by_end, by_apply_behind}
+use Rattle.world_semantics.specs.Passes.{by_apply, by_acknowledge}
 use Rattle.world_semantics.specs.Rules.{Change, by_own, by_checkpoint, by_request, by_early_request, by_enter, by_print}
-use Rattle.world_semantics.specs.Rules.{by_stop, by_mark}
+use Rattle.world_semantics.specs.Rules.{by_stop, by_mark, by_reload}
 use Rattle.world_semantics.specs.Laws.{HasStayed, IsNextFor, HasApplied, Acknowledges, HasTakenOver, Awaits, AwaitsAt}
 use Rattle.world_semantics.specs.Laws.{KeepsReplyTo}
 use Rattle.world_semantics.proofs.Lists.{some-same, set-there}
 use Rattle.world_semantics.proofs.Becoming as becoming
-use Rattle.world_semantics.proofs.Becoming.{Becomes, entered-same, was-role}
+use Rattle.world_semantics.proofs.Becoming.{Becomes, acting-gets-none, entered-same, was-role}
 
 -- Checkpoints
 
@@ -41,22 +43,28 @@ AppliesNext pair before cause after =
     × IsAmong message pair.checkpoints × IsNextFor before message
     × HasApplied before message after
 
-pub watching-applies : {site : Site} {w : World} {number : ℕ} {pair : Pair} {sent : List ImageMessage} {k : Which}
+pub receiving-applies : {site : Site} {w : World} {number : ℕ} {pair : Pair} {sent : List ImageMessage} {k : Which}
     {cause : Cause} {after : Copy} → Becomes site w number pair sent k cause after
-    → (copy_of k pair).role ≡ Watching → HasStayed (copy_of k pair) after
-    ⊎ AppliesNext pair (copy_of k pair) cause after
-watching-applies becoming.stays role = inl (record { core = refl; number = λ _. refl })
-watching-applies (becoming.acts r c a e) role = absurd (cc)
-watching-applies (becoming.sends r p i) role = absurd (cc)
-watching-applies (becoming.passes r) role = absurd (cc)
-watching-applies (becoming.applies message r i e n a) role =
-    inr (message, refl, i, record { era = e; number = n }, record { core = a; number = refl })
-watching-applies (becoming.is_told taken r s i e n) role = absurd (cc)
-watching-applies becoming.is_freed role = inl (record { core = refl; number = λ _. refl })
-watching-applies (becoming.hears request r) role = absurd (cc)
-watching-applies (becoming.hears_early request r) role = inl (record { core = refl; number = λ _. refl })
-watching-applies (becoming.stops processor) role = inl (record { core = refl; number = λ _. refl })
-watching-applies (becoming.takes_over node processor t) role =
+    → receives (copy_of k pair).role ≡ true
+    → HasStayed (copy_of k pair) after ⊎ (AppliesNext pair (copy_of k pair) cause after
+    ⊎ (cause ≡ Reloading (copy_of k pair).processor))
+receiving-applies becoming.stays role = inl (record { core = refl; number = λ _. refl })
+receiving-applies (becoming.acts r c a e fr) role = absurd (acting-gets-none _ r role)
+receiving-applies (becoming.sends r p i) role = absurd (acting-gets-none _ r role)
+receiving-applies (becoming.passes r) role = absurd (acting-gets-none _ r role)
+receiving-applies (becoming.ends r) role = absurd (acting-gets-none _ r role)
+receiving-applies (becoming.applies message r i e n a) role =
+    inr (inl (message, refl, i, record { era = e; number = n }, record { core = a; number = refl }))
+receiving-applies (becoming.is_told taken r s i e n) role = absurd (acting-gets-none _ r role)
+receiving-applies becoming.is_freed role = inl (record { core = refl; number = λ _. refl })
+receiving-applies becoming.needs_less role = inl (record { core = refl; number = λ _. refl })
+receiving-applies (becoming.hears request r) role = absurd (acting-gets-none _ r role)
+receiving-applies (becoming.hears_early request r) role = inl (record { core = refl; number = λ _. refl })
+receiving-applies (becoming.stops processor) role = inl (record { core = refl; number = λ _. refl })
+receiving-applies (becoming.takes_over node processor t) role =
+    inl (record { core = refl; number = λ same. absurd (omega (arith, same)) })
+receiving-applies (becoming.is_blank processor here e) role = inr (inr (ap Reloading (sym here)))
+receiving-applies (becoming.renews processor there) role =
     inl (record { core = refl; number = λ same. absurd (omega (arith, same)) })
 
 not-checkpointing : {site : Site} {number node at : ℕ} {core : Core} {before after : Around} {cause : Cause}
@@ -74,19 +82,23 @@ not-checkpointing (by_reply i o n u) e = cc
 pub others-stand : {site : Site} {w : World} {number node : ℕ} {pair : Pair} {sent : List ImageMessage} {k : Which}
     {cause : Cause} {after : Copy} {message : ImageMessage}
     → Becomes site w number pair sent k cause after → cause ≡ Handing node (Checkpointing message)
-    → ((copy_of k pair).role ≡ Watching → ⊥)
+    → receives (copy_of k pair).role ≡ false
     → HasStayed (copy_of k pair) after
 others-stand becoming.stays e other = record { core = refl; number = λ _. refl }
-others-stand (becoming.acts r c a enters) e other = absurd (not-checkpointing c e)
+others-stand (becoming.acts r c a enters fr) e other = absurd (not-checkpointing c e)
 others-stand (becoming.sends r p i) e other = absurd (cc)
 others-stand (becoming.passes r) e other = absurd (cc)
-others-stand (becoming.applies message r i era n a) e other = absurd (other r)
+others-stand (becoming.ends r) e other = absurd (cc)
+others-stand (becoming.applies message r i era n a) e other = let f = sym r ∙ other in absurd (cc)
 others-stand (becoming.is_told taken r s i era n) e other = record { core = refl; number = λ _. refl }
 others-stand becoming.is_freed e other = record { core = refl; number = λ _. refl }
+others-stand becoming.needs_less e other = record { core = refl; number = λ _. refl }
 others-stand (becoming.hears request r) e other = record { core = refl; number = λ _. refl }
 others-stand (becoming.hears_early request r) e other = record { core = refl; number = λ _. refl }
 others-stand (becoming.stops processor) e other = record { core = refl; number = λ _. refl }
 others-stand (becoming.takes_over m processor t) e other = absurd (cc)
+others-stand (becoming.is_blank processor here next) e other = absurd (cc)
+others-stand (becoming.renews processor there) e other = absurd (cc)
 
 -- a copy is told that the checkpoint which it sent was taken
 abbrev pub IsToldOf : Pair → Copy → Cause → Type 0
@@ -98,17 +110,21 @@ pub only-told : {site : Site} {w : World} {number : ℕ} {pair : Pair} {sent : L
     {cause : Cause} {after : Copy} → Becomes site w number pair sent k cause after
     → (copy_of k pair).acknowledged ≡ false → after.acknowledged ≡ true → IsToldOf pair (copy_of k pair) cause
 only-told becoming.stays was now = absurd (cc)
-only-told (becoming.acts r c a e) was now = let same = (entered-same e).acknowledged in absurd (cc)
+only-told (becoming.acts r c a e fr) was now = let same = (entered-same e).acknowledged in absurd (cc)
 only-told (becoming.sends r p i) was now = absurd (cc)
 only-told (becoming.passes r) was now = absurd (cc)
+only-told (becoming.ends r) was now = absurd (cc)
 only-told (becoming.applies message r i e n a) was now = absurd (cc)
 only-told (becoming.is_told taken r s i e n) was now =
     (taken, refl, i, record { acting = r; sent = s; era = e; number = n })
 only-told becoming.is_freed was now = absurd (cc)
+only-told becoming.needs_less was now = absurd (cc)
 only-told (becoming.hears request r) was now = absurd (cc)
 only-told (becoming.hears_early request r) was now = absurd (cc)
 only-told (becoming.stops processor) was now = absurd (cc)
 only-told (becoming.takes_over node processor t) was now = absurd (cc)
+only-told (becoming.is_blank processor here e) was now = absurd (cc)
+only-told (becoming.renews processor there) was now = absurd (cc)
 
 -- Takeovers
 
@@ -123,12 +139,14 @@ pub only-taken-over : {site : Site} {w : World} {number : ℕ} {pair : Pair} {se
     → Becomes site w number pair sent k cause after → (copy_of k pair).role ≡ Watching → after.role ≡ Acting
     → TakesOver pair k cause after
 only-taken-over becoming.stays was now = absurd (cc)
-only-taken-over (becoming.acts r c a e) was now = absurd (cc)
+only-taken-over (becoming.acts r c a e fr) was now = absurd (cc)
 only-taken-over (becoming.sends r p i) was now = absurd (cc)
 only-taken-over (becoming.passes r) was now = absurd (cc)
+only-taken-over (becoming.ends r) was now = absurd (cc)
 only-taken-over (becoming.applies message r i e n a) was now = absurd (cc)
 only-taken-over (becoming.is_told taken r s i e n) was now = absurd (cc)
 only-taken-over becoming.is_freed was now = absurd (cc)
+only-taken-over becoming.needs_less was now = absurd (cc)
 only-taken-over (becoming.hears request r) was now = absurd (cc)
 only-taken-over (becoming.hears_early request r) was now = absurd (cc)
 only-taken-over {pair = pair} {k = k} (becoming.stops processor) was now =
@@ -136,6 +154,8 @@ only-taken-over {pair = pair} {k = k} (becoming.stops processor) was now =
     absurd (cc)
 only-taken-over (becoming.takes_over node processor t) was now =
     (rw (t.there, t.lost) refl, record { era = refl; number = refl; position = refl; held = refl; core = refl })
+only-taken-over (becoming.is_blank processor here e) was now = absurd (cc)
+only-taken-over (becoming.renews processor there) was now = absurd (cc)
 
 -- Replies
 
@@ -174,16 +194,20 @@ pub only-got : {site : Site} {w : World} {number node : ℕ} {pair : Pair} {sent
     → Becomes site w number pair sent k cause after → cause ≡ Handing node (Replying reply)
     → (after.core ≡ (copy_of k pair).core) ⊎ GetsAwaited site number node reply (copy_of k pair) after
 only-got becoming.stays e = inl refl
-only-got {pair = pair} {k = k} (becoming.acts r c a enters) e = inr (got-by (copy_of k pair) r e c a)
+only-got {pair = pair} {k = k} (becoming.acts r c a enters fr) e = inr (got-by (copy_of k pair) r e c a)
 only-got (becoming.sends r p i) e = absurd (cc)
 only-got (becoming.passes r) e = absurd (cc)
+only-got (becoming.ends r) e = absurd (cc)
 only-got (becoming.applies message r i era n a) e = absurd (cc)
 only-got (becoming.is_told taken r s i era n) e = absurd (cc)
 only-got becoming.is_freed e = inl refl
+only-got becoming.needs_less e = inl refl
 only-got (becoming.hears request r) e = absurd (cc)
 only-got (becoming.hears_early request r) e = absurd (cc)
 only-got (becoming.stops processor) e = absurd (cc)
 only-got (becoming.takes_over m processor t) e = absurd (cc)
+only-got (becoming.is_blank processor here next) e = absurd (cc)
+only-got (becoming.renews processor there) e = absurd (cc)
 
 -- Printing
 
@@ -235,7 +259,7 @@ pub only-printed : {site : Site} (w next : World) (cause : Cause) (sendings : Li
     (terminal n : ℕ) (words : List ℤ)
     → Change site w cause sendings next → next.shown ≡ more ++ w.shown → IsAmong (shown.Reply terminal n words) more
     → PrintsAwaited site w next cause terminal n words
-only-printed w next cause sendings more terminal n words (by_own number k pair there r c a enters) e i =
+only-printed w next cause sendings more terminal n words (by_own number k pair there r c a enters fr) e i =
     absurd (own-prints-none more terminal n words c e i)
 only-printed w next cause sendings more terminal n words (by_checkpoint number pair there p) e i =
     absurd (nothing-more w.shown more _ e i)
@@ -255,8 +279,10 @@ only-printed w next cause sendings more terminal n words (by_print number t repl
       λ again. printed-once t again.terminal (some-same
           (sym again.there ∙ ap (slice_get _) is.0 ∙ set-there w.terminals number t _ there)) f again.unprinted,
     )
-only-printed w next cause sendings more terminal n words (by_stop x s) e i = absurd (nothing-more w.shown more _ e i)
+only-printed w next cause sendings more terminal n words (by_stop x s h) e i = absurd (nothing-more w.shown more _ e i)
 only-printed w next cause sendings more terminal n words (by_mark node x s q m) e i =
+    absurd (nothing-more w.shown more _ e i)
+only-printed w next cause sendings more terminal n words (by_reload x s m t l) e i =
     absurd (nothing-more w.shown more _ e i)
 
 -- Requests
@@ -311,14 +337,16 @@ passes-no-request : {number at : ℕ} {marks : List Down} {kept after : List Act
 passes-no-request (by_send k r p s m) e = cc
 passes-no-request (by_pass_again k r p m l) e = cc
 passes-no-request (by_pass k r p m l) e = cc
-passes-no-request (by_apply k message applied r i era n a) e = cc
+passes-no-request (by_end k r s p m) e = cc
+passes-no-request (by_apply_behind k message applied r i era n a l) e = cc
+passes-no-request (by_apply k message applied r i era n a l) e = cc
 passes-no-request (by_acknowledge k taken r s i era n) e = cc
 
 pub only-kept : {site : Site} (w next : World) (node : ℕ) (request : Request) (cause : Cause) (sendings : List Sending)
     (sending : Sending)
     → cause ≡ Handing node (Asking request) → Change site w cause sendings next → IsAmong sending sendings
     → SendsKept w node request sending
-only-kept w next node request cause sendings sending e (by_own number k pair there r c a enters) i =
+only-kept w next node request cause sendings sending e (by_own number k pair there r c a enters fr) i =
     absurd (not-asking c e)
 only-kept w next node request cause sendings sending e (by_checkpoint number pair there p) i =
     absurd (passes-no-request p e)
@@ -328,5 +356,6 @@ only-kept w next node request cause sendings sending e (by_request came k pair j
 only-kept w next node request cause sendings sending e (by_early_request came k pair j there r) i = absurd i
 only-kept w next node request cause sendings sending e (by_enter number terminal opener t f q o) i = absurd (cc)
 only-kept w next node request cause sendings sending e (by_print number terminal reply t f j o n) i = absurd i
-only-kept w next node request cause sendings sending e (by_stop x s) i = absurd i
+only-kept w next node request cause sendings sending e (by_stop x s h) i = absurd i
 only-kept w next node request cause sendings sending e (by_mark m x s q n) i = absurd (cc)
+only-kept w next node request cause sendings sending e (by_reload x s m t l) i = absurd i

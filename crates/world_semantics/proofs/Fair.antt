@@ -1,7 +1,7 @@
 -- What a copy keeps and what waits at it: its kept replies were sent, its table and its state agree on the request in
 -- hand, and its waiting requests are to its process.
 use Rattle.std.proofs.Common.{◌≡◌, inl, inr, ℕ, ℤ, Bool, true, false, if◌then◌else◌, List, [], ◌∷◌, Option, Some, None}
-use Rattle.std.proofs.Common.{is_some, slice_get, refl, subst, sym, ◌∙◌}
+use Rattle.std.proofs.Common.{is_some, slice_get, refl, subst, sym, ◌∙◌, ◌==◌}
 use Rattle.gd_words.specs.Members.{IsAmong}
 use Rattle.gd_words.specs.declared.message.Request.{Request}
 use Rattle.gd_words.specs.declared.message.Reply.{Reply}
@@ -23,9 +23,11 @@ use Rattle.world_semantics.specs.World.{Copy, Pair, Down, World, Which, First, S
 use Rattle.world_semantics.specs.Messages.{Message, Sending, Cause}
 use Rattle.world_semantics.specs.Own.{Around, Causes, by_inner, by_take, by_ask, by_answer, by_device, by_write}
 use Rattle.world_semantics.specs.Own.{by_reply}
-use Rattle.world_semantics.specs.Passes.{Passes, by_send, by_pass_again, by_pass, by_apply, by_acknowledge}
+use Rattle.world_semantics.specs.Passes.{Passes, by_send, by_pass_again, by_pass, by_end, by_apply_behind}
+use Rattle.world_semantics.specs.Passes.{by_apply, by_acknowledge}
 use Rattle.world_semantics.specs.Rules.{Change, by_own, by_checkpoint, by_request, by_early_request, by_enter, by_print}
-use Rattle.world_semantics.specs.Rules.{by_stop, by_mark, stopped_pair, taker, pair_after_down, pair_at_down}
+use Rattle.world_semantics.specs.Rules.{by_stop, by_mark, by_reload, stopped_pair, taker, pair_after_down}
+use Rattle.world_semantics.specs.Rules.{pair_at_down, renewals_ended, begun, reloaded_by}
 use Rattle.world_semantics.specs.Follows.{IsRun}
 use Rattle.world_semantics.specs.Laws.{HasGrown}
 use Rattle.world_semantics.proofs.Beginning.{all-begin}
@@ -37,7 +39,9 @@ use Rattle.world_semantics.proofs.Growing.{causes-grow}
 use Rattle.world_semantics.proofs.Hands.{Stands, start-free, start-hand, take-hand, took-stands, inner-stands}
 use Rattle.world_semantics.proofs.Hands.{asked-stands, got-stands, answered-stands, mark-stands, device-stands}
 use Rattle.world_semantics.proofs.Hands.{restored-stands, map-some}
-use Rattle.world_semantics.proofs.KeptReplies.{KeptSent, kept-more, kept-begin, kept-taking, kept-answering}
+use Rattle.world_semantics.proofs.KeptReplies.{KeptSent, kept-more, kept-begin, kept-nothing, kept-taking}
+use Rattle.world_semantics.proofs.KeptReplies.{kept-answering}
+use Rattle.world_semantics.proofs.Roles.{reload-all}
 
 -- a core whose table and state agree, and whose kept replies were sent
 pub record Fair (number : ℕ) (replies : List Reply) (core : Core) : Type 0 where
@@ -244,7 +248,11 @@ passes-fair {number = n} {pair = p} replies (by_pass Second r t m l) ok =
       second = passed-fair n replies p.second.core p.second.waiting ok.second;
       checkpoints = ok.checkpoints;
     }
-passes-fair {number = n} {pair = p} replies (by_apply First message applied r i e m a) ok = record {
+passes-fair replies (by_end First r s t m) ok =
+    record { first = ok.first; second = ok.second; checkpoints = ok.checkpoints }
+passes-fair replies (by_end Second r s t m) ok =
+    record { first = ok.first; second = ok.second; checkpoints = ok.checkpoints }
+passes-fair {number = n} {pair = p} replies (by_apply_behind First message applied r i e m a l) ok = record {
   first = record {
     core = put-fair n replies p.first.core message.image applied (ok.checkpoints message i) a;
     waiting = ok.first.waiting;
@@ -252,7 +260,23 @@ passes-fair {number = n} {pair = p} replies (by_apply First message applied r i 
   second = ok.second;
   checkpoints = ok.checkpoints;
 }
-passes-fair {number = n} {pair = p} replies (by_apply Second message applied r i e m a) ok = record {
+passes-fair {number = n} {pair = p} replies (by_apply_behind Second message applied r i e m a l) ok = record {
+  first = ok.first;
+  second = record {
+    core = put-fair n replies p.second.core message.image applied (ok.checkpoints message i) a;
+    waiting = ok.second.waiting;
+  };
+  checkpoints = ok.checkpoints;
+}
+passes-fair {number = n} {pair = p} replies (by_apply First message applied r i e m a l) ok = record {
+  first = record {
+    core = put-fair n replies p.first.core message.image applied (ok.checkpoints message i) a;
+    waiting = ok.first.waiting;
+  };
+  second = ok.second;
+  checkpoints = ok.checkpoints;
+}
+passes-fair {number = n} {pair = p} replies (by_apply Second message applied r i e m a l) ok = record {
   first = ok.first;
   second = record {
     core = put-fair n replies p.second.core message.image applied (ok.checkpoints message i) a;
@@ -301,12 +325,47 @@ marking-fair number replies (Some Second) pair ok = record {
   checkpoints = ok.checkpoints;
 }
 
+ended-fair : (number : ℕ) (replies : List Reply) (node processor : ℕ) (pair : Pair) → FairPair number replies pair
+    → FairPair number replies (renewals_ended node processor pair)
+ended-fair number replies node processor pair ok =
+    record { first = ok.first; second = ok.second; checkpoints = ok.checkpoints }
+
+-- Reloads
+
+blank-fair : (site : Site) (number : ℕ) (replies : List Reply) (spec : Option ProcessSpec) (core : Core)
+    → Fair number replies core → Fair number replies (begun site number spec core)
+blank-fair site number replies None core ok = ok
+blank-fair site number replies (Some spec) core ok = record {
+  stands = record { hand = start-hand spec.what; free = start-free spec.what };
+  kept = kept-nothing number (openers_of site number) replies;
+}
+
+reload-fair : (number : ℕ) (replies : List Reply) (core : Core) (pair : Pair) (one two : Bool)
+    → Fair number replies core → FairPair number replies pair
+    → FairPair number replies (reloaded_by core pair one two)
+reload-fair number replies core pair false false new ok = ok
+reload-fair number replies core pair true false new ok = record {
+  first = record { core = new; waiting = λ request i. absurd i };
+  second = ok.second;
+  checkpoints = ok.checkpoints;
+}
+reload-fair number replies core pair false true new ok = record {
+  first = ok.first;
+  second = record { core = new; waiting = λ request i. absurd i };
+  checkpoints = ok.checkpoints;
+}
+reload-fair number replies core pair true true new ok = record {
+  first = record { core = new; waiting = λ request i. absurd i };
+  second = record { core = new; waiting = λ request i. absurd i };
+  checkpoints = ok.checkpoints;
+}
+
 -- All changes
 
 pub change-fair : {site : Site} (w next : World) (cause : Cause) (sendings : List Sending)
     → Change site w cause sendings next → AllFair w → AllFair next
 change-fair w next cause sendings (by_own {after = after} {core = core} {entered = entered} number k pair there role c
-    a e) ok =
+    a e fr) ok =
     let grown = (causes-grow c).replies in
     let old = fair-of number w.replies k pair (ok number pair there) in
     set-all (λ n p. FairPair n after.replies p) w.processes number _ (λ n p there. pair-more grown (ok n p there))
@@ -328,7 +387,7 @@ change-fair w next cause sendings (by_early_request request k pair i there r) ok
     (waits-to request.process (copy_of k pair).waiting request refl old.waiting) (ok request.process pair there))
 change-fair w next cause sendings (by_enter number terminal opener t f r o) ok = ok
 change-fair w next cause sendings (by_print number terminal reply t f i o n) ok = ok
-change-fair w next cause sendings (by_stop x r) ok =
+change-fair w next cause sendings (by_stop x r h) ok =
     map-all (λ n p. FairPair n w.replies p) (stopped_pair x) w.processes
     (λ n p there. record {
       first = (ok n p there).first;
@@ -337,7 +396,14 @@ change-fair w next cause sendings (by_stop x r) ok =
     })
 change-fair w next cause sendings (by_mark m x s r n) ok =
     map-all (λ n p. FairPair n w.replies p) (pair_at_down m x) w.processes
-    (λ n p there. marking-fair n w.replies (taker m x p) p (ok n p there))
+    (λ n p there. ended-fair n w.replies m x (pair_after_down (taker m x p) p)
+    (marking-fair n w.replies (taker m x p) p (ok n p there)))
+change-fair {site = site} w next cause sendings (by_reload x s m t l) ok =
+    reload-all (λ n p. FairPair n w.replies p) site x w.processes
+    (λ n p there. let old = ok n p there in
+    reload-fair n w.replies (begun site n (slice_get site.processes n) p.first.core) p (p.first.processor == x)
+    (p.second.processor == x) (blank-fair site n w.replies (slice_get site.processes n) p.first.core old.first.core)
+    old)
 
 -- Beginning
 

@@ -1,21 +1,25 @@
 -- What only grows.
 use Rattle.std.proofs.Common.{◌≡◌, ◌⊎◌, inl, inr, ℕ, zero, suc, Bool, true, List, [], ◌∷◌, Some, slice_get, slice_set}
-use Rattle.std.proofs.Common.{refl, ap, ◌∙◌}
+use Rattle.std.proofs.Common.{refl, ap, ◌∙◌, append_assoc, false, not, sym, ◌++◌, ◌==◌}
+use Rattle.std.proofs.lemmas.Bool.{eq-eqb}
 use Rattle.gd_words.specs.Members.{IsAmong}
 use Rattle.tal_tree.specs.declared.act.Act.{Act}
 use Rattle.tal_tree.specs.declared.site.Site.{Site}
 use Rattle.world_semantics.specs.Core.{Core, Deed}
-use Rattle.world_semantics.specs.World.{Copy, Pair, Down, World}
+use Rattle.world_semantics.specs.World.{Copy, Pair, Down, World, copy_of, other_of}
 use Rattle.world_semantics.specs.Kept.{Enters, holds_on, repeats, begins, keeps}
 use Rattle.world_semantics.specs.Messages.{Message, Sending, Cause}
 use Rattle.world_semantics.specs.Own.{Around, Causes, by_inner, by_take, by_ask, by_answer, by_device, by_write}
 use Rattle.world_semantics.specs.Own.{by_reply}
 use Rattle.world_semantics.specs.Passes.{Passes, by_send, by_pass_again, by_pass, by_apply, by_acknowledge}
+use Rattle.world_semantics.specs.Passes.{by_apply_behind, by_end, point_at}
 use Rattle.world_semantics.specs.Rules.{Change, by_own, by_checkpoint, by_request, by_early_request, by_enter, by_print}
-use Rattle.world_semantics.specs.Rules.{by_stop, by_mark}
+use Rattle.world_semantics.specs.Rules.{by_stop, by_mark, by_reload, without_marks}
 use Rattle.world_semantics.specs.Laws.{HasGrown}
 use Rattle.world_semantics.proofs.Lists.{grown-none, grown-one, grown-more, grown-by, grown-both}
 use Rattle.world_semantics.proofs.Runs.{IsKept}
+use Rattle.world_semantics.proofs.Members.{among-filter}
+use Rattle.world_semantics.specs.Shares.{acts_at}
 
 -- processors that have stopped stay so
 abbrev pub StayStopped : List Bool → List Bool → Type 0
@@ -31,7 +35,6 @@ stop-stays (s ∷ stopped) (suc x) (suc processor) e = stop-stays stopped x proc
 
 -- a later world has what an earlier one had
 pub record Grows (before after : World) : Type 0 where
-  pub stopped : StayStopped before.stopped after.stopped
   pub requests : HasGrown before.requests after.requests
   pub replies : HasGrown before.replies after.replies
   pub shown : HasGrown before.shown after.shown
@@ -73,13 +76,17 @@ pub passes-grow : {number : ℕ} {marks : List Down} {kept after : List Act} {pa
 passes-grow {kept = kept} (by_send k r p s m) = grown-none kept
 passes-grow {kept = kept} (by_pass_again k r p m l) = grown-none kept
 passes-grow {kept = kept} (by_pass k r p m l) = grown-more _ _ kept
-passes-grow {kept = kept} (by_apply k message applied r i e n a) = grown-more _ _ kept
+passes-grow {kept = kept} (by_end k r s p m) = grown-none kept
+passes-grow {kept = kept} (by_apply_behind k message applied r i e n a l) = grown-none kept
+passes-grow {number = number} {kept = kept} {pair = pair} (by_apply k message applied r i e n a l) = (
+  acts_at number (point_at (copy_of (other_of k) pair)) ++ (copy_of (other_of k) pair).held,
+  sym (append_assoc (acts_at number (point_at (copy_of (other_of k) pair))) (copy_of (other_of k) pair).held kept),
+)
 passes-grow {kept = kept} (by_acknowledge k taken r s i e n) = grown-none kept
 
 same-but-kept : (w : World) (processes : List Pair) (kept : List Act) → HasGrown w.kept kept
     → Grows w (record w { processes = processes; kept = kept })
 same-but-kept w processes kept g = record {
-  stopped = λ x e. e;
   requests = grown-none w.requests;
   replies = grown-none w.replies;
   shown = grown-none w.shown;
@@ -88,36 +95,38 @@ same-but-kept w processes kept g = record {
 
 pub change-grows : {site : Site} (w next : World) (cause : Cause) (sendings : List Sending)
     → Change site w cause sendings next → Grows w next
-change-grows w next cause sendings (by_own number k pair there acts c a e) =
+change-grows w next cause sendings (by_own number k pair there acts c a e f) =
     let g = causes-grow c in
-    record { stopped = λ x e. e; requests = g.requests; replies = g.replies; shown = g.shown; kept = enters-grows e }
+    record { requests = g.requests; replies = g.replies; shown = g.shown; kept = enters-grows e }
 change-grows w next cause sendings (by_checkpoint number pair there p) = same-but-kept w _ _ (passes-grow p)
 change-grows w next cause sendings (by_request request k pair i there r) = same-but-kept w _ w.kept (grown-none w.kept)
 change-grows w next cause sendings (by_early_request request k pair i there r) =
     same-but-kept w _ w.kept (grown-none w.kept)
 change-grows w next cause sendings (by_enter number terminal opener t e r o) = record {
-  stopped = λ x e. e;
   requests = grown-one _ w.requests;
   replies = grown-none w.replies;
   shown = grown-none w.shown;
   kept = grown-one _ w.kept;
 }
 change-grows w next cause sendings (by_print number terminal reply t e i o n) = record {
-  stopped = λ x e. e;
   requests = grown-none w.requests;
   replies = grown-none w.replies;
   shown = grown-one _ w.shown;
   kept = grown-one _ w.kept;
 }
-change-grows w next cause sendings (by_stop processor r) = record {
-  stopped = stop-stays w.stopped processor;
+change-grows w next cause sendings (by_stop processor r h) = record {
   requests = grown-none w.requests;
   replies = grown-none w.replies;
   shown = grown-none w.shown;
   kept = grown-none w.kept;
 }
 change-grows w next cause sendings (by_mark node processor s r n) = record {
-  stopped = λ x e. e;
+  requests = grown-none w.requests;
+  replies = grown-none w.replies;
+  shown = grown-none w.shown;
+  kept = grown-none w.kept;
+}
+change-grows w next cause sendings (by_reload processor s m t l) = record {
   requests = grown-none w.requests;
   replies = grown-none w.replies;
   shown = grown-none w.shown;
@@ -128,7 +137,6 @@ pub growth : (site : Site) → IsKept site Grows
 growth site = record {
   same = λ w. same-but-kept w w.processes w.kept (grown-none w.kept);
   both = λ u v w f g. record {
-    stopped = λ x e. g.stopped x (f.stopped x e);
     requests = grown-both f.requests g.requests;
     replies = grown-both f.replies g.replies;
     shown = grown-both f.shown g.shown;
@@ -137,22 +145,39 @@ growth site = record {
   change = change-grows;
 }
 
+-- a processor that runs again: the others are as they were
+pub runs-again : (stopped : List Bool) (x processor : ℕ) → (processor ≡ x → ⊥)
+    → slice_get (slice_set stopped x false) processor ≡ slice_get stopped processor
+runs-again [] x processor n = refl
+runs-again (s ∷ stopped) zero zero n = absurd (n refl)
+runs-again (s ∷ stopped) zero (suc processor) n = refl
+runs-again (s ∷ stopped) (suc x) zero n = refl
+runs-again (s ∷ stopped) (suc x) (suc processor) n = runs-again stopped x processor (λ same. n (ap suc same))
+
+pub marks-left : (x : ℕ) (marks : List Down) (m : Down) → IsAmong m (without_marks x marks)
+    → IsAmong m marks × (m.down ≡ x → ⊥)
+marks-left x marks m i =
+    let both = among-filter m (λ mark. not (mark.down == x)) marks i in
+    (both.0, λ same. (let t : (m.down == x) ≡ true = eq-eqb m.down x same in let f = both.1 in cc))
+
 -- only processors that have stopped are marked
 abbrev pub AreStopped : World → Type 0
 AreStopped w = (m : Down) → IsAmong m w.marks → slice_get w.stopped m.down ≡ Some true
 
 pub change-marks : {site : Site} (w next : World) (cause : Cause) (sendings : List Sending)
     → Change site w cause sendings next → AreStopped w → AreStopped next
-change-marks w next cause sendings (by_own number k pair there acts c a e) ok = ok
+change-marks w next cause sendings (by_own number k pair there acts c a e f) ok = ok
 change-marks w next cause sendings (by_checkpoint number pair there p) ok = ok
 change-marks w next cause sendings (by_request request k pair i there r) ok = ok
 change-marks w next cause sendings (by_early_request request k pair i there r) ok = ok
 change-marks w next cause sendings (by_enter number terminal opener t e r o) ok = ok
 change-marks w next cause sendings (by_print number terminal reply t e i o n) ok = ok
-change-marks w next cause sendings (by_stop processor r) ok = λ m i. stop-stays w.stopped processor m.down (ok m i)
+change-marks w next cause sendings (by_stop processor r h) ok = λ m i. stop-stays w.stopped processor m.down (ok m i)
 change-marks w next cause sendings (by_mark node processor s r n) ok = added
   where
     added : (m : Down) → (m ≡ record { node = node; down = processor }) ⊎ IsAmong m w.marks
         → slice_get w.stopped m.down ≡ Some true
     added m (inl same) = ap (λ (x : Down). slice_get w.stopped x.down) same ∙ s
     added m (inr i) = ok m i
+change-marks w next cause sendings (by_reload processor s m t l) ok = λ mark i.
+    (let left = marks-left processor w.marks mark i in runs-again w.stopped processor mark.down left.1 ∙ ok mark left.0)

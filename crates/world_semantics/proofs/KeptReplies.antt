@@ -1,7 +1,7 @@
 -- The replies that a receive table keeps were sent.
 use Rattle.std.proofs.Common.{◌≡◌, ◌≤◌, ℕ, zero, suc, ◌+◌, ◌-◌, ◌==◌, ℤ, Bool, true, false, if◌then◌else◌, nat_le}
 use Rattle.std.proofs.Common.{nat_lt, ◌&&◌, ◌⊎◌, inl, inr, List, [], ◌∷◌, ◌++◌, map, length, take, drop, reverse}
-use Rattle.std.proofs.Common.{Option, Some, None, slice_get, refl, subst, sym, ap, ◌∙◌, arith}
+use Rattle.std.proofs.Common.{Option, Some, None, slice_get, refl, subst, sym, ap, ◌∙◌, arith, append-nil}
 use Rattle.std.proofs.lemmas.Bool.{eq-eqb, eqb-true, le-leb, leb-true}
 use Rattle.std.proofs.lemmas.List.{reverse-append, take-append-drop}
 use Rattle.gd_words.specs.Members.{IsAmong}
@@ -62,6 +62,15 @@ begin-kept (opener ∷ openers) (suc place) block e = begin-kept openers place b
 pub kept-begin : (number : ℕ) (openers : List OpenerSpec)
     → KeptSent number [] (record { openers = map (λ opener. record { taken = 0; kept = [] }) openers; in_hand = None })
 kept-begin number openers place block there = begin-block number place block (begin-kept openers place block there)
+
+-- whatever was sent
+pub kept-nothing : (number : ℕ) (openers : List OpenerSpec) (replies : List Reply)
+    → KeptSent number replies
+    (record { openers = map (λ opener. record { taken = 0; kept = [] }) openers; in_hand = None })
+kept-nothing number openers replies =
+    kept-more number [] replies (record
+    { openers = map (λ opener. record { taken = 0; kept = [] }) openers; in_hand = None })
+    (replies, sym (append-nil replies)) (kept-begin number openers)
 
 other-held : (place at : ℕ) → (place ≡ at → ⊥) → is_place (Some place) at ≡ false
 other-held place at n = by-test (place == at) refl

@@ -1,124 +1,92 @@
--- Copies and terminals go on: no number of theirs falls.
-use Rattle.std.proofs.Common.{◌≡◌, ℕ, ◌+◌, List, [], Option, Some, None, slice_get, refl, arith}
-use Rattle.gd_words.specs.declared.message.Request.{Request}
+-- Processes and terminals go on: what copies sent only grows, and no number of terminals falls.
+use Rattle.std.proofs.Common.{◌≡◌, ℕ, zero, suc, ◌+◌, ◌==◌, Bool, true, false, List, [], ◌∷◌, Option, Some, None}
+use Rattle.std.proofs.Common.{slice_get, refl, subst, arith}
 use Rattle.tal_tree.specs.declared.act.Act.{Act}
 use Rattle.tal_tree.specs.declared.site.Site.{Site}
 use Rattle.disc_device.specs.Sectors.{Stored}
+use Rattle.checkpoint_image.specs.declared.message.ImageMessage.{ImageMessage}
 use Rattle.world_semantics.specs.Core.{Core}
-use Rattle.world_semantics.specs.World.{Copy, Pair, Down, Terminal, World, Which, First, Second, copy_of, with_copy}
-use Rattle.world_semantics.specs.Kept.{Enters, holds_on, repeats, begins, keeps}
+use Rattle.world_semantics.specs.World.{Copy, Pair, Down, Terminal, World, Which, First, Second, with_copy}
 use Rattle.world_semantics.specs.Messages.{Sending, Cause}
-use Rattle.world_semantics.specs.Passes.{Passes, by_send, by_pass_again, by_pass, by_apply, by_acknowledge}
+use Rattle.world_semantics.specs.Passes.{Passes, by_send, by_pass_again, by_pass, by_end, by_apply_behind}
+use Rattle.world_semantics.specs.Passes.{by_apply, by_acknowledge}
 use Rattle.world_semantics.specs.Rules.{Change, by_own, by_checkpoint, by_request, by_early_request, by_enter, by_print}
-use Rattle.world_semantics.specs.Rules.{by_stop, by_mark, stopped_pair, taker, pair_after_down, pair_at_down}
-use Rattle.world_semantics.specs.Laws.{IsLater, IsLaterPair, IsLaterTerminal}
-use Rattle.world_semantics.proofs.Lists.{IsThen, set-then, map-then, grown-none, grown-one, grown-both}
+use Rattle.world_semantics.specs.Rules.{by_stop, by_mark, by_reload, stopped_pair, taker, pair_after_down}
+use Rattle.world_semantics.specs.Rules.{pair_at_down, renewals_ended, begun, reloaded_by, reloaded_pair, reloaded_from}
+use Rattle.world_semantics.specs.Laws.{IsLaterPair, IsLaterTerminal}
+use Rattle.world_semantics.proofs.Lists.{some-same, IsThen, set-then, map-then, grown-none, grown-one, grown-both}
 use Rattle.world_semantics.proofs.Runs.{IsKept}
 
-later-same : (before after : Copy) → before.era ≡ after.era → before.number ≡ after.number → IsLater before after
-later-same before after e n = record { era = omega (arith, e); number = λ _. omega (arith, n) }
+grown-pair : (pair next : Pair) → next.checkpoints ≡ pair.checkpoints → next.takens ≡ pair.takens
+    → IsLaterPair pair next
+grown-pair pair next c t = record { checkpoints = ([], c); takens = ([], t) }
 
-later-both : {a b c : Copy} → IsLater a b → IsLater b c → IsLater a c
-later-both f g = record {
-  era = omega (arith, f.era, g.era);
-  number = λ e. omega (arith, f.number (omega (arith, e, f.era, g.era)), g.number (omega (arith, e, f.era, g.era)));
-}
+pair-same : (pair : Pair) → IsLaterPair pair pair
+pair-same pair = grown-pair pair pair refl refl
 
 pair-both : {a b c : Pair} → IsLaterPair a b → IsLaterPair b c → IsLaterPair a c
 pair-both f g = record {
-  first = later-both f.first g.first;
-  second = later-both f.second g.second;
   checkpoints = grown-both f.checkpoints g.checkpoints;
   takens = grown-both f.takens g.takens;
 }
 
--- the same process with other copies
-pair-by : (pair next : Pair) → IsLater pair.first next.first → IsLater pair.second next.second
-    → next.checkpoints ≡ pair.checkpoints
-    → next.takens ≡ pair.takens → IsLaterPair pair next
-pair-by pair next f s c t = record { first = f; second = s; checkpoints = ([], c); takens = ([], t) }
+-- the same process with another copy
+copy-set : (k : Which) (copy : Copy) (pair : Pair) → IsLaterPair pair (with_copy k copy pair)
+copy-set First copy pair = grown-pair pair _ refl refl
+copy-set Second copy pair = grown-pair pair _ refl refl
 
-pair-same : (pair : Pair) → IsLaterPair pair pair
-pair-same pair = pair-by pair pair (later-same pair.first pair.first refl refl)
-    (later-same pair.second pair.second refl refl) refl refl
+own-later : (k : Which) (copy : Copy) (pair : Pair) (sectors : List Stored)
+    → IsLaterPair pair (with_copy k copy (record pair { sectors = sectors }))
+own-later First copy pair sectors = grown-pair pair _ refl refl
+own-later Second copy pair sectors = grown-pair pair _ refl refl
 
-enters-later : {number : ℕ} {act : Act} {kept after : List Act} {copy entered : Copy} (core : Core)
-    (waiting : List Request)
-    → Enters number act kept copy entered after → IsLater copy (record entered { core = core; waiting = waiting })
-enters-later core waiting (holds_on e) = later-same _ _ refl refl
-enters-later core waiting (repeats e l) = later-same _ _ refl refl
-enters-later core waiting (begins e l t) = later-same _ _ refl refl
-enters-later core waiting (keeps e l t) = later-same _ _ refl refl
-
-own-later : (k : Which) (pair : Pair) (core : Core) (waiting : List Request) (sectors : List Stored) {number : ℕ}
-    {act : Act} {kept after : List Act}
-    {entered : Copy} → Enters number act kept (copy_of k pair) entered after
-    → IsLaterPair pair (with_copy k (record entered { core = core; waiting = waiting })
-    (record pair { sectors = sectors }))
-own-later First pair core waiting sectors e =
-    pair-by pair _ (enters-later core waiting e) (later-same _ _ refl refl) refl refl
-own-later Second pair core waiting sectors e =
-    pair-by pair _ (later-same _ _ refl refl) (enters-later core waiting e) refl refl
-
-next-number : (before after : Copy) → after.era ≡ before.era → after.number ≡ before.number + 1 → IsLater before after
-next-number before after e n = record { era = omega (arith, e); number = λ _. omega (arith, n) }
+one-sent : (new : ImageMessage) (k : Which) (copy : Copy) (pair : Pair)
+    → IsLaterPair pair (with_copy k copy (record pair { checkpoints = new ∷ pair.checkpoints }))
+one-sent new First copy pair = record { checkpoints = grown-one new pair.checkpoints; takens = grown-none pair.takens }
+one-sent new Second copy pair = record { checkpoints = grown-one new pair.checkpoints; takens = grown-none pair.takens }
 
 passes-later : {number : ℕ} {marks : List Down} {kept after : List Act} {pair next : Pair} {cause : Cause}
     {sendings : List Sending}
     → Passes number marks kept pair cause sendings next after → IsLaterPair pair next
-passes-later {pair = p} (by_send First r t s m) = record {
-  first = next-number p.first _ refl refl;
-  second = later-same p.second _ refl refl;
-  checkpoints = grown-one _ p.checkpoints;
-  takens = grown-none p.takens;
-}
-passes-later {pair = p} (by_send Second r t s m) = record {
-  first = later-same p.first _ refl refl;
-  second = next-number p.second _ refl refl;
-  checkpoints = grown-one _ p.checkpoints;
-  takens = grown-none p.takens;
-}
-passes-later {pair = p} (by_pass_again First r t m l) =
-    pair-by p _ (later-same p.first _ refl refl) (later-same p.second _ refl refl) refl refl
-passes-later {pair = p} (by_pass_again Second r t m l) =
-    pair-by p _ (later-same p.first _ refl refl) (later-same p.second _ refl refl) refl refl
-passes-later {pair = p} (by_pass First r t m l) =
-    pair-by p _ (later-same p.first _ refl refl) (later-same p.second _ refl refl) refl refl
-passes-later {pair = p} (by_pass Second r t m l) =
-    pair-by p _ (later-same p.first _ refl refl) (later-same p.second _ refl refl) refl refl
-passes-later {pair = p} (by_apply First message applied r i e n a) = record {
-  first = next-number p.first _ refl n;
-  second = later-same p.second _ refl refl;
-  checkpoints = grown-none p.checkpoints;
-  takens = grown-one _ p.takens;
-}
-passes-later {pair = p} (by_apply Second message applied r i e n a) = record {
-  first = later-same p.first _ refl refl;
-  second = next-number p.second _ refl n;
-  checkpoints = grown-none p.checkpoints;
-  takens = grown-one _ p.takens;
-}
-passes-later {pair = p} (by_acknowledge First taken r s i e n) =
-    pair-by p _ (later-same p.first _ refl refl) (later-same p.second _ refl refl) refl refl
-passes-later {pair = p} (by_acknowledge Second taken r s i e n) =
-    pair-by p _ (later-same p.first _ refl refl) (later-same p.second _ refl refl) refl refl
-
-waiting-later : (k : Which) (p : Pair) (waiting : List Request)
-    → IsLaterPair p (with_copy k (record (copy_of k p) { waiting = waiting }) p)
-waiting-later First p waiting = pair-by p _ (later-same p.first _ refl refl) (later-same p.second _ refl refl) refl refl
-waiting-later Second p waiting =
-    pair-by p _ (later-same p.first _ refl refl) (later-same p.second _ refl refl) refl refl
+passes-later {pair = p} (by_send k r t s m) = one-sent _ k _ p
+passes-later {pair = p} (by_pass_again k r t m l) = copy-set k _ p
+passes-later {pair = p} (by_pass k r t m l) = copy-set k _ p
+passes-later {pair = p} (by_end k r s t m) = copy-set k _ p
+passes-later {pair = p} (by_apply_behind First message applied r i e n a l) =
+    record { checkpoints = grown-none p.checkpoints; takens = grown-one _ p.takens }
+passes-later {pair = p} (by_apply_behind Second message applied r i e n a l) =
+    record { checkpoints = grown-none p.checkpoints; takens = grown-one _ p.takens }
+passes-later {pair = p} (by_apply First message applied r i e n a l) =
+    record { checkpoints = grown-none p.checkpoints; takens = grown-one _ p.takens }
+passes-later {pair = p} (by_apply Second message applied r i e n a l) =
+    record { checkpoints = grown-none p.checkpoints; takens = grown-one _ p.takens }
+passes-later {pair = p} (by_acknowledge k taken r s i e n) = copy-set k _ p
 
 stopped-later : (x : ℕ) (p : Pair) → IsLaterPair p (stopped_pair x p)
-stopped-later x p = pair-by p _ (later-same p.first _ refl refl) (later-same p.second _ refl refl) refl refl
+stopped-later x p = grown-pair p _ refl refl
 
-next-era : (before after : Copy) → after.era ≡ before.era + 1 → IsLater before after
-next-era before after e = record { era = omega (arith, e); number = λ same. absurd (omega (arith, e, same)) }
+marking-later : (node x : ℕ) (k : Option Which) (p : Pair) → IsLaterPair p (renewals_ended node x (pair_after_down k p))
+marking-later node x None p = grown-pair p _ refl refl
+marking-later node x (Some First) p = grown-pair p _ refl refl
+marking-later node x (Some Second) p = grown-pair p _ refl refl
 
-marking-later : (k : Option Which) (p : Pair) → IsLaterPair p (pair_after_down k p)
-marking-later None p = pair-same p
-marking-later (Some First) p = pair-by p _ (next-era p.first _ refl) (later-same p.second _ refl refl) refl refl
-marking-later (Some Second) p = pair-by p _ (later-same p.first _ refl refl) (next-era p.second _ refl) refl refl
+reloaded-later : (core : Core) (p : Pair) (one two : Bool) → IsLaterPair p (reloaded_by core p one two)
+reloaded-later core p false false = pair-same p
+reloaded-later core p true false = grown-pair p _ refl refl
+reloaded-later core p false true = grown-pair p _ refl refl
+reloaded-later core p true true = grown-pair p _ refl refl
+
+reload-then : (site : Site) (x from : ℕ) (pairs : List Pair) (j : ℕ) (pair : Pair) → slice_get pairs j ≡ Some pair
+    → IsThen IsLaterPair pair (slice_get (reloaded_from site x from pairs) j)
+reload-then site x from [] j pair e = absurd (cc)
+reload-then site x from (p ∷ pairs) zero pair e =
+    let core = begun site from (slice_get site.processes from) p.first.core in (
+      reloaded_pair x core p,
+      refl,
+      subst (λ v. IsLaterPair v (reloaded_pair x core p)) (some-same e)
+          (reloaded-later core p (p.first.processor == x) (p.second.processor == x)),
+    )
+reload-then site x from (p ∷ pairs) (suc j) pair e = reload-then site x (from + 1) pairs j pair e
 
 -- All changes
 
@@ -133,19 +101,20 @@ TerminalsGoOn w next =
 
 pub change-later : {site : Site} (w next : World) (cause : Cause) (sendings : List Sending)
     → Change site w cause sendings next → PairsGoOn w next
-change-later w next cause sendings (by_own number k pair there acts c a e) =
-    set-then IsLaterPair pair-same w.processes number pair _ there (own-later k pair _ _ _ e)
+change-later w next cause sendings (by_own number k pair there acts c a e fr) =
+    set-then IsLaterPair pair-same w.processes number pair _ there (own-later k _ pair _)
 change-later w next cause sendings (by_checkpoint number pair there p) =
     set-then IsLaterPair pair-same w.processes number pair _ there (passes-later p)
 change-later w next cause sendings (by_request request k pair i there r) =
-    set-then IsLaterPair pair-same w.processes request.process pair _ there (waiting-later k pair _)
+    set-then IsLaterPair pair-same w.processes request.process pair _ there (copy-set k _ pair)
 change-later w next cause sendings (by_early_request request k pair i there r) =
-    set-then IsLaterPair pair-same w.processes request.process pair _ there (waiting-later k pair _)
+    set-then IsLaterPair pair-same w.processes request.process pair _ there (copy-set k _ pair)
 change-later w next cause sendings (by_enter number terminal opener t e r o) = λ n p there. (p, there, pair-same p)
 change-later w next cause sendings (by_print number terminal reply t e i o n) = λ n p there. (p, there, pair-same p)
-change-later w next cause sendings (by_stop x r) = map-then IsLaterPair (stopped_pair x) (stopped-later x) w.processes
+change-later w next cause sendings (by_stop x r h) = map-then IsLaterPair (stopped_pair x) (stopped-later x) w.processes
 change-later w next cause sendings (by_mark node x s r n) =
-    map-then IsLaterPair (pair_at_down node x) (λ p. marking-later (taker node x p) p) w.processes
+    map-then IsLaterPair (pair_at_down node x) (λ p. marking-later node x (taker node x p) p) w.processes
+change-later {site = site} w next cause sendings (by_reload x s m t l) = reload-then site x 0 w.processes
 
 pub pairs-go-on : (site : Site) → IsKept site PairsGoOn
 pairs-go-on site = record {
@@ -165,14 +134,15 @@ change-terminals w next cause sendings (by_enter number terminal opener t e r o)
 change-terminals w next cause sendings (by_print number terminal reply t e i o n) =
     set-then IsLaterTerminal terminal-same w.terminals number terminal _ t
     (record { entered = omega arith; printed = omega arith })
-change-terminals w next cause sendings (by_own number k pair there acts c a e) =
+change-terminals w next cause sendings (by_own number k pair there acts c a e fr) =
     λ n t there. (t, there, terminal-same t)
 change-terminals w next cause sendings (by_checkpoint number pair there p) = λ n t there. (t, there, terminal-same t)
 change-terminals w next cause sendings (by_request request k pair i there r) = λ n t there. (t, there, terminal-same t)
 change-terminals w next cause sendings (by_early_request request k pair i there r) =
     λ n t there. (t, there, terminal-same t)
-change-terminals w next cause sendings (by_stop x r) = λ n t there. (t, there, terminal-same t)
+change-terminals w next cause sendings (by_stop x r h) = λ n t there. (t, there, terminal-same t)
 change-terminals w next cause sendings (by_mark node x s r n) = λ m t there. (t, there, terminal-same t)
+change-terminals w next cause sendings (by_reload x s m t l) = λ n t there. (t, there, terminal-same t)
 
 pub terminals-go-on : (site : Site) → IsKept site TerminalsGoOn
 terminals-go-on site = record {

@@ -13,6 +13,7 @@ pub mod Lifted
 pub mod Lists
 pub mod Members
 pub mod Moves
+pub mod Numbers
 pub mod Outcomes
 pub mod Played
 pub mod Positions
@@ -24,6 +25,7 @@ pub mod Runs
 pub mod Sendings
 pub mod Sent
 pub mod Settled
+pub mod Steady
 pub mod Terminals
 pub mod Tidy
 pub mod Waiting

@@ -8,7 +8,7 @@ use Rattle.world_semantics.specs.Passes.{copy_at_checkpoint}
 use Rattle.world_semantics.specs.Records.{records_of}
 use Rattle.world_semantics.specs.Shares.{passing_where, share_of, with_share}
 use Rattle.world_semantics.specs.Running.{Done, Own, Stepped, in_world, mark_step, own_step, sending_step, step_as}
-use Rattle.world_semantics.specs.Running.{step_at, step_of_copy}
+use Rattle.world_semantics.specs.Running.{step_at, step_of_copy, ending_step, free_step, renewing_step, step_if}
 
 abbrev pub lifted : ℕ → World → Option Stepped → Option Done
 lifted number w step = option_map (in_world number w) step
@@ -33,6 +33,20 @@ passed_done number k pair w again = in_world number w (record {
 
 abbrev pub mark_done : ℕ → Which → Pair → World → Bool → Bool → Option Done
 mark_done number k pair w free sent = lifted number w (mark_step number k pair (records_of w) free sent)
+
+-- what a copy has sent comes to its end
+abbrev pub ended_done : ℕ → Which → Pair → World → Done
+ended_done number k pair w = in_world number w (ending_step number k pair (records_of w))
+
+abbrev pub made_if : ℕ → World → Bool → Stepped → Option Done
+made_if number w may step = lifted number w (step_if may step)
+
+abbrev pub renewing_at : ℕ → Which → Pair → World → Point → Option Done
+renewing_at number k pair w stands = lifted number w (renewing_step number k pair w.marks (records_of w) stands)
+
+abbrev pub free_at : Site → ℕ → Which → Pair → World → Point → Bool → Bool → Option Done
+free_at site number k pair w stands sent renewal =
+    lifted number w (free_step site number k pair w.marks (records_of w) stands sent renewal)
 
 abbrev pub run_at : Site → ℕ → Which → Pair → World → Point → Option Done
 run_at site number k pair w stands = lifted number w (step_at site number k pair w.marks (records_of w) stands)

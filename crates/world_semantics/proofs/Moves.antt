@@ -1,7 +1,8 @@
 -- Runs that are computed from moves: each move says which change an event makes. The examples are played by it.
 use Rattle.std.proofs.Common.{◌≡◌, ℕ, ◌+◌, ◌==◌, ◌&&◌, Bool, true, false, List, [], ◌∷◌, map, Option, Some, None}
-use Rattle.std.proofs.Common.{slice_get, refl, ap, ◌∙◌}
-use Rattle.std.proofs.lemmas.Bool.{eqb-true}
+use Rattle.std.proofs.Common.{slice_get, refl, ap, ◌∙◌, ◌||◌, arith, nat_lt, not, subst, suc, sym, zero}
+use Rattle.std.proofs.lemmas.Bool.{eqb-true, ltb-false, ltb-true}
+use Rattle.std.specs.Cmp.Derive.{both_true}
 use Rattle.gd_words.specs.Members.{IsAmong}
 use Rattle.gd_words.proofs.Among.{among-at}
 use Rattle.gd_words.specs.declared.message.Request.{Request}
@@ -20,20 +21,22 @@ use Rattle.plain_semantics.specs.Machine.{next_request}
 use Rattle.checkpoint_image.specs.declared.message.ImageMessage.{ImageMessage}
 use Rattle.checkpoint_image.specs.declared.message.TakenMessage.{TakenMessage}
 use Rattle.world_semantics.specs.declared.role.Role.{Role}
-use Rattle.world_semantics.specs.declared.role.Role.TheVariants.{Acting, Watching, Gone}
+use Rattle.world_semantics.specs.declared.role.Role.TheVariants.{Acting, Watching, Gone, Blank}
 use Rattle.world_semantics.specs.Core.{put_in, next_on, gets}
-use Rattle.world_semantics.specs.World.{Pair, World, is_running, has_noted, Which, copy_of}
+use Rattle.world_semantics.specs.World.{Pair, World, is_running, has_noted, Which, copy_of, Down, is_whole, other_of}
+use Rattle.world_semantics.specs.World.{receives, runs_by, terminal_node, noted_from, is_noted_by_all}
 use Rattle.world_semantics.specs.Messages.{Sending}
-use Rattle.world_semantics.specs.Passes.{by_apply, by_acknowledge}
+use Rattle.world_semantics.specs.Passes.{by_apply, by_acknowledge, by_apply_behind}
 use Rattle.world_semantics.specs.Own.{by_reply}
 use Rattle.world_semantics.specs.Rules.{by_own, by_checkpoint, by_request, by_early_request, by_enter, by_print}
-use Rattle.world_semantics.specs.Rules.{by_stop, by_mark}
+use Rattle.world_semantics.specs.Rules.{by_stop, by_mark, by_reload, most_reloads}
 use Rattle.world_semantics.specs.Follows.{marks_none, marks_one, Follows, runs, enters, delivers, ticks, fails, Leads}
-use Rattle.world_semantics.specs.Follows.{stays, goes_on}
+use Rattle.world_semantics.specs.Follows.{stays, goes_on, reloads}
 use Rattle.world_semantics.specs.Running.{run_done}
 use Rattle.world_semantics.proofs.Running.{enters-as}
 use Rattle.world_semantics.proofs.Roles.{both-true}
 use Rattle.world_semantics.proofs.Ran.{run-may}
+use Rattle.world_semantics.specs.Kept.{own_acts}
 
 -- which change an event makes: of the messages that were ever sent, each is named by its place among those of its kind,
 -- the newest at 0
@@ -56,6 +59,8 @@ pub data Move : Type 0 where
   Fails : (processor : ℕ) → Move
   -- a node ticks and marks a processor
   Ticks : (node : ℕ) → (processor : ℕ) → Move
+  -- a processor is loaded again
+  Reloads : (processor : ℕ) → Move
 
 abbrev pub event_of : Move → Event
 event_of (Runs number) = event.Run number
@@ -67,6 +72,7 @@ event_of (Applies number checkpoint k) = event.Deliver false 0
 event_of (Tells number taken k) = event.Deliver false 0
 event_of (Fails processor) = event.Fail processor
 event_of (Ticks node processor) = event.Tick node
+event_of (Reloads processor) = event.Reload processor
 
 -- a computed change with the reason why its event permits it
 pub record Permitted (site : Site) (w : World) (event : Event) : Type 0 where
@@ -115,7 +121,17 @@ abbrev bring_as : (site : Site) (w : World) (request : Request) (k : Which) (pai
 bring_as site w request k pair Acting i there e =
     Some (record { world = _; sendings = _; follows = delivers _ _ (by_request request k pair i there e) })
 bring_as site w request k pair Watching i there e =
-    Some (record { world = _; sendings = _; follows = delivers _ _ (by_early_request request k pair i there e) })
+    Some (record {
+      world = _;
+      sendings = _;
+      follows = delivers _ _ (by_early_request request k pair i there (ap receives e));
+    })
+bring_as site w request k pair Blank i there e =
+    Some (record {
+      world = _;
+      sendings = _;
+      follows = delivers _ _ (by_early_request request k pair i there (ap receives e));
+    })
 bring_as site w request k pair Gone i there e = None
 
 abbrev bring_move : (site : Site) (w : World) (place : ℕ) (k : Which) → Perhaps site w (event.Deliver false 0)
@@ -164,7 +180,7 @@ get_at site w number reply k pair point.Await there i role stands =
       follows =
           delivers _ _ (by_own number k pair there role
           (by_reply i (opens ∙ ap Some (opener-is opener reply same)) (eqb-true _ _ awaits) refl) (gets stands refl)
-          (enters-as number (act.Step number) w.kept (copy_of k pair)));
+          (enters-as number (act.Step number) w.kept (copy_of k pair)) tt);
     }))))
 get_at site w number reply k pair _ there i role stands = None
 
@@ -181,10 +197,12 @@ get_move site w number place k =
     with_reason (slice_get w.processes number) (λ pair there.
     get_as site w number reply k pair (copy_of k pair).role there (among-at w.replies place reply sent) refl))
 
-abbrev apply_as : (site : Site) (w : World) (number : ℕ) (message : ImageMessage) (k : Which) (pair : Pair)
-    (role : Role) → slice_get w.processes number ≡ Some pair
-    → IsAmong message pair.checkpoints → (copy_of k pair).role ≡ role → Perhaps site w (event.Deliver false 0)
-apply_as site w number message k pair Watching there i role =
+abbrev apply_by : (site : Site) (w : World) (number : ℕ) (message : ImageMessage) (k : Which) (pair : Pair)
+    → slice_get w.processes number ≡ Some pair
+    → IsAmong message pair.checkpoints → receives (copy_of k pair).role ≡ true → (behind : Bool)
+    → nat_lt (copy_of (other_of k) pair).position (own_acts number w.kept) ≡ behind
+    → Perhaps site w (event.Deliver false 0)
+apply_by site w number message k pair there i role true l =
     where_true (message.era == (copy_of k pair).era) (λ era.
     where_true (message.number == (copy_of k pair).number + 1) (λ next.
     with_reason (put_in (copy_of k pair).core message.image) (λ applied e.
@@ -192,8 +210,26 @@ apply_as site w number message k pair Watching there i role =
       world = _;
       sendings = _;
       follows = delivers _ _ (by_checkpoint number pair there
-          (by_apply k message applied role i (eqb-true _ _ era) (eqb-true _ _ next) e));
+          (by_apply_behind k message applied role i (eqb-true _ _ era) (eqb-true _ _ next) e (ltb-true _ _ l)));
     }))))
+apply_by site w number message k pair there i role false l =
+    where_true (message.era == (copy_of k pair).era) (λ era.
+    where_true (message.number == (copy_of k pair).number + 1) (λ next.
+    with_reason (put_in (copy_of k pair).core message.image) (λ applied e.
+    Some (record {
+      world = _;
+      sendings = _;
+      follows = delivers _ _ (by_checkpoint number pair there
+          (by_apply k message applied role i (eqb-true _ _ era) (eqb-true _ _ next) e (ltb-false _ _ l)));
+    }))))
+
+abbrev apply_as : (site : Site) (w : World) (number : ℕ) (message : ImageMessage) (k : Which) (pair : Pair)
+    (role : Role) → slice_get w.processes number ≡ Some pair
+    → IsAmong message pair.checkpoints → (copy_of k pair).role ≡ role → Perhaps site w (event.Deliver false 0)
+apply_as site w number message k pair Watching there i role =
+    apply_by site w number message k pair there i (ap receives role) _ refl
+apply_as site w number message k pair Blank there i role =
+    apply_by site w number message k pair there i (ap receives role) _ refl
 apply_as site w number message k pair _ there i role = None
 
 abbrev apply_move : (site : Site) (w : World) (number place : ℕ) (k : Which) → Perhaps site w (event.Deliver false 0)
@@ -227,7 +263,8 @@ tell_move site w number place k =
 abbrev fail_as : (site : Site) (w : World) (processor : ℕ) (stopped : Option Bool)
     → slice_get w.stopped processor ≡ stopped → Perhaps site w (event.Fail processor)
 fail_as site w processor (Some false) e =
-    Some (record { world = _; sendings = _; follows = fails (by_stop processor e) })
+    where_true (is_whole w) (λ whole. Some (record
+    { world = _; sendings = _; follows = fails (by_stop processor e whole) }))
 fail_as site w processor _ e = None
 
 abbrev tick_as : (site : Site) (w : World) (node processor : ℕ) (stopped : Option Bool)
@@ -242,6 +279,91 @@ tick_as site w node processor (Some true) e =
     })))
 tick_as site w node processor _ e = None
 
+pub all-marked : (marks : List Down) (x from : ℕ) (stopped : List Bool) → noted_from marks x from stopped ≡ true
+    → (k : ℕ) → slice_get stopped k ≡ Some false
+    → has_noted marks (from + k) x ≡ true
+all-marked marks x from [] e k at = absurd (cc)
+all-marked marks x from (true ∷ stopped) e zero at = absurd (cc)
+all-marked marks x from (true ∷ stopped) e (suc k) at =
+    let more : (from + 1) + k ≡ from + suc k =
+    omega arith in subst (λ n. has_noted marks n x ≡ true) more (all-marked marks x (from + 1) stopped e k at)
+all-marked marks x from (false ∷ stopped) e zero at =
+    let more : from ≡ from + 0 = omega arith in subst (λ n. has_noted marks n x ≡ true) more (both-true _ _ e).0
+all-marked marks x from (false ∷ stopped) e (suc k) at =
+    let more : (from + 1) + k ≡ from + suc k = omega arith in
+    subst (λ n. has_noted marks n x ≡ true) more (all-marked marks x (from + 1) stopped (both-true _ _ e).1 k at)
+
+-- each node that runs has marked a processor which all are said to have marked
+marked-all : (marks : List Down) (x : ℕ) (stopped : List Bool) → noted_from marks x 0 stopped ≡ true
+    → (is_running stopped terminal_node ≡ true → has_noted marks terminal_node x ≡ true)
+    → (node : ℕ) → is_running stopped node ≡ true → has_noted marks node x ≡ true
+marked-all marks x stopped e there node on = by (slice_get stopped node) refl on
+  where
+    by : (o : Option Bool) → slice_get stopped node ≡ o → runs_by node o ≡ true → has_noted marks node x ≡ true
+    by None at r = let same = eqb-true node terminal_node r in
+        subst (λ n. has_noted marks n x ≡ true) (sym same)
+        (there (subst (λ n. is_running stopped n ≡ true) same on))
+    by (Some true) at r = absurd (cc)
+    by (Some false) at r = let zeros : 0 + node ≡ node = omega arith in
+        subst (λ n. has_noted marks n x ≡ true) zeros (all-marked marks x 0 stopped e node at)
+
+if-runs : (runs noted : Bool) → (not runs || noted) ≡ true → runs ≡ true → noted ≡ true
+if-runs true noted e r = e
+if-runs false noted e r = absurd (cc)
+
+pub noted-by-all : (w : World) (processor : ℕ) → is_noted_by_all w processor ≡ true
+    → (node : ℕ) → is_running w.stopped node ≡ true → has_noted w.marks node processor ≡ true
+noted-by-all w processor e =
+    let both = both-true (noted_from w.marks processor 0 w.stopped) _ e in
+    marked-all w.marks processor w.stopped both.0 (if-runs (is_running w.stopped terminal_node) _ both.1)
+
+all-back : (marks : List Down) (x from : ℕ) (stopped : List Bool)
+    → ((k : ℕ) → slice_get stopped k ≡ Some false → has_noted marks (from + k) x ≡ true)
+    → noted_from marks x from stopped ≡ true
+all-back marks x from [] each = refl
+all-back marks x from (true ∷ stopped) each =
+    all-back marks x (from + 1) stopped (λ k at.
+    (let more : from + suc k ≡ (from + 1) + k = omega arith in
+    subst (λ n. has_noted marks n x ≡ true) more (each (suc k) at)))
+all-back marks x from (false ∷ stopped) each =
+    let zeros : from + 0 ≡ from = omega arith in
+    both_true (subst (λ n. has_noted marks n x ≡ true) zeros (each 0 refl))
+    (all-back marks x (from + 1) stopped (λ k at.
+    (let more : from + suc k ≡ (from + 1) + k = omega arith in
+    subst (λ n. has_noted marks n x ≡ true) more (each (suc k) at))))
+
+running-there : (stopped : List Bool) (node : ℕ) → slice_get stopped node ≡ Some false
+    → is_running stopped node ≡ true
+running-there stopped node e = rw e refl
+
+runs-if : (runs noted : Bool) → (runs ≡ true → noted ≡ true) → (not runs || noted) ≡ true
+runs-if true noted can = can refl
+runs-if false noted can = refl
+
+pub by-all-noted : (w : World) (processor : ℕ)
+    → ((node : ℕ) → is_running w.stopped node ≡ true → has_noted w.marks node processor ≡ true)
+    → is_noted_by_all w processor ≡ true
+by-all-noted w processor each =
+    both_true
+    (all-back w.marks processor 0 w.stopped (λ k at.
+    (let zeros : k ≡ 0 + k = omega arith in
+    subst (λ n. has_noted w.marks n processor ≡ true) zeros (each k (running-there w.stopped k at)))))
+    (runs-if (is_running w.stopped terminal_node) (has_noted w.marks terminal_node processor) (each terminal_node))
+
+abbrev reload_as : (site : Site) (w : World) (processor : ℕ) (stopped : Option Bool)
+    → slice_get w.stopped processor ≡ stopped → Perhaps site w (event.Reload processor)
+reload_as site w processor (Some true) e =
+    where_true (is_noted_by_all w processor) (λ all.
+    with_reason (slice_get w.reloads processor) (λ times is.
+    where_true (nat_lt times most_reloads) (λ less.
+    Some (record {
+      world = _;
+      sendings = _;
+      follows = reloads (by_reload processor e (noted-by-all w processor all) is
+          (ltb-true _ _ less));
+    }))))
+reload_as site w processor _ e = None
+
 -- the change of a move, where it is possible
 abbrev pub moved : (site : Site) (w : World) (move : Move) → Perhaps site w (event_of move)
 moved site w (Runs number) = run_move site w number
@@ -252,6 +374,7 @@ moved site w (Gets number reply k) = get_move site w number reply k
 moved site w (Applies number checkpoint k) = apply_move site w number checkpoint k
 moved site w (Tells number taken k) = tell_move site w number taken k
 moved site w (Fails processor) = fail_as site w processor (slice_get w.stopped processor) refl
+moved site w (Reloads processor) = reload_as site w processor (slice_get w.stopped processor) refl
 moved site w (Ticks node processor) = tick_as site w node processor (slice_get w.stopped processor) refl
 
 abbrev pub world_by : {site : Site} {w : World} {event : Event} → Perhaps site w event → Option World

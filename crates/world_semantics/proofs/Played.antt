@@ -18,10 +18,11 @@ use Rattle.world_semantics.specs.Kept.{closed}
 use Rattle.world_semantics.specs.Examples.{adder_for, disc_site, takeover_events, takeover_acts, takeover_shown}
 use Rattle.world_semantics.specs.Examples.{lost_take_events, lost_take_acts, lost_take_shown, disc_events, disc_acts}
 use Rattle.world_semantics.specs.Examples.{disc_shown, bank_site, repeat_events, repeat_acts, repeat_shown, echo_site}
-use Rattle.world_semantics.specs.Examples.{ahead_events, ahead_acts, standings, CanKeep, CanLeave}
+use Rattle.world_semantics.specs.Examples.{ahead_events, ahead_acts, standings, CanKeep, CanLeave, reload_events}
+use Rattle.world_semantics.specs.Examples.{renewal_events}
 use Rattle.world_semantics.proofs.Lists.{some-same}
 use Rattle.world_semantics.proofs.Moves.{Move, Runs, Enters, Brings, Prints, Gets, Applies, Tells, Fails, Ticks, Played}
-use Rattle.world_semantics.proofs.Moves.{played}
+use Rattle.world_semantics.proofs.Moves.{played, Reloads}
 
 -- what a run keeps and shows
 record Seen : Type 0 where
@@ -49,6 +50,31 @@ pub takeover : CanKeep (adder_for (pos 5 ∷ [])) takeover_events takeover_acts 
 unfolding out-What shown-the_row-Statement-0 shown out int_wrap
 takeover = can-keep takeover_acts takeover_shown
     (played (adder_for (pos 5 ∷ [])) takeover_moves (boot (adder_for (pos 5 ∷ [])))) refl
+
+abbrev reload_moves : List Move
+reload_moves =
+    Enters 0 ∷ Runs 0 ∷ Runs 0 ∷ Runs 0 ∷ Brings 0 Second ∷ Brings 0 First ∷ Runs 0 ∷ Runs 0 ∷ Runs 0 ∷ Runs 0
+    ∷ Applies 0 0 Second ∷ Tells 0 0 First
+    ∷ Runs 0 ∷ Runs 0 ∷ Fails 0 ∷ Ticks 1 0 ∷ Ticks 16 0 ∷ Reloads 0 ∷ Runs 0 ∷ Applies 0 0 First ∷ Tells 0 0 Second
+    ∷ Runs 0 ∷ Fails 1 ∷ Ticks 0 1 ∷ Ticks 16 1
+    ∷ Runs 0 ∷ Prints 0 0 ∷ Runs 0 ∷ []
+
+pub reload : CanKeep (adder_for (pos 5 ∷ [])) reload_events takeover_acts takeover_shown
+unfolding out-What shown-the_row-Statement-0 shown out int_wrap
+reload = can-keep takeover_acts takeover_shown
+    (played (adder_for (pos 5 ∷ [])) reload_moves (boot (adder_for (pos 5 ∷ [])))) refl
+
+abbrev renewal_moves : List Move
+renewal_moves =
+    Enters 0 ∷ Runs 0 ∷ Runs 0 ∷ Runs 0 ∷ Brings 0 First ∷ Runs 0 ∷ Fails 1 ∷ Ticks 0 1 ∷ Ticks 16 1 ∷ Reloads 1
+    ∷ Runs 0 ∷ Applies 0 0 Second ∷ Tells 0 0 First ∷ Runs 0
+    ∷ Runs 0 ∷ Runs 0 ∷ Runs 0 ∷ Applies 0 0 Second ∷ Tells 0 0 First ∷ Runs 0 ∷ Fails 0 ∷ Ticks 1 0 ∷ Ticks 16 0
+    ∷ Runs 0 ∷ Prints 0 0 ∷ Runs 0 ∷ []
+
+pub renewal : CanKeep (adder_for (pos 5 ∷ [])) renewal_events takeover_acts takeover_shown
+unfolding out-What shown-the_row-Statement-0 shown out int_wrap
+renewal = can-keep takeover_acts takeover_shown
+    (played (adder_for (pos 5 ∷ [])) renewal_moves (boot (adder_for (pos 5 ∷ [])))) refl
 
 abbrev lost_take_moves : List Move
 lost_take_moves =

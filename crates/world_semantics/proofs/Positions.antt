@@ -1,5 +1,6 @@
 -- No copy is further than the kept acts of its process, and neither is the base.
-use Rattle.std.proofs.Common.{◌≡◌, ◌≤◌, ℕ, true, List, [], ◌∷◌, ◌++◌, Option, Some, None, slice_get, arith}
+use Rattle.std.proofs.Common.{◌≡◌, ◌≤◌, ℕ, true, List, [], ◌∷◌, ◌++◌, Option, Some, None, slice_get, arith, Bool, false}
+use Rattle.std.proofs.Common.{refl, ◌==◌}
 use Rattle.gd_words.specs.declared.message.Request.{Request}
 use Rattle.tal_tree.specs.declared.act.Act.{Act}
 use Rattle.tal_tree.specs.declared.act.Act.TheVariants.{Step, Enter, Print}
@@ -12,14 +13,19 @@ use Rattle.world_semantics.specs.Messages.{Message, Sending, Cause}
 use Rattle.world_semantics.specs.Own.{Around, Causes, by_inner, by_take, by_ask, by_answer, by_device, by_write}
 use Rattle.world_semantics.specs.Own.{by_reply}
 use Rattle.world_semantics.specs.Passes.{Passes, by_send, by_pass_again, by_pass, by_apply, by_acknowledge}
-use Rattle.world_semantics.specs.Passes.{kept_at_checkpoint}
+use Rattle.world_semantics.specs.Passes.{kept_at_checkpoint, by_apply_behind, by_end, kept_at, point_at}
 use Rattle.world_semantics.specs.Rules.{Change, by_own, by_checkpoint, by_request, by_early_request, by_enter, by_print}
-use Rattle.world_semantics.specs.Rules.{by_stop, by_mark, stopped_pair, taker, pair_after_down, pair_at_down}
+use Rattle.world_semantics.specs.Rules.{by_stop, by_mark, stopped_pair, taker, pair_after_down, pair_at_down, begun}
+use Rattle.world_semantics.specs.Rules.{by_reload, reloaded_by, renewals_ended}
 use Rattle.world_semantics.specs.Laws.{HasGrown}
 use Rattle.world_semantics.proofs.Beginning.{all-begin}
 use Rattle.world_semantics.proofs.Lists.{set-all, map-all, grown-one, grown-more}
 use Rattle.world_semantics.proofs.Counting.{own-grown, own-step, own-take, own-one}
 use Rattle.world_semantics.proofs.Growing.{enters-grows, passes-grow}
+use Rattle.world_semantics.proofs.Roles.{reload-all}
+use Rattle.world_semantics.specs.Shares.{acts_at}
+use Rattle.plain_semantics.specs.process_semantics.specs.declared.point.Point.{Point}
+use Rattle.plain_semantics.specs.process_semantics.specs.declared.point.Point.TheVariants as point
 
 -- the positions of two copies and their base are within so many kept acts
 pub record Bounds (count one two from : ℕ) : Type 0 where
@@ -92,6 +98,25 @@ at-mark : (number : ℕ) (copy : Copy) (kept : List Act)
     → own_acts number kept ≤ own_acts number (kept_at_checkpoint number copy kept)
 at-mark number copy kept = own-grown number (grown-more (Step number) copy.held kept)
 
+step-more : (number : ℕ) (copy : Copy) (kept : List Act)
+    → own_acts number (copy.held ++ kept) ≤ own_acts number (kept_at number copy kept)
+step-more number copy kept = own-grown number (acts_at number (point_at copy), refl)
+
+at-most : (number : ℕ) (copy : Copy) (kept : List Act)
+    → own_acts number kept ≤ own_acts number (kept_at number copy kept)
+at-most number copy kept = let first = own-grown number {before = kept} (copy.held, refl) in let last =
+    step-more number copy kept in omega (arith, first, last)
+
+step-most : (number : ℕ) (p : Point) → own_acts number (acts_at number p) ≤ 1
+step-most number point.AtCheckpoint = rw (own-step number) (omega arith)
+step-most number point.Inner = omega arith
+step-most number point.Take = omega arith
+step-most number point.Ask = omega arith
+step-most number point.Await = omega arith
+step-most number point.Answer = omega arith
+step-most number point.Device = omega arith
+step-most number point.Ended = omega arith
+
 same-count : (n : ℕ) → n ≤ n
 same-count n = omega arith
 
@@ -108,12 +133,20 @@ passes-bounds {number = n} {kept = kept} {pair = pair} (by_pass First r p m l) o
 passes-bounds {number = n} {kept = kept} {pair = pair} (by_pass Second r p m l) ok =
     let b = bounds-more ok (at-mark n pair.second kept) in
     record { first = b.first; second = same-count _; base = b.base }
-passes-bounds {number = n} {kept = kept} {pair = pair} (by_apply First message applied r i e m a) ok =
-    let b = bounds-more ok (at-mark n pair.second kept) in
-    record { first = b.first; second = mark-more n pair.second kept; base = same-count _ }
-passes-bounds {number = n} {kept = kept} {pair = pair} (by_apply Second message applied r i e m a) ok =
-    let b = bounds-more ok (at-mark n pair.first kept) in
-    record { first = mark-more n pair.first kept; second = b.second; base = same-count _ }
+passes-bounds (by_end First r s p m) ok = record { first = ok.first; second = ok.second; base = ok.base }
+passes-bounds (by_end Second r s p m) ok = record { first = ok.first; second = ok.second; base = ok.base }
+passes-bounds {number = n} {kept = kept} {pair = pair} (by_apply_behind First message applied r i e m a l) ok =
+    let step = step-most n (point_at pair.second) in
+    record { first = ok.first; second = ok.second; base = omega (arith, l, step) }
+passes-bounds {number = n} {kept = kept} {pair = pair} (by_apply_behind Second message applied r i e m a l) ok =
+    let step = step-most n (point_at pair.first) in
+    record { first = ok.first; second = ok.second; base = omega (arith, l, step) }
+passes-bounds {number = n} {kept = kept} {pair = pair} (by_apply First message applied r i e m a l) ok =
+    let b = bounds-more ok (at-most n pair.second kept) in
+    record { first = b.first; second = step-more n pair.second kept; base = same-count _ }
+passes-bounds {number = n} {kept = kept} {pair = pair} (by_apply Second message applied r i e m a l) ok =
+    let b = bounds-more ok (at-most n pair.first kept) in
+    record { first = step-more n pair.first kept; second = b.second; base = same-count _ }
 passes-bounds (by_acknowledge First taken r s i e n) ok =
     record { first = ok.first; second = ok.second; base = ok.base }
 passes-bounds (by_acknowledge Second taken r s i e n) ok =
@@ -131,11 +164,23 @@ marking-bounds kept number None pair ok = ok
 marking-bounds kept number (Some First) pair ok = record { first = ok.base; second = ok.second; base = ok.base }
 marking-bounds kept number (Some Second) pair ok = record { first = ok.first; second = ok.base; base = ok.base }
 
+ended-bounds : (kept : List Act) (number node x : ℕ) (pair : Pair) → BoundsOf kept number pair
+    → BoundsOf kept number (renewals_ended node x pair)
+ended-bounds kept number node x pair ok = record { first = ok.first; second = ok.second; base = ok.base }
+
+reloaded-bounds : (kept : List Act) (number : ℕ) (core : Core) (pair : Pair) (a b : Bool) → BoundsOf kept number pair
+    → BoundsOf kept number (reloaded_by core pair a b)
+reloaded-bounds kept number core pair false false ok = ok
+reloaded-bounds kept number core pair true false ok = record { first = omega arith; second = ok.second; base = ok.base }
+reloaded-bounds kept number core pair false true ok = record { first = ok.first; second = omega arith; base = ok.base }
+reloaded-bounds kept number core pair true true ok =
+    record { first = omega arith; second = omega arith; base = ok.base }
+
 -- All changes
 
 pub change-bounds : {site : Site} (w next : World) (cause : Cause) (sendings : List Sending)
     → Change site w cause sendings next → AllBounds w → AllBounds next
-change-bounds w next cause sendings (by_own {kept = kept} number k pair there acts c a e) ok =
+change-bounds w next cause sendings (by_own {kept = kept} number k pair there acts c a e f) ok =
     set-all (BoundsOf kept) w.processes number _ (all-more w kept (enters-grows e) ok)
     (own-bounds k pair _ _ _ e (causes-own c) (ok number pair there))
 change-bounds w next cause sendings (by_checkpoint {kept = kept} number pair there p) ok =
@@ -151,7 +196,12 @@ change-bounds w next cause sendings (by_enter number terminal opener t e r o) ok
     all-more w (Enter number ∷ w.kept) (grown-one (Enter number) w.kept) ok
 change-bounds w next cause sendings (by_print number terminal reply t e i o n) ok =
     all-more w (Print number ∷ w.kept) (grown-one (Print number) w.kept) ok
-change-bounds w next cause sendings (by_stop x r) ok = map-all (BoundsOf w.kept) (stopped_pair x) w.processes ok
+change-bounds w next cause sendings (by_stop x r h) ok = map-all (BoundsOf w.kept) (stopped_pair x) w.processes ok
 change-bounds w next cause sendings (by_mark node x s r n) ok =
     map-all (BoundsOf w.kept) (pair_at_down node x) w.processes
-    (λ n p there. marking-bounds w.kept n (taker node x p) p (ok n p there))
+    (λ n p there. ended-bounds w.kept n node x (pair_after_down (taker node x p) p)
+    (marking-bounds w.kept n (taker node x p) p (ok n p there)))
+change-bounds {site = site} w next cause sendings (by_reload x s m t l) ok =
+    reload-all (BoundsOf w.kept) site x w.processes
+    (λ n p there. reloaded-bounds w.kept n (begun site n (slice_get site.processes n) p.first.core) p
+    (p.first.processor == x) (p.second.processor == x) (ok n p there))

@@ -7,8 +7,8 @@ use Rattle.world_semantics.specs.Messages.{Sending, Cause}
 use Rattle.world_semantics.specs.Rules.{Change}
 use Rattle.world_semantics.specs.Follows.{NotesDowns, marks_none, marks_one, Follows, runs, cannot_run, enters}
 use Rattle.world_semantics.specs.Follows.{cannot_enter, delivers_none, delivers, delivers_mark, loses, doubles}
-use Rattle.world_semantics.specs.Follows.{turns_drive}
-use Rattle.world_semantics.specs.Follows.{ticks_none, ticks, ticks_stop, fails, cannot_fail, Leads, stays, goes_on}
+use Rattle.world_semantics.specs.Follows.{turns_drive, ticks_none, ticks, ticks_stop, fails, cannot_fail, Leads, stays}
+use Rattle.world_semantics.specs.Follows.{goes_on, cannot_reload, reloads}
 
 -- a relation between worlds that holds of a world and itself, goes from one to the next, and holds of each change
 pub record IsKept (site : Site) (R : World → World → Type 0) : Type 0 where
@@ -41,6 +41,8 @@ follows-keeps k {w = w} {next = next} (ticks_stop {between = between} processor 
     k.both w between next (k.change w between _ _ c) (marks-keep k m)
 follows-keeps k {w = w} {next = next} (fails c) = k.change w next _ _ c
 follows-keeps k {w = w} (cannot_fail n) = k.same w
+follows-keeps k {w = w} {next = next} (reloads c) = k.change w next _ _ c
+follows-keeps k {w = w} (cannot_reload n) = k.same w
 
 pub leads-keep : {site : Site} {R : World → World → Type 0} → IsKept site R → {w end : World} {events : List Event}
     → Leads site w events end → R w end

@@ -12,10 +12,12 @@ use Rattle.world_semantics.specs.World.{Copy, Pair, World, Which, First, Second,
 use Rattle.world_semantics.specs.Messages.{Message, Asking, Replying, Checkpointing, Taking, Sending, sent_at, Cause}
 use Rattle.world_semantics.specs.Own.{Around, Causes, by_inner, by_take, by_ask, by_answer, by_device, by_write}
 use Rattle.world_semantics.specs.Own.{by_reply, asked_on}
-use Rattle.world_semantics.specs.Passes.{Passes, by_send, by_pass_again, by_pass, by_apply, by_acknowledge}
+use Rattle.world_semantics.specs.Passes.{Passes, by_send, by_pass_again, by_pass, by_end, by_apply_behind}
+use Rattle.world_semantics.specs.Passes.{by_apply, by_acknowledge}
 use Rattle.world_semantics.specs.Passes.{checkpoint_of, taken_of}
 use Rattle.world_semantics.specs.Rules.{Change, by_own, by_checkpoint, by_request, by_early_request, by_enter, by_print}
-use Rattle.world_semantics.specs.Rules.{by_stop, by_mark, told_at_down, takeover_sendings, taker, entered_request}
+use Rattle.world_semantics.specs.Rules.{by_stop, by_mark, by_reload, told_at_down, takeover_sendings, taker}
+use Rattle.world_semantics.specs.Rules.{entered_request}
 use Rattle.world_semantics.specs.Follows.{IsRun}
 use Rattle.world_semantics.specs.Laws.{WasSent}
 use Rattle.world_semantics.proofs.Lists.{set-there}
@@ -78,9 +80,14 @@ passes-sends {number = n} {pair = pair} w there (by_send Second role p s m) send
     one-sent w pair.second.processor (Checkpointing (checkpoint_of n pair.second)) (n, _, there, inl refl) sending i
 passes-sends w there (by_pass_again k role p m l) sending i = absurd i
 passes-sends w there (by_pass k role p m l) sending i = absurd i
-passes-sends {number = n} {pair = pair} w there (by_apply First new applied role j era next a) sending i =
+passes-sends w there (by_end k role s p m) sending i = absurd i
+passes-sends {number = n} {pair = pair} w there (by_apply_behind First new applied role j era next a l) sending i =
     one-sent w pair.first.processor (Taking (taken_of new)) (n, _, there, inl refl) sending i
-passes-sends {number = n} {pair = pair} w there (by_apply Second new applied role j era next a) sending i =
+passes-sends {number = n} {pair = pair} w there (by_apply_behind Second new applied role j era next a l) sending i =
+    one-sent w pair.second.processor (Taking (taken_of new)) (n, _, there, inl refl) sending i
+passes-sends {number = n} {pair = pair} w there (by_apply First new applied role j era next a l) sending i =
+    one-sent w pair.first.processor (Taking (taken_of new)) (n, _, there, inl refl) sending i
+passes-sends {number = n} {pair = pair} w there (by_apply Second new applied role j era next a l) sending i =
     one-sent w pair.second.processor (Taking (taken_of new)) (n, _, there, inl refl) sending i
 passes-sends w there (by_acknowledge k taken role s j era same) sending i = absurd i
 
@@ -105,7 +112,7 @@ told-sent w next number pair (Some k) same ok sending i =
 change-sends : {site : Site} (w next : World) (cause : Cause) (sendings : List Sending) → AllFair w
     → Change site w cause sendings next → (sending : Sending)
     → IsAmong sending sendings → WasSent next sending.message
-change-sends w next cause sendings ok (by_own {messages = messages} number k pair there role c a e) sending i =
+change-sends w next cause sendings ok (by_own {messages = messages} number k pair there role c a e fr) sending i =
     from-node next (copy_of k pair).processor messages (own-sends next refl refl c) sending i
 change-sends w next cause sendings ok (by_checkpoint number pair there p) sending i =
     passes-sends next (set-there w.processes number pair _ there) p sending i
@@ -120,7 +127,8 @@ change-sends w next cause sendings ok (by_early_request request k pair j there r
 change-sends w next cause sendings ok (by_enter {words = words} number terminal opener t f r o) sending i =
     one-sent next terminal_node (Asking (entered_request opener terminal words)) (inl refl) sending i
 change-sends w next cause sendings ok (by_print number terminal reply t f j o n) sending i = absurd i
-change-sends w next cause sendings ok (by_stop x r) sending i = absurd i
+change-sends w next cause sendings ok (by_stop x r h) sending i = absurd i
+change-sends w next cause sendings ok (by_reload x s m t l) sending i = absurd i
 change-sends w next cause sendings ok (by_mark m x s r n) sending i =
     let of = among-flat_map (told_at_down m x) w.processes sending i in
     told-sent w next of.place of.item (taker m x of.item) refl

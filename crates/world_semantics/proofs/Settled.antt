@@ -1,5 +1,5 @@
 -- No checkpoint is acknowledged that wasn't sent.
-use Rattle.std.proofs.Common.{◌≡◌, ℕ, List, Option, Some, None, slice_get, refl}
+use Rattle.std.proofs.Common.{◌≡◌, ℕ, List, Option, Some, None, slice_get, refl, Bool, false, true, ◌==◌}
 use Rattle.gd_words.specs.declared.message.Request.{Request}
 use Rattle.tal_tree.specs.declared.act.Act.{Act}
 use Rattle.tal_tree.specs.declared.site.Site.{Site}
@@ -9,11 +9,14 @@ use Rattle.world_semantics.specs.World.{Copy, Pair, Down, World, Which, First, S
 use Rattle.world_semantics.specs.Kept.{Enters, holds_on, repeats, begins, keeps}
 use Rattle.world_semantics.specs.Messages.{Sending, Cause}
 use Rattle.world_semantics.specs.Passes.{Passes, by_send, by_pass_again, by_pass, by_apply, by_acknowledge}
+use Rattle.world_semantics.specs.Passes.{by_apply_behind, by_end}
 use Rattle.world_semantics.specs.Rules.{Change, by_own, by_checkpoint, by_request, by_early_request, by_enter, by_print}
-use Rattle.world_semantics.specs.Rules.{by_stop, by_mark, stopped_pair, taker, pair_after_down, pair_at_down}
+use Rattle.world_semantics.specs.Rules.{by_stop, by_mark, stopped_pair, taker, pair_after_down, pair_at_down, begun}
+use Rattle.world_semantics.specs.Rules.{by_reload, reloaded_by, renewals_ended}
 use Rattle.world_semantics.proofs.Beginning.{all-begin}
 use Rattle.world_semantics.proofs.Lists.{set-all, map-all}
 use Rattle.world_semantics.proofs.Ran.{IsSettled}
+use Rattle.world_semantics.proofs.Roles.{reload-all}
 
 -- of both copies of a process
 pub record AreSettled (pair : Pair) : Type 0 where
@@ -50,8 +53,12 @@ passes-settled (by_pass_again First r p m l) ok = record { first = λ _. refl; s
 passes-settled (by_pass_again Second r p m l) ok = record { first = ok.first; second = λ _. refl }
 passes-settled (by_pass First r p m l) ok = record { first = λ _. refl; second = ok.second }
 passes-settled (by_pass Second r p m l) ok = record { first = ok.first; second = λ _. refl }
-passes-settled (by_apply First message applied r i e n a) ok = record { first = ok.first; second = ok.second }
-passes-settled (by_apply Second message applied r i e n a) ok = record { first = ok.first; second = ok.second }
+passes-settled (by_end First r s p m) ok = record { first = λ _. refl; second = ok.second }
+passes-settled (by_end Second r s p m) ok = record { first = ok.first; second = λ _. refl }
+passes-settled (by_apply_behind First message applied r i e n a l) ok = record { first = ok.first; second = ok.second }
+passes-settled (by_apply_behind Second message applied r i e n a l) ok = record { first = ok.first; second = ok.second }
+passes-settled (by_apply First message applied r i e n a l) ok = record { first = ok.first; second = ok.second }
+passes-settled (by_apply Second message applied r i e n a l) ok = record { first = ok.first; second = ok.second }
 passes-settled (by_acknowledge First taken r s i e n) ok = record { first = λ not. absurd (cc); second = ok.second }
 passes-settled (by_acknowledge Second taken r s i e n) ok = record { first = ok.first; second = λ not. absurd (cc) }
 
@@ -65,9 +72,18 @@ marking-settled None pair ok = ok
 marking-settled (Some First) pair ok = record { first = ok.first; second = ok.second }
 marking-settled (Some Second) pair ok = record { first = ok.first; second = ok.second }
 
+ended-settled : (node x : ℕ) (pair : Pair) → AreSettled pair → AreSettled (renewals_ended node x pair)
+ended-settled node x pair ok = record { first = ok.first; second = ok.second }
+
+reloaded-settled : (core : Core) (pair : Pair) (a b : Bool) → AreSettled pair → AreSettled (reloaded_by core pair a b)
+reloaded-settled core pair false false ok = ok
+reloaded-settled core pair true false ok = record { first = λ _. refl; second = λ _. refl }
+reloaded-settled core pair false true ok = record { first = λ _. refl; second = λ _. refl }
+reloaded-settled core pair true true ok = record { first = λ _. refl; second = λ _. refl }
+
 pub change-settled : {site : Site} (w next : World) (cause : Cause) (sendings : List Sending)
     → Change site w cause sendings next → AllSettled w → AllSettled next
-change-settled w next cause sendings (by_own number k pair there acts c a e) ok =
+change-settled w next cause sendings (by_own number k pair there acts c a e f) ok =
     set-all (λ n p. AreSettled p) w.processes number _ ok (own-settled k pair _ _ _ e (ok number pair there))
 change-settled w next cause sendings (by_checkpoint number pair there p) ok =
     set-all (λ n p. AreSettled p) w.processes number _ ok (passes-settled p (ok number pair there))
@@ -79,12 +95,17 @@ change-settled w next cause sendings (by_early_request request k pair i there r)
     (waiting-settled k pair _ (ok request.process pair there))
 change-settled w next cause sendings (by_enter number terminal opener t e r o) ok = ok
 change-settled w next cause sendings (by_print number terminal reply t e i o n) ok = ok
-change-settled w next cause sendings (by_stop x r) ok =
+change-settled w next cause sendings (by_stop x r h) ok =
     map-all (λ n p. AreSettled p) (stopped_pair x) w.processes
     (λ n p there. record { first = (ok n p there).first; second = (ok n p there).second })
 change-settled w next cause sendings (by_mark node x s r n) ok =
     map-all (λ n p. AreSettled p) (pair_at_down node x) w.processes
-    (λ n p there. marking-settled (taker node x p) p (ok n p there))
+    (λ n p there. ended-settled node x (pair_after_down (taker node x p) p)
+    (marking-settled (taker node x p) p (ok n p there)))
+change-settled {site = site} w next cause sendings (by_reload x s m t l) ok =
+    reload-all (λ n p. AreSettled p) site x w.processes
+    (λ n p there. reloaded-settled (begun site n (slice_get site.processes n) p.first.core) p (p.first.processor == x)
+    (p.second.processor == x) (ok n p there))
 
 pub settled-begin : (site : Site) → AllSettled (boot site)
 settled-begin site =

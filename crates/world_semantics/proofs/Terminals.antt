@@ -15,9 +15,10 @@ use Rattle.world_semantics.specs.World.{Pair, Down, Terminal, World, terminal_no
 use Rattle.world_semantics.specs.Messages.{Message, Asking, Sending, sent_at, Cause, Entering}
 use Rattle.world_semantics.specs.Own.{Around, Causes, by_inner, by_take, by_ask, by_answer, by_device, by_write}
 use Rattle.world_semantics.specs.Own.{by_reply}
-use Rattle.world_semantics.specs.Passes.{Passes, by_send, by_pass_again, by_pass, by_apply, by_acknowledge}
+use Rattle.world_semantics.specs.Passes.{Passes, by_send, by_pass_again, by_pass, by_end, by_apply_behind}
+use Rattle.world_semantics.specs.Passes.{by_apply, by_acknowledge}
 use Rattle.world_semantics.specs.Rules.{Change, by_own, by_checkpoint, by_request, by_early_request, by_enter, by_print}
-use Rattle.world_semantics.specs.Rules.{by_stop, by_mark, entered_request}
+use Rattle.world_semantics.specs.Rules.{by_stop, by_mark, by_reload, entered_request}
 use Rattle.world_semantics.specs.Follows.{IsRun}
 use Rattle.world_semantics.specs.Laws.{IsNextOf}
 use Rattle.world_semantics.proofs.Lists.{some-same, set-all, mapped}
@@ -33,7 +34,7 @@ AllAwaitOne w = (number : ℕ) (terminal : Terminal) → slice_get w.terminals n
 
 change-awaits : {site : Site} (w next : World) (cause : Cause) (sendings : List Sending)
     → Change site w cause sendings next → AllAwaitOne w → AllAwaitOne next
-change-awaits w next cause sendings (by_own number k pair there r c a e) ok = ok
+change-awaits w next cause sendings (by_own number k pair there r c a e fr) ok = ok
 change-awaits w next cause sendings (by_checkpoint number pair there p) ok = ok
 change-awaits w next cause sendings (by_request request k pair i there r) ok = ok
 change-awaits w next cause sendings (by_early_request request k pair i there r) ok = ok
@@ -41,8 +42,9 @@ change-awaits w next cause sendings (by_enter number terminal opener t e r o) ok
     set-all (λ n. AwaitsOne) w.terminals number _ ok (record { printed = omega (arith, e); entered = omega (arith, e) })
 change-awaits w next cause sendings (by_print number terminal reply t e i o n) ok =
     set-all (λ n. AwaitsOne) w.terminals number _ ok (record { printed = omega (arith, e); entered = omega (arith, e) })
-change-awaits w next cause sendings (by_stop x r) ok = ok
+change-awaits w next cause sendings (by_stop x r h) ok = ok
 change-awaits w next cause sendings (by_mark node x s r n) ok = ok
+change-awaits w next cause sendings (by_reload x s m t l) ok = ok
 
 awaits-begin : (site : Site) → AllAwaitOne (boot site)
 awaits-begin site number terminal there =
@@ -80,7 +82,9 @@ passes-enter-none : {number terminal : ℕ} {marks : List Down} {kept after : Li
 passes-enter-none (by_send k r p s m) e = cc
 passes-enter-none (by_pass_again k r p m l) e = cc
 passes-enter-none (by_pass k r p m l) e = cc
-passes-enter-none (by_apply k message applied r i era n a) e = cc
+passes-enter-none (by_end k r s p m) e = cc
+passes-enter-none (by_apply_behind k message applied r i era n a l) e = cc
+passes-enter-none (by_apply k message applied r i era n a l) e = cc
 passes-enter-none (by_acknowledge k taken r s i era n) e = cc
 
 entered-one : {site : Site} (w : World) (number one : ℕ) (terminal found : Terminal) (opener : Opener) (words : List ℤ)
@@ -102,7 +106,7 @@ pub only-entered : {site : Site} (w next : World) (number : ℕ) (terminal : Ter
     → cause ≡ Entering number → Change site w cause sendings next → slice_get w.terminals number ≡ Some terminal
     → IsAmong sending sendings
     → SendsNext site number terminal sending
-only-entered w next number terminal cause sendings sending e (by_own n k pair p r c a enters) there i =
+only-entered w next number terminal cause sendings sending e (by_own n k pair p r c a enters fr) there i =
     absurd (own-enters-none c e)
 only-entered w next number terminal cause sendings sending e (by_checkpoint n pair t p) there i =
     absurd (passes-enter-none p e)
@@ -113,5 +117,6 @@ only-entered w next number terminal cause sendings sending e (by_enter {words = 
     i =
     entered-one w number one terminal found opener words sending (same-entering e) there t q o i
 only-entered w next number terminal cause sendings sending e (by_print n found reply t f j o m) there i = absurd (cc)
-only-entered w next number terminal cause sendings sending e (by_stop x s) there i = absurd (cc)
+only-entered w next number terminal cause sendings sending e (by_stop x s h) there i = absurd (cc)
 only-entered w next number terminal cause sendings sending e (by_mark m x s q n) there i = absurd (cc)
+only-entered w next number terminal cause sendings sending e (by_reload x s m t l) there i = absurd (cc)

@@ -16,7 +16,7 @@ use Rattle.checkpoint_image.specs.declared.receive.OpenerBlock.{OpenerBlock}
 use Rattle.checkpoint_image.specs.declared.receive.ReceiveBlock.{ReceiveBlock}
 use Rattle.checkpoint_image.specs.declared.receive.RequestStanding.TheVariants.{Next, InHand, Ahead}
 use Rattle.world_semantics.specs.declared.role.Role.{Role}
-use Rattle.world_semantics.specs.declared.role.Role.TheVariants.{Acting, Watching}
+use Rattle.world_semantics.specs.declared.role.Role.TheVariants.{Acting, Watching, Blank}
 use Rattle.checkpoint_image.specs.Receive.{holds, answered, reply_kept, kept_or_old, standing_in, standing_by, standing}
 use Rattle.checkpoint_image.specs.Receive.{after_taking, after_answering, last_ones, Chosen, chosen, is_waiting, waits}
 use Rattle.checkpoint_image.specs.Receive.{came, still_waiting}
@@ -34,7 +34,7 @@ use Rattle.world_semantics.proofs.Runs.{holds-on}
 use Rattle.world_semantics.proofs.Waiting.{AreSingle, waits-all, waits-single, came-single, still-single, chosen-rest}
 use Rattle.world_semantics.proofs.Waiting.{taken-single, taken-alone}
 use Rattle.world_semantics.proofs.Becoming as becoming
-use Rattle.world_semantics.proofs.Becoming.{Becomes, entered-same, was-role, change-was}
+use Rattle.world_semantics.proofs.Becoming.{Becomes, acting-gets-none, entered-same, was-role, change-was}
 
 -- Standing
 
@@ -193,24 +193,31 @@ own-tidy (by_reply i o n u) (gets p f) ok = ok
 abbrev pub IsTidy : Copy → Type 0
 IsTidy copy = Tidy copy.role copy.core.receive copy.waiting
 
+-- nothing waits
+begin-tidy : (role : Role) (table : ReceiveBlock) → Tidy role table []
+begin-tidy role table =
+    record { single = record { single = λ opener. omega arith }; untaken = λ acting request i. absurd i }
+
 becomes-tidy : {site : Site} {w : World} {number : ℕ} {pair : Pair} {sent : List ImageMessage} {k : Which}
     {cause : Cause} {after : Copy} → Becomes site w number pair sent k cause after
     → IsTidy (copy_of k pair) → IsTidy after
 becomes-tidy becoming.stays ok = ok
-becomes-tidy (becoming.acts {after = after} {core = core} r c a e) ok =
+becomes-tidy (becoming.acts {after = after} {core = core} r c a e fr) ok =
     subst (λ role. Tidy role core.receive after.waiting) (sym (entered-same e).role) (own-tidy c a ok)
 becomes-tidy (becoming.sends r p i) ok = ok
 becomes-tidy (becoming.passes r) ok = ok
+becomes-tidy (becoming.ends r) ok = ok
 becomes-tidy (becoming.applies message r i e n a) ok = record { single = ok.single; untaken = λ acting. absurd (cc) }
 becomes-tidy (becoming.is_told taken r s i e n) ok = ok
 becomes-tidy becoming.is_freed ok = ok
+becomes-tidy becoming.needs_less ok = ok
 becomes-tidy {pair = pair} {k = k} (becoming.hears request r) ok = record {
   single = came-single (copy_of k pair).core.receive (copy_of k pair).waiting request ok.single;
   untaken = λ acting. came-untaken (copy_of k pair).core.receive (copy_of k pair).waiting request (ok.untaken acting);
 }
 becomes-tidy {pair = pair} {k = k} (becoming.hears_early request r) ok = record {
   single = waits-single (copy_of k pair).waiting request ok.single;
-  untaken = λ acting. absurd (cc);
+  untaken = λ acting. absurd (acting-gets-none _ acting r);
 }
 becomes-tidy {pair = pair} {k = k} (becoming.stops processor) ok = record {
   single = ok.single;
@@ -221,6 +228,8 @@ becomes-tidy {pair = pair} {k = k} (becoming.takes_over node processor t) ok = r
   single = still-single (copy_of k pair).core.receive (copy_of k pair).waiting ok.single;
   untaken = λ acting. still-untaken (copy_of k pair).core.receive (copy_of k pair).waiting;
 }
+becomes-tidy (becoming.is_blank processor here was) ok = begin-tidy Blank _
+becomes-tidy (becoming.renews processor there) ok = ok
 
 abbrev pub AllTidy : World → Type 0
 AllTidy w = (number : ℕ) (pair : Pair) → slice_get w.processes number ≡ Some pair → (k : Which)
@@ -231,10 +240,6 @@ change-tidy : {site : Site} (w next : World) (cause : Cause) (sendings : List Se
 change-tidy w next cause sendings c ok number after now k =
     let was = change-was w next cause sendings c number after now in
     becomes-tidy (was.copies k) (ok number was.before was.there k)
-
-begin-tidy : (role : Role) (table : ReceiveBlock) → Tidy role table []
-begin-tidy role table =
-    record { single = record { single = λ opener. omega arith }; untaken = λ acting request i. absurd i }
 
 tidy-begin : (site : Site) → AllTidy (boot site)
 tidy-begin site = all-begin (λ number pair. (k : Which) → IsTidy (copy_of k pair)) site by-which

@@ -1,6 +1,7 @@
 -- The core of a copy: what its checkpoints carry and restore, as in Bartlett's "A NonStop Kernel". Each act of a
 -- process is a step of the core.
 use Rattle.std.specs.Prelude.{◌≡◌, ℕ, ◌+◌, ℤ, List, [], ◌∷◌, map, is_some, slice_get, slice_set, Option, Some, None}
+use Rattle.std.specs.Prelude.{Bool, false, true}
 use Rattle.std.specs.Option.{option_map, unwrap_or}
 use Rattle.gd_words.specs.declared.device.DeviceCall.{DeviceCall}
 use Rattle.tal_tree.specs.declared.site.Site.{Site}
@@ -8,13 +9,14 @@ use Rattle.tal_tree.specs.declared.site.ProcessSpec.{ProcessSpec}
 use Rattle.tal_tree.specs.declared.site.OpenerSpec.{OpenerSpec}
 use Rattle.plain_semantics.specs.process_semantics.specs.declared.point.Point.TheVariants as point
 use Rattle.plain_semantics.specs.process_semantics.specs.Process as process
-use Rattle.plain_semantics.specs.process_semantics.specs.Image.{image_of, listed_items, listed_files, restored}
+use Rattle.plain_semantics.specs.process_semantics.specs.Image.{image_of, listed_items, listed_files, restored, imaged}
 use Rattle.plain_semantics.specs.Openers.{files_of, openers_of}
 use Rattle.checkpoint_image.specs.declared.receive.OpenerBlock.{OpenerBlock}
 use Rattle.checkpoint_image.specs.declared.receive.ReceiveBlock.{ReceiveBlock}
 use Rattle.checkpoint_image.specs.declared.message.FileNumber.{FileNumber}
 use Rattle.checkpoint_image.specs.declared.message.Image.{Image}
 use Rattle.checkpoint_image.specs.Receive.{after_taking, after_answering}
+use Rattle.process_images.specs.Images.{all_files_of, everything_of}
 
 -- what a process is with its files and openers: its state, the number of the next request on each of its files, and its
 -- receive table
@@ -117,14 +119,38 @@ pub data Advances (openers : List OpenerSpec) (core : Core) : Deed → Core → 
 
 -- Checkpoints
 
--- what a checkpoint of a core carries: the words of its image with the items named there, the next numbers of the files
--- named there, and the receive table
-abbrev pub carried : Core → Image
-carried core = record {
-  body = image_of (listed_items core.state) core.state;
-  files = map (λ file. record { file = file; next = next_on core file }) (listed_files core.state);
+-- what a checkpoint of a core carries that names these items and files: the words of its image with the items, the next
+-- numbers of the files, and the receive table
+abbrev pub carried_with : List ℕ → List ℕ → Core → Image
+carried_with items files core = record {
+  body = image_of items core.state;
+  files = map (λ file. record { file = file; next = next_on core file }) files;
   receive = core.receive;
 }
+
+-- what a core's checkpoint carries: what the CHECKPOINT names
+abbrev pub carried : Core → Image
+carried core = carried_with (listed_items core.state) (listed_files core.state) core
+
+-- what a checkpoint of everything carries: all items that have words, and all files that are opened to a process
+abbrev pub carried_whole : Core → Image
+carried_whole core = carried_with (everything_of core.state) (all_files_of core.state) core
+
+abbrev pub items_for : Bool → process.ProcessState → List ℕ
+items_for true state = everything_of state
+items_for false state = listed_items state
+
+abbrev pub files_for : Bool → process.ProcessState → List ℕ
+files_for true state = all_files_of state
+files_for false state = listed_files state
+
+-- what a checkpoint carries where everything is to be sent, and where it isn't
+abbrev pub carried_by : Bool → Core → Image
+carried_by everything core = carried_with (items_for everything core.state) (files_for everything core.state) core
+
+-- the core that is restored from a checkpoint of a core: at a checkpoint that after it
+abbrev pub imaged_core : Core → Core
+imaged_core core = record core { state = imaged core.state }
 
 abbrev pub with_files : List FileNumber → List ℕ → List ℕ
 with_files [] next = next

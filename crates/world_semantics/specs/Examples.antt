@@ -288,3 +288,26 @@ abbrev pub CanLeave : Site → List Event → List Act → List Role → List (L
 CanLeave site events acts roles waits =
     (w : World) × IsRun site events w × (closed w ≡ acts) × (map (λ pair. pair.second.role) w.processes ≡ roles)
     × (map (λ pair. standings pair.second) w.processes ≡ waits)
+
+-- The reload: as in the takeover, the adder's first copy is lost when it has answered. The second one takes over;
+-- before it does anything the first processor is loaded again, and the copy there gets everything. Then the second
+-- processor stops, and the first copy takes over in its turn and answers anew
+
+-- the events of the reload
+abbrev pub reload_events : List Event
+reload_events =
+    event.Enter 0 ∷ run ∷ run ∷ run ∷ delivery ∷ delivery ∷ run ∷ run ∷ run ∷ run ∷ delivery ∷ delivery ∷ run ∷ run
+    ∷ event.Fail 0 ∷ event.Tick 1 ∷ event.Tick 16
+    ∷ event.Reload 0 ∷ run ∷ delivery ∷ delivery ∷ run ∷ event.Fail 1 ∷ event.Tick 0 ∷ event.Tick 16 ∷ run ∷ delivery
+    ∷ run ∷ []
+
+-- Everything sent between a take and its checkpoint: the adder has taken a request when its second processor stops and
+-- is loaded again. What it sends then keeps the take. After its next checkpoint the first processor stops, and the
+-- second copy answers
+
+-- the events of that
+abbrev pub renewal_events : List Event
+renewal_events =
+    event.Enter 0 ∷ run ∷ run ∷ run ∷ delivery ∷ run ∷ event.Fail 1 ∷ event.Tick 0 ∷ event.Tick 16 ∷ event.Reload 1
+    ∷ run ∷ delivery ∷ delivery ∷ run ∷ run ∷ run ∷ run
+    ∷ delivery ∷ delivery ∷ run ∷ event.Fail 0 ∷ event.Tick 1 ∷ event.Tick 16 ∷ run ∷ delivery ∷ run ∷ []

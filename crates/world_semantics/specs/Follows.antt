@@ -1,11 +1,13 @@
 -- What each event of a schedule permits in the world, and runs.
-use Rattle.std.specs.Prelude.{◌≡◌, ◌≢◌, ℕ, Bool, true, List, [], ◌∷◌, ◌++◌}
+use Rattle.std.specs.Prelude.{◌≡◌, ◌≢◌, ℕ, Bool, true, List, [], ◌∷◌, ◌++◌, Some, false, slice_get}
 use Rattle.tal_tree.specs.declared.site.Site.{Site}
 use Rattle.schedule.specs.declared.event.DriveEvent.{DriveEvent}
 use Rattle.schedule.specs.declared.event.Event.{Event}
 use Rattle.schedule.specs.declared.event.Event.TheVariants.{Run, Enter, Deliver, Lose, Repeat, Tick, Fail, Drive}
+use Rattle.schedule.specs.declared.event.Event.TheVariants.{Reload}
 use Rattle.world_semantics.specs.World.{World, boot, is_running}
 use Rattle.world_semantics.specs.Messages.{Message, Sending, Cause, Running, Entering, Handing, Stopping, NotingDown}
+use Rattle.world_semantics.specs.Messages.{Reloading}
 use Rattle.world_semantics.specs.Rules.{Change}
 
 -- no change of the world is possible for a cause
@@ -19,10 +21,11 @@ pub data NotesDowns (site : Site) (node : ℕ) : World → List Sending → Worl
       → Change site w (NotingDown node processor) sendings next
       → NotesDowns site node next more end → NotesDowns site node w (sendings ++ more) end
 
--- what an event permits: `Run` makes the change for which its process can run, `Enter` that of its terminal, and `Fail`
--- the stop, each where one is possible, and else nothing; `Deliver` does nothing, hands over one message, or makes one
--- mark; `Lose`, `Repeat` and `Drive` do nothing; and the `Tick` of a node that runs stops at most one other processor,
--- and then makes marks at that node
+-- what an event permits: `Run` makes the change for which its process can run, `Enter` that of its terminal, and
+-- `Reload` loads its processor, each where it is possible, and else nothing; `Fail` stops its processor if it hasn't
+-- stopped, and else does nothing; `Deliver` does nothing, hands over one message, or makes one mark; `Lose`, `Repeat`
+-- and `Drive` do nothing; and the `Tick` of a node that runs stops at most one other processor, and then makes marks at
+-- that node. Nothing is permitted that would stop a processor in a world that isn't whole
 pub data Follows (site : Site) (w : World) : Event → List Sending → World → Type 0 where
   runs : {number : ℕ} {sendings : List Sending} {next : World} → Change site w (Running number) sendings next
       → Follows site w (Run number) sendings next
@@ -48,7 +51,11 @@ pub data Follows (site : Site) (w : World) : Event → List Sending → World �
       → Follows site w (Tick node) sendings next
   fails : {processor : ℕ} {next : World} → Change site w (Stopping processor) [] next
       → Follows site w (Fail processor) [] next
-  cannot_fail : {processor : ℕ} → IsIdleFor site w (Stopping processor) → Follows site w (Fail processor) [] w
+  cannot_fail : {processor : ℕ} → slice_get w.stopped processor ≢ Some false
+      → Follows site w (Fail processor) [] w
+  reloads : {processor : ℕ} {next : World} → Change site w (Reloading processor) [] next
+      → Follows site w (Reload processor) [] next
+  cannot_reload : {processor : ℕ} → IsIdleFor site w (Reloading processor) → Follows site w (Reload processor) [] w
   turns_drive : {event : DriveEvent} → Follows site w (Drive event) [] w
 
 -- events, one after the other, lead from one world to another

@@ -1,10 +1,12 @@
 -- Words for the laws of runs.
 use Rattle.std.specs.Prelude.{◌≡◌, ◌≤◌, ℕ, ◌+◌, ◌==◌, ℤ, if◌then◌else◌, true, List, [], ◌∷◌, ◌++◌, slice_get, Some}
+use Rattle.std.specs.Prelude.{Bool, ◌<◌, ◌≢◌, ◌⊎◌}
 use Rattle.gd_words.specs.Members.{IsAmong}
 use Rattle.gd_words.specs.declared.message.Request.{Request}
 use Rattle.gd_words.specs.declared.message.Reply.{Reply}
 use Rattle.tal_tree.specs.declared.site.Site.{Site}
 use Rattle.tal_tree.specs.declared.site.Who.TheVariants as who
+use Rattle.tal_tree.specs.declared.site.ProcessSpec.{ProcessSpec}
 use Rattle.plain_semantics.specs.process_semantics.specs.declared.point.Point.TheVariants as point
 use Rattle.plain_semantics.specs.process_semantics.specs.Process as process
 use Rattle.plain_semantics.specs.Openers.{opener_of}
@@ -14,7 +16,7 @@ use Rattle.checkpoint_image.specs.declared.message.TakenMessage.{TakenMessage}
 use Rattle.checkpoint_image.specs.declared.receive.RequestStanding.TheVariants.{Kept}
 use Rattle.world_semantics.specs.declared.role.Role.TheVariants.{Acting}
 use Rattle.checkpoint_image.specs.Receive.{standing}
-use Rattle.world_semantics.specs.Core.{next_on, carried, put_in}
+use Rattle.world_semantics.specs.Core.{next_on, put_in, carried_by}
 use Rattle.world_semantics.specs.World.{Copy, Pair, Terminal, World, Which, copy_of}
 use Rattle.world_semantics.specs.Messages.{Message, Asking, Replying, Checkpointing, Taking}
 
@@ -32,10 +34,8 @@ pub record IsLaterTerminal (before after : Terminal) : Type 0 where
 abbrev pub HasGrown : {A : Type 0} → List A → List A → Type 0
 HasGrown {A} before after = (more : List A) × (after ≡ more ++ before)
 
--- a process as it is later: its copies are later ones, and the messages that they ever sent to each other only grew
+-- a process as it is later: the messages that its copies ever sent to each other only grew
 pub record IsLaterPair (before after : Pair) : Type 0 where
-  pub first : IsLater before.first after.first
-  pub second : IsLater before.second after.second
   pub checkpoints : HasGrown before.checkpoints after.checkpoints
   pub takens : HasGrown before.takens after.takens
 
@@ -80,10 +80,19 @@ pub record KeepsUp (copy other : Copy) : Type 0 where
   pub one_behind : other.number ≤ copy.number + 1
   pub acknowledged : other.acknowledged ≡ true → copy.number ≡ other.number
 
--- the checkpoint that a copy of a process sent last: it has the copy's era and number, and carries what the copy has
-abbrev pub last_checkpoint : ℕ → Copy → ImageMessage
-last_checkpoint number copy =
-    record { process = number; era = copy.era; number = copy.number; image = carried copy.core }
+-- the checkpoint that a copy of a process sent last, of everything or not: it has the copy's era and number, and
+-- carries what the copy has
+abbrev pub last_checkpoint : Bool → ℕ → Copy → ImageMessage
+last_checkpoint everything number copy =
+    record { process = number; era = copy.era; number = copy.number; image = carried_by everything copy.core }
+
+-- the checkpoint that a copy of a process sent last is among these: its own, where the copy stands at a checkpoint, or
+-- one of everything, where it awaits no reply
+pub record HasSentWhatItHas (number : ℕ) (copy : Copy) (sent : List ImageMessage) : Type 0 where
+  pub everything : Bool
+  pub stands : (process.point copy.core.state ≡ point.AtCheckpoint)
+      ⊎ ((everything ≡ true) × (process.point copy.core.state ≢ point.Await))
+  pub among : IsAmong (last_checkpoint everything number copy) sent
 
 -- a copy after it took over: it has the core that it had, is in the next era, with checkpoint number 0, stands at the
 -- base of its process, and holds nothing
@@ -137,3 +146,9 @@ pub record IsNextOf (site : Site) (number : ℕ) (terminal : Terminal) (request 
 abbrev pub waiting_of : ℕ → List Request → ℕ
 waiting_of opener [] = 0
 waiting_of opener (request ∷ waiting) = (if request.opener == opener then 1 else 0) + waiting_of opener waiting
+
+-- each process of a site is in two of its processors
+abbrev pub IsPlaced : Site → Type 0
+IsPlaced site =
+    (number : ℕ) (spec : ProcessSpec) → slice_get site.processes number ≡ Some spec
+    → (spec.primary < site.processors) × (spec.backup < site.processors) × (spec.primary ≢ spec.backup)

@@ -20,11 +20,12 @@ pub record Sending : Type 0 where
 abbrev pub sent_at : ℕ → List Message → List Sending
 sent_at node messages = map (λ message. record { node = node; message = message }) messages
 
--- what a change is for: a process runs, a terminal enters, a message is handed over at a node, a processor stops, or a
--- node marks a processor
+-- what a change is for: a process runs, a terminal enters, a message is handed over at a node, a processor stops, a
+-- node marks a processor, or a processor is loaded again
 pub data Cause : Type 0 where
   Running : (number : ℕ) → Cause
   Entering : (terminal : ℕ) → Cause
   Handing : (node : ℕ) → (message : Message) → Cause
   Stopping : (processor : ℕ) → Cause
   NotingDown : (node : ℕ) → (processor : ℕ) → Cause
+  Reloading : (processor : ℕ) → Cause

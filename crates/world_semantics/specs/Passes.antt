@@ -1,27 +1,29 @@
 -- How a checkpoint goes from one copy of a process to the other: Bartlett's checkpoint, applied whole. That era and
 -- number choose it is our own rule.
-use Rattle.std.specs.Prelude.{◌≡◌, ◌≤◌, ◌<◌, ℕ, ◌+◌, true, false, List, [], ◌∷◌, Some}
+use Rattle.std.specs.Prelude.{◌≡◌, ◌≤◌, ◌<◌, ℕ, ◌+◌, Bool, true, false, List, [], ◌∷◌, Some, ◌≢◌, ◌⊎◌, ◌++◌}
 use Rattle.gd_words.specs.Members.{IsAmong}
 use Rattle.tal_tree.specs.declared.act.Act.{Act}
 use Rattle.plain_semantics.specs.process_semantics.specs.declared.point.Point.TheVariants as point
 use Rattle.plain_semantics.specs.process_semantics.specs.Process as process
+use Rattle.plain_semantics.specs.process_semantics.specs.declared.point.Point.{Point}
 use Rattle.checkpoint_image.specs.declared.message.ImageMessage.{ImageMessage}
 use Rattle.checkpoint_image.specs.declared.message.TakenMessage.{TakenMessage}
 use Rattle.world_semantics.specs.declared.role.Role.TheVariants.{Acting, Watching}
-use Rattle.world_semantics.specs.Core.{Core, after_passing, carried, put_in}
+use Rattle.world_semantics.specs.Core.{Core, after_passing, put_in, carried_by}
 use Rattle.world_semantics.specs.World.{Copy, Pair, Down, has_noted, Which, other_of, copy_of, with_copy, may_pass}
+use Rattle.world_semantics.specs.World.{receives}
 use Rattle.world_semantics.specs.Kept.{own_acts}
-use Rattle.world_semantics.specs.Shares.{covered_count, share_after_cover, kept_with_checkpoint, share_of, with_share}
+use Rattle.world_semantics.specs.Shares.{kept_with_checkpoint, share_of, acts_at, kept_up_to}
 use Rattle.world_semantics.specs.Messages.{Checkpointing, Taking, Sending, sent_at, Cause, Running, Handing}
 
--- the next checkpoint of an era, behind that of a number, which carries what it does of a core
-abbrev pub next_checkpoint : ℕ → ℕ → ℕ → Core → ImageMessage
-next_checkpoint process era number core =
-    record { process = process; era = era; number = number + 1; image = carried core }
+-- the next checkpoint of an era, behind that of a number, which carries what it does of a core, or everything
+abbrev pub next_checkpoint : ℕ → ℕ → ℕ → Bool → Core → ImageMessage
+next_checkpoint process era number everything core =
+    record { process = process; era = era; number = number + 1; image = carried_by everything core }
 
 -- the checkpoint that a copy of a process sends: the next one of its era
 abbrev pub checkpoint_of : ℕ → Copy → ImageMessage
-checkpoint_of number copy = next_checkpoint number copy.era copy.number copy.core
+checkpoint_of number copy = next_checkpoint number copy.era copy.number copy.renewal copy.core
 
 -- the message that a checkpoint was taken
 abbrev pub taken_of : ImageMessage → TakenMessage
@@ -39,27 +41,66 @@ copy_at_checkpoint copy = record copy { core = after_passing copy.core; sent = f
 abbrev pub kept_at_checkpoint : ℕ → Copy → List Act → List Act
 kept_at_checkpoint number copy kept = kept_with_checkpoint number kept (share_of copy)
 
--- the process after one of its copies applied a checkpoint, by which it has this core: the other copy's held acts and
--- its checkpoint are kept, the base is behind them, and the other copy stands before that checkpoint. It is so too
--- where the other copy is gone: what a copy that is gone keeps is all but its role, its position and its held acts
+abbrev pub point_at : Copy → Point
+point_at copy = process.point copy.core.state
+
+-- the kept acts after a copy's held acts were added, and the step at its checkpoint if it stands at one
+abbrev pub kept_at : ℕ → Copy → List Act → List Act
+kept_at number copy kept = kept_up_to number (point_at copy) kept (share_of copy)
+
+-- whether a copy may send a checkpoint where it stands: at a checkpoint, or, where it has to send everything, at any
+-- point at which it awaits no reply
+abbrev pub MaySend : Copy → Type 0
+MaySend copy = (point_at copy ≡ point.AtCheckpoint) ⊎ ((copy.renewal ≡ true) × (point_at copy ≢ point.Await))
+
+-- the copy after what it has sent came to its end elsewhere than at a checkpoint
+abbrev pub after_sent : Copy → Copy
+after_sent copy = record copy { sent = false; acknowledged = false }
+
+-- the copy after it was told that what it has sent was taken: it has sent everything, if it had to
+abbrev pub after_told : Copy → Copy
+after_told copy = record copy { acknowledged = true; renewal = false }
+
+-- a copy after it applied a checkpoint of this number, by which it has this core
+abbrev pub after_getting : ℕ → Core → Copy → Copy
+after_getting number applied copy = record copy { role = Watching; core = applied; number = number }
+
+-- the process after one of its copies applied a checkpoint of the other one, which is behind the kept acts: the base is
+-- where that one stands, behind its checkpoint if it stands at one
+abbrev pub after_applying_behind : ℕ → Which → ImageMessage → Core → Pair → Pair
+after_applying_behind number k message applied pair =
+    with_copy k (after_getting message.number applied (copy_of k pair))
+    (record pair {
+      base = (copy_of (other_of k) pair).position
+          + own_acts number (acts_at number (point_at (copy_of (other_of k) pair)));
+      takens = taken_of message ∷ pair.takens;
+    })
+
+-- the process after one of its copies applied a checkpoint of the other one, which isn't behind them: that one's held
+-- acts are kept, and its checkpoint if it stands at one; the base is behind them, and that one stands before the
+-- checkpoint. It is so too where that copy is gone: what a copy that is gone keeps is all but its role, its position
+-- and its held acts
 abbrev pub after_applying : ℕ → Which → ImageMessage → Core → List Act → Pair → Pair
 after_applying number k message applied kept pair =
-    with_copy k (record (copy_of k pair) { core = applied; number = message.number })
-    (with_copy (other_of k) (with_share (share_after_cover number kept (share_of (copy_of (other_of k) pair))).share
-    (copy_of (other_of k) pair))
+    with_copy k (after_getting message.number applied (copy_of k pair))
+    (with_copy (other_of k)
+    (record (copy_of (other_of k) pair) {
+      position = own_acts number ((copy_of (other_of k) pair).held ++ kept);
+      held = [];
+    })
     (record pair {
-      base = covered_count number kept (share_of (copy_of (other_of k) pair));
+      base = own_acts number (kept_at number (copy_of (other_of k) pair) kept);
       takens = taken_of message ∷ pair.takens;
     }))
 
--- how a checkpoint goes from one copy of a process to the other. A copy that acts at a checkpoint sends its checkpoint,
--- unless it did or its node has marked the other copy's processor; a watching copy applies a sent checkpoint whose era
--- is its own and whose number is the next; a copy that acts is told that the checkpoint which it has sent was taken;
--- and it passes its checkpoint, which it did already, or which is kept now with its held acts before it
+-- how a checkpoint goes from one copy of a process to the other. A copy that acts sends one where it may, unless it did
+-- or its node has marked the other copy's processor. A copy that watches or is blank applies a sent checkpoint whose
+-- era is its own and whose number is the next, and watches then. A copy that acts is told that what it has sent was
+-- taken. It passes its checkpoint, which it did already, or which is kept now with its held acts before it; elsewhere
+-- what it has sent comes to its end
 pub data Passes (number : ℕ) (marks : List Down) (kept : List Act) (pair : Pair) : Cause → List Sending → Pair
     → List Act → Type 0 where
-  by_send : (k : Which) → (copy_of k pair).role ≡ Acting
-      → process.point (copy_of k pair).core.state ≡ point.AtCheckpoint → (copy_of k pair).sent ≡ false
+  by_send : (k : Which) → (copy_of k pair).role ≡ Acting → MaySend (copy_of k pair) → (copy_of k pair).sent ≡ false
       → has_noted marks (copy_of k pair).processor (copy_of (other_of k) pair).processor ≡ false
       → Passes number marks kept pair (Running number)
       (sent_at (copy_of k pair).processor (Checkpointing (checkpoint_of number (copy_of k pair)) ∷ []))
@@ -78,16 +119,30 @@ pub data Passes (number : ℕ) (marks : List Down) (kept : List Act) (pair : Pai
       (with_copy k (record (copy_at_checkpoint (copy_of k pair))
       { position = own_acts number (kept_at_checkpoint number (copy_of k pair) kept); held = [] }) pair)
       (kept_at_checkpoint number (copy_of k pair) kept)
-  by_apply : (k : Which) (message : ImageMessage) (applied : Core) → (copy_of k pair).role ≡ Watching
+  by_end : (k : Which) → (copy_of k pair).role ≡ Acting → (copy_of k pair).sent ≡ true
+      → point_at (copy_of k pair) ≢ point.AtCheckpoint
+      → may_pass marks k pair ≡ true
+      → Passes number marks kept pair (Running number) []
+      (with_copy k (after_sent (copy_of k pair)) pair) kept
+  by_apply_behind : (k : Which) (message : ImageMessage) (applied : Core) → receives (copy_of k pair).role ≡ true
       → IsAmong message pair.checkpoints
       → message.era ≡ (copy_of k pair).era → message.number ≡ (copy_of k pair).number + 1
       → put_in (copy_of k pair).core message.image ≡ Some applied
+      → (copy_of (other_of k) pair).position < own_acts number kept
+      → Passes number marks kept pair (Handing (copy_of k pair).processor (Checkpointing message))
+      (sent_at (copy_of k pair).processor (Taking (taken_of message) ∷ []))
+      (after_applying_behind number k message applied pair) kept
+  by_apply : (k : Which) (message : ImageMessage) (applied : Core) → receives (copy_of k pair).role ≡ true
+      → IsAmong message pair.checkpoints
+      → message.era ≡ (copy_of k pair).era → message.number ≡ (copy_of k pair).number + 1
+      → put_in (copy_of k pair).core message.image ≡ Some applied
+      → own_acts number kept ≤ (copy_of (other_of k) pair).position
       → Passes number marks kept pair (Handing (copy_of k pair).processor (Checkpointing message))
       (sent_at (copy_of k pair).processor (Taking (taken_of message) ∷ []))
       (after_applying number k message applied kept pair)
-      (kept_at_checkpoint number (copy_of (other_of k) pair) kept)
+      (kept_at number (copy_of (other_of k) pair) kept)
   by_acknowledge : (k : Which) (taken : TakenMessage) → (copy_of k pair).role ≡ Acting → (copy_of k pair).sent ≡ true
       → IsAmong taken pair.takens
       → taken.era ≡ (copy_of k pair).era → taken.number ≡ (copy_of k pair).number
       → Passes number marks kept pair (Handing (copy_of k pair).processor (Taking taken)) []
-      (with_copy k (record (copy_of k pair) { acknowledged = true }) pair) kept
+      (with_copy k (after_told (copy_of k pair)) pair) kept

@@ -1,7 +1,7 @@
 -- What a process does where it runs, computed: told of the process alone, its two copies and the records of what
 -- happened, and then of the world in which it stands. `Follows` says what is permitted, and laws relate both.
 use Rattle.std.specs.Prelude.{ℕ, ℤ, Bool, true, false, if◌then◌else◌, List, [], ◌∷◌, ◌++◌, map, slice_get, Option, Some}
-use Rattle.std.specs.Prelude.{None}
+use Rattle.std.specs.Prelude.{None, not}
 use Rattle.std.specs.Option.{option_map}
 use Rattle.gd_words.specs.declared.device.DeviceCall.{DeviceCall}
 use Rattle.gd_words.specs.declared.device.DeviceCall.TheVariants.{Write}
@@ -17,14 +17,14 @@ use Rattle.plain_semantics.specs.Openers.{openers_of}
 use Rattle.disc_device.specs.Sectors.{stored_after}
 use Rattle.checkpoint_image.specs.declared.receive.OpenerBlock.{OpenerBlock}
 use Rattle.world_semantics.specs.declared.role.Role.{Role}
-use Rattle.world_semantics.specs.declared.role.Role.TheVariants.{Acting, Watching, Gone}
+use Rattle.world_semantics.specs.declared.role.Role.TheVariants.{Acting, Watching, Gone, Blank}
 use Rattle.checkpoint_image.specs.Receive.{Chosen, chosen}
 use Rattle.world_semantics.specs.Core.{Core, core_acting, core_asked, core_going, core_replied, core_taken}
 use Rattle.world_semantics.specs.World.{Copy, Down, Pair, World, Which, First, Second, copy_of, with_copy, may_pass}
-use Rattle.world_semantics.specs.World.{with_pair}
+use Rattle.world_semantics.specs.World.{with_pair, has_noted, other_of}
 use Rattle.world_semantics.specs.Messages.{Message, Asking, Replying, Checkpointing, Sending, sent_at}
 use Rattle.world_semantics.specs.Own.{Around, around_with, asked_on, is_new_write, found_on}
-use Rattle.world_semantics.specs.Passes.{checkpoint_of, after_sending, copy_at_checkpoint}
+use Rattle.world_semantics.specs.Passes.{checkpoint_of, after_sending, copy_at_checkpoint, after_sent}
 use Rattle.world_semantics.specs.Records.{Records, records_of}
 use Rattle.world_semantics.specs.Shares.{after_entering, share_after_act, share_after_pass, share_of, with_share}
 
@@ -210,6 +210,37 @@ mark_step number k pair records true sent = Some (passing_step number k pair rec
 mark_step number k pair records false true = None
 mark_step number k pair records false false = Some (sending_step number k pair records)
 
+-- Everything
+
+-- what a copy has sent elsewhere than at a checkpoint comes to its end
+abbrev pub ending_step : ℕ → Which → Pair → Records → Stepped
+ending_step number k pair records = record {
+  pair = with_copy k (after_sent (copy_of k pair)) pair;
+  records = records;
+  sendings = [];
+}
+
+abbrev pub step_if : Bool → Stepped → Option Stepped
+step_if true step = Some step
+step_if false step = None
+
+-- a copy that has to send everything does so at any point at which it awaits no reply, if its node hasn't marked the
+-- other copy's processor
+abbrev pub renewing_step : ℕ → Which → Pair → List Down → Records → Point → Option Stepped
+renewing_step number k pair marks records point.Await = None
+renewing_step number k pair marks records stands =
+    step_if (not (has_noted marks (copy_of k pair).processor (copy_of (other_of k) pair).processor))
+    (sending_step number k pair records)
+
+-- elsewhere than at a checkpoint: what was sent comes to its end where it may, and else everything is sent if it has to
+-- be, and else the copy does an act of its own
+abbrev pub free_step : Site → ℕ → Which → Pair → List Down → Records → Point → Bool → Bool → Option Stepped
+free_step site number k pair marks records stands true renewal =
+    step_if (may_pass marks k pair) (ending_step number k pair records)
+free_step site number k pair marks records stands false true = renewing_step number k pair marks records stands
+free_step site number k pair marks records stands false false =
+    option_map (own_step number k pair records) (own_of site number k pair records stands)
+
 -- Runs
 
 -- the step of a copy that acts and stands at this point; none where it can't go on
@@ -217,12 +248,13 @@ abbrev pub step_at : Site → ℕ → Which → Pair → List Down → Records �
 step_at site number k pair marks records point.AtCheckpoint =
     mark_step number k pair records (may_pass marks k pair) (copy_of k pair).sent
 step_at site number k pair marks records stands =
-    option_map (own_step number k pair records) (own_of site number k pair records stands)
+    free_step site number k pair marks records stands (copy_of k pair).sent (copy_of k pair).renewal
 
 abbrev pub step_as : Site → ℕ → Which → Pair → List Down → Records → Role → Option Stepped
 step_as site number k pair marks records Acting =
     step_at site number k pair marks records (process.point (copy_of k pair).core.state)
 step_as site number k pair marks records Watching = None
+step_as site number k pair marks records Blank = None
 step_as site number k pair marks records Gone = None
 
 -- the step of one copy; none where it can't make one

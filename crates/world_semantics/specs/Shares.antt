@@ -6,6 +6,8 @@ use Rattle.tal_tree.specs.declared.act.Act.{Act}
 use Rattle.tal_tree.specs.declared.act.Act.TheVariants.{Step}
 use Rattle.world_semantics.specs.World.{Copy, Pair}
 use Rattle.world_semantics.specs.Kept.{own_acts, is_take}
+use Rattle.plain_semantics.specs.process_semantics.specs.declared.point.Point.{Point}
+use Rattle.plain_semantics.specs.process_semantics.specs.declared.point.Point.TheVariants as point
 
 -- a copy's share: how many of its process's kept acts it has done, and the acts that it did beyond them, the newest
 -- first
@@ -72,15 +74,41 @@ passing_where number kept share false =
 abbrev pub share_after_pass : ℕ → List Act → Share → Sharing
 share_after_pass number kept share = passing_where number kept share (nat_lt share.position (own_acts number kept))
 
--- the other copy applied this copy's checkpoint: the held acts and the checkpoint are kept, and this copy stands before
--- the checkpoint
-abbrev pub share_after_cover : ℕ → List Act → Share → Sharing
-share_after_cover number kept share =
-    record { share = share_from (own_acts number (share.held ++ kept)); kept = kept_with_checkpoint number kept share }
+-- the act of a process at its checkpoint, where it stands at one
+abbrev pub acts_at : ℕ → Point → List Act
+acts_at number point.AtCheckpoint = Step number ∷ []
+acts_at number point.Inner = []
+acts_at number point.Take = []
+acts_at number point.Ask = []
+acts_at number point.Await = []
+acts_at number point.Answer = []
+acts_at number point.Device = []
+acts_at number point.Ended = []
 
--- how many kept acts of the process that checkpoint covers: the one at the checkpoint is the last of them
-abbrev pub covered_count : ℕ → List Act → Share → ℕ
-covered_count number kept share = own_acts number (kept_with_checkpoint number kept share)
+-- the kept acts after the held acts were added, and the act at the checkpoint if a process stands at one
+abbrev pub kept_up_to : ℕ → Point → List Act → Share → List Act
+kept_up_to number stands kept share = acts_at number stands ++ (share.held ++ kept)
+
+abbrev pub covering_where : ℕ → Point → List Act → Share → Bool → Sharing
+covering_where number stands kept share true = record { share = share; kept = kept }
+covering_where number stands kept share false =
+    record { share = share_from (own_acts number (share.held ++ kept)); kept = kept_up_to number stands kept share }
+
+-- the other copy applied a checkpoint of this copy, which stands at this point: that changes nothing where this copy is
+-- behind the kept acts. Else what it holds is kept, and its act at the checkpoint, before which it then stands
+abbrev pub share_after_cover : ℕ → Point → List Act → Share → Sharing
+share_after_cover number stands kept share =
+    covering_where number stands kept share (nat_lt share.position (own_acts number kept))
+
+abbrev pub covered_where : ℕ → Point → List Act → Share → Bool → ℕ
+covered_where number stands kept share true = share.position + own_acts number (acts_at number stands)
+covered_where number stands kept share false = own_acts number (kept_up_to number stands kept share)
+
+-- how many kept acts of the process that checkpoint covers: those that this copy has done, and the one at the
+-- checkpoint if it stands at one
+abbrev pub covered_count : ℕ → Point → List Act → Share → ℕ
+covered_count number stands kept share =
+    covered_where number stands kept share (nat_lt share.position (own_acts number kept))
 
 -- Stops and the end
 

@@ -3,7 +3,7 @@
 -- first, so what is added stands before what was there; processes, terminals, sectors and waiting requests stand in
 -- their order.
 use Rattle.std.specs.Prelude.{ℕ, ◌+◌, ◌==◌, ◌&&◌, Bool, false, not, ◌||◌, List, [], ◌∷◌, map, replicate, slice_get}
-use Rattle.std.specs.Prelude.{slice_set, Option, Some, None}
+use Rattle.std.specs.Prelude.{slice_set, Option, Some, None, true}
 use Rattle.std.specs.List.{list_any}
 use Rattle.gd_words.specs.declared.message.Request.{Request}
 use Rattle.gd_words.specs.declared.message.Reply.{Reply}
@@ -17,15 +17,15 @@ use Rattle.disc_device.specs.Sectors.{Stored, blank}
 use Rattle.checkpoint_image.specs.declared.message.ImageMessage.{ImageMessage}
 use Rattle.checkpoint_image.specs.declared.message.TakenMessage.{TakenMessage}
 use Rattle.world_semantics.specs.declared.role.Role.{Role}
-use Rattle.world_semantics.specs.declared.role.Role.TheVariants.{Acting, Watching}
+use Rattle.world_semantics.specs.declared.role.Role.TheVariants.{Acting, Watching, Blank, Gone}
 pub use Rattle.world_semantics.specs.declared.which.Which.{Which}
 pub use Rattle.world_semantics.specs.declared.which.Which.TheVariants.{First, Second}
 use Rattle.world_semantics.specs.Core.{Core, core_at_boot}
 
 -- a copy of a process: the processor in which it is, its role, its era, the number of the last checkpoint sent or
--- applied in that era, whether it has sent the checkpoint at which it stands, whether that was acknowledged, its core,
--- and the requests that wait. Its position is how many of the process's kept acts it has done, and its held acts are
--- those that it did beyond them
+-- applied in that era, whether it has sent a checkpoint where it stands, whether that was acknowledged, whether it has
+-- to send everything that it has, its core, and the requests that wait. Its position is how many of the process's kept
+-- acts it has done, and its held acts are those that it did beyond them
 pub record Copy : Type 0 where
   pub processor : ℕ
   pub role : Role
@@ -33,13 +33,16 @@ pub record Copy : Type 0 where
   pub number : ℕ
   pub sent : Bool
   pub acknowledged : Bool
+  pub renewal : Bool
   pub core : Core
   pub waiting : List Request
   pub position : ℕ
   pub held : List Act
 
 -- a process: its copies in its two processors, how many of its kept acts the last applied checkpoint covers, the
--- checkpoints that its copies ever sent and the messages that those were taken, and the sectors of its device
+-- checkpoints that its copies ever sent and the messages that those were taken, the sectors of its device, and the copy
+-- that leads: nodes send to it which haven't marked its processor. It is the first one at the beginning, and the one
+-- that acts when the other one's processor is loaded again
 pub record Pair : Type 0 where
   pub first : Copy
   pub second : Copy
@@ -47,6 +50,7 @@ pub record Pair : Type 0 where
   pub checkpoints : List ImageMessage
   pub takens : List TakenMessage
   pub sectors : List Stored
+  pub led : Which
 
 -- a terminal: how many requests it has entered, and how many replies it has printed
 pub record Terminal : Type 0 where
@@ -58,10 +62,11 @@ pub record Down : Type 0 where
   pub node : ℕ
   pub down : ℕ
 
--- the world: which processors have stopped, which node has marked which, the requests and replies ever sent, the
--- processes, the terminals, what was shown, and the acts that are kept
+-- the world: which processors have stopped, how many times each was loaded again, which node has marked which, the
+-- requests and replies ever sent, the processes, the terminals, what was shown, and the acts that are kept
 pub record World : Type 0 where
   pub stopped : List Bool
+  pub reloads : List ℕ
   pub marks : List Down
   pub requests : List Request
   pub replies : List Reply
@@ -80,6 +85,7 @@ copy_at_boot role processor core = record {
   number = 0;
   sent = false;
   acknowledged = false;
+  renewal = false;
   core = core;
   waiting = [];
   position = 0;
@@ -100,6 +106,7 @@ pair_at_boot site number spec = record {
   checkpoints = [];
   takens = [];
   sectors = device_at_boot spec.what;
+  led = First;
 }
 
 abbrev pub pairs_at_boot : Site → ℕ → List ProcessSpec → List Pair
@@ -110,6 +117,7 @@ pairs_at_boot site number (spec ∷ specs) = pair_at_boot site number spec ∷ p
 abbrev pub boot : Site → World
 boot site = record {
   stopped = replicate site.processors false;
+  reloads = replicate site.processors 0;
   marks = [];
   requests = [];
   replies = [];
@@ -137,6 +145,19 @@ is_running stopped node = runs_by node (slice_get stopped node)
 abbrev pub has_noted : List Down → ℕ → ℕ → Bool
 has_noted marks node processor = list_any (λ mark. mark.node == node && mark.down == processor) marks
 
+-- whether each of these processors, from a number on, that runs has marked a processor
+abbrev pub noted_from : List Down → ℕ → ℕ → List Bool → Bool
+noted_from marks processor from [] = true
+noted_from marks processor from (true ∷ stopped) = noted_from marks processor (from + 1) stopped
+noted_from marks processor from (false ∷ stopped) =
+    has_noted marks from processor && noted_from marks processor (from + 1) stopped
+
+-- whether each node that runs has marked a processor
+abbrev pub is_noted_by_all : World → ℕ → Bool
+is_noted_by_all w processor =
+    noted_from w.marks processor 0 w.stopped
+    && (not (is_running w.stopped terminal_node) || has_noted w.marks terminal_node processor)
+
 abbrev pub other_of : Which → Which
 other_of First = Second
 other_of Second = First
@@ -155,6 +176,37 @@ with_copy Second copy pair = record pair { second = copy }
 abbrev pub may_pass : List Down → Which → Pair → Bool
 may_pass marks k pair =
     (copy_of k pair).acknowledged || has_noted marks (copy_of k pair).processor (copy_of (other_of k) pair).processor
+
+abbrev pub is_acting : Role → Bool
+is_acting Acting = true
+is_acting Watching = false
+is_acting Blank = false
+is_acting Gone = false
+
+abbrev pub is_watching : Role → Bool
+is_watching Watching = true
+is_watching Acting = false
+is_watching Blank = false
+is_watching Gone = false
+
+-- whether of two copies one acts and the other watches
+abbrev pub is_pair_of : Role → Role → Bool
+is_pair_of Acting other = is_watching other
+is_pair_of Watching other = is_acting other
+is_pair_of Blank other = false
+is_pair_of Gone other = false
+
+-- whether a copy gets checkpoints: it watches, or it is blank
+abbrev pub receives : Role → Bool
+receives Watching = true
+receives Blank = true
+receives Acting = false
+receives Gone = false
+
+-- whether a world is whole: no processor has stopped, and each process has a copy that acts and one that watches
+abbrev pub is_whole : World → Bool
+is_whole w = not (list_any (λ stopped. stopped) w.stopped)
+    && not (list_any (λ pair. not (is_pair_of pair.first.role pair.second.role)) w.processes)
 
 -- the world with a process changed
 abbrev pub with_pair : ℕ → Pair → World → World

@@ -1,9 +1,10 @@
 ghost use Rattle.std.specs.Prelude.{◌≡◌, pos, [], ◌∷◌, reverse};
 ghost use Rattle.plain_semantics.specs.Machine.{IsPossible, shown_by};
 ghost use Rattle.world_semantics.specs.Examples.{adder_for, disc_site, takeover_events, takeover_acts, takeover_shown};
-ghost use Rattle.world_semantics.specs.Examples.{lost_take_events, lost_take_acts, lost_take_shown, disc_events};
-ghost use Rattle.world_semantics.specs.Examples.{disc_acts, disc_shown, bank_site, repeat_events, repeat_acts};
-ghost use Rattle.world_semantics.specs.Examples.{repeat_shown, echo_site, ahead_events, ahead_acts, CanKeep, CanLeave};
+ghost use Rattle.world_semantics.specs.Examples.{reload_events, renewal_events, lost_take_events, lost_take_acts};
+ghost use Rattle.world_semantics.specs.Examples.{lost_take_shown, disc_events, disc_acts, disc_shown, bank_site};
+ghost use Rattle.world_semantics.specs.Examples.{repeat_events, repeat_acts, repeat_shown, echo_site, ahead_events};
+ghost use Rattle.world_semantics.specs.Examples.{ahead_acts, CanKeep, CanLeave};
 ghost use Rattle.checkpoint_image.specs.declared.receive.RequestStanding.TheVariants.{Ahead};
 ghost use Rattle.world_semantics.specs.declared.role.Role.TheVariants.{Acting};
 
@@ -13,6 +14,14 @@ pub fn an_adder_is_taken_over()
     ensures run { CanKeep (adder_for (pos 5 ∷ [])) takeover_events takeover_acts takeover_shown }
     ensures possible { IsPossible (adder_for (pos 5 ∷ [])) takeover_acts }
     ensures shown { shown_by (adder_for (pos 5 ∷ [])) takeover_acts ≡ reverse takeover_shown }
+{}
+
+/// The adder's second copy takes over, and before it does anything the first processor is loaded again: the copy there
+/// gets all that the second one has. Then the second processor stops, and the first copy takes over and answers anew:
+/// the acts that are kept are the same.
+pub fn an_adder_is_taken_over_twice()
+    ensures run { CanKeep (adder_for (pos 5 ∷ [])) reload_events takeover_acts takeover_shown }
+    ensures renewal { CanKeep (adder_for (pos 5 ∷ [])) renewal_events takeover_acts takeover_shown }
 {}
 
 /// A take that is lost with its processor leaves nothing: the copy that takes over takes another request in its place.

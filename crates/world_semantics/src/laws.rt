@@ -1,4 +1,4 @@
-ghost use Rattle.std.specs.Prelude.{◌≡◌, ◌≤◌, ◌↔◌, ℕ, List, slice_get, Some, None, is_some, true};
+ghost use Rattle.std.specs.Prelude.{◌≡◌, ◌≤◌, ◌↔◌, ◌⊎◌, ℕ, List, slice_get, Some, None, is_some, true};
 ghost use Rattle.gd_words.specs.Members.{IsAmong};
 ghost use Rattle.tal_tree.specs.declared.site.Site.{Site};
 ghost use Rattle.schedule.specs.declared.event.Event.{Event};
@@ -8,10 +8,10 @@ ghost use Rattle.world_semantics.specs.declared.role.Role.TheVariants.{Acting, G
 ghost use Rattle.world_semantics.specs.World.{Pair, Down, Terminal, World, Which, copy_of};
 ghost use Rattle.world_semantics.specs.Kept.{own_acts};
 ghost use Rattle.world_semantics.specs.Follows.{Follows, IsIdleFor, Leads, IsRun};
-ghost use Rattle.world_semantics.specs.Messages.{Message, Cause, Sending, Running, Handing};
+ghost use Rattle.world_semantics.specs.Messages.{Message, Cause, Sending, Running, Handing, Reloading};
 ghost use Rattle.world_semantics.specs.Rules.{Change};
 ghost use Rattle.world_semantics.specs.Running.{Done, run_done, world_after, sendings_of};
-ghost use Rattle.world_semantics.specs.Laws.{IsLater, IsLaterTerminal, HasGrown, WasSent};
+ghost use Rattle.world_semantics.specs.Laws.{IsLater, IsLaterTerminal, HasGrown, IsPlaced, WasSent};
 
 /// In a run only processors that have stopped are marked.
 pub fn marked_have_stopped()
@@ -19,17 +19,19 @@ pub fn marked_have_stopped()
         → IsAmong mark w.marks → slice_get w.stopped mark.down ≡ Some true }
 {}
 
-/// Where at most one processor has stopped, all marks of a run name the same one.
+/// In a run at most one processor has stopped at any moment, and all marks name it.
 pub fn marks_name_one_processor()
-    ensures { (site : Site) (events : List Event) (w : World) (one other : Down) → IsRun site events w
-        → ((x y : ℕ) → slice_get w.stopped x ≡ Some true → slice_get w.stopped y ≡ Some true → x ≡ y)
+    ensures stopped { (site : Site) (events : List Event) (w : World) (x y : ℕ) → IsRun site events w
+        → slice_get w.stopped x ≡ Some true → slice_get w.stopped y ≡ Some true → x ≡ y }
+    ensures marks { (site : Site) (events : List Event) (w : World) (one other : Down) → IsRun site events w
         → IsAmong one w.marks → IsAmong other w.marks → one.down ≡ other.down }
 {}
 
-/// A processor that has stopped stays so.
-pub fn stops_stay()
-    ensures { (site : Site) (events : List Event) (w end : World) (processor : ℕ) → Leads site w events end
-        → slice_get w.stopped processor ≡ Some true → slice_get end.stopped processor ≡ Some true }
+/// A processor that has stopped stays so until it is loaded again.
+pub fn only_a_reload_starts_a_processor()
+    ensures { (site : Site) (w next : World) (cause : Cause) (sendings : List Sending) (processor : ℕ)
+        → Change site w cause sendings next → slice_get w.stopped processor ≡ Some true
+        → (slice_get next.stopped processor ≡ Some true) ⊎ (cause ≡ Reloading processor) }
 {}
 
 /// In a run a copy is gone exactly where its processor has stopped.
@@ -55,10 +57,11 @@ pub fn positions_are_kept()
         → slice_get w.processes number ≡ Some pair → pair.base ≤ own_acts number w.kept }
 {}
 
-/// No era falls, and no number of checkpoints while the era stays; no terminal's numbers fall.
+/// In a run of a site whose processes are each in two of its processors no era falls, and no number of checkpoints
+/// while the era stays. No terminal's numbers fall.
 pub fn numbers_never_fall()
-    ensures copies { (site : Site) (events : List Event) (w end : World) (number : ℕ) (before after : Pair) (k : Which)
-        → Leads site w events end
+    ensures copies { (site : Site) (events more : List Event) (w end : World) (number : ℕ) (before after : Pair)
+        (k : Which) → IsPlaced site → IsRun site events w → Leads site w more end
         → slice_get w.processes number ≡ Some before → slice_get end.processes number ≡ Some after
         → IsLater (copy_of k before) (copy_of k after) }
     ensures terminals { (site : Site) (events : List Event) (w end : World) (number : ℕ) (before after : Terminal)

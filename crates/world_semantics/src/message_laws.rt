@@ -7,37 +7,41 @@ ghost use Rattle.tal_tree.specs.declared.act.Shown.{Shown};
 ghost use Rattle.tal_tree.specs.declared.act.Shown.TheVariants as shown;
 ghost use Rattle.tal_tree.specs.declared.site.Site.{Site};
 ghost use Rattle.schedule.specs.declared.event.Event.{Event};
-ghost use Rattle.plain_semantics.specs.process_semantics.specs.declared.point.Point.TheVariants.{AtCheckpoint};
-ghost use Rattle.plain_semantics.specs.process_semantics.specs.Process.{point, after_got};
+ghost use Rattle.plain_semantics.specs.process_semantics.specs.Process.{after_got};
 ghost use Rattle.checkpoint_image.specs.declared.message.ImageMessage.{ImageMessage};
 ghost use Rattle.checkpoint_image.specs.declared.message.TakenMessage.{TakenMessage};
 ghost use Rattle.checkpoint_image.specs.declared.receive.RequestStanding.TheVariants.{Next, Ahead};
 ghost use Rattle.world_semantics.specs.declared.role.Role.TheVariants.{Acting, Watching};
-ghost use Rattle.world_semantics.specs.World.{Pair, Terminal, World, Which, copy_of, other_of, terminal_node};
+ghost use Rattle.world_semantics.specs.World.{Pair, Terminal, World, Which, copy_of, other_of, receives};
+ghost use Rattle.world_semantics.specs.World.{terminal_node};
 ghost use Rattle.checkpoint_image.specs.Receive.{standing, reply_to};
 ghost use Rattle.world_semantics.specs.Follows.{IsRun};
 ghost use Rattle.world_semantics.specs.Messages.{Asking, Replying, Checkpointing, Taking, Cause, Sending, Entering};
-ghost use Rattle.world_semantics.specs.Messages.{Handing, NotingDown};
+ghost use Rattle.world_semantics.specs.Messages.{Handing, NotingDown, Reloading};
 ghost use Rattle.world_semantics.specs.Rules.{Change};
 ghost use Rattle.world_semantics.specs.Laws.{HasStayed, IsNextFor, HasApplied, Acknowledges, KeepsUp, HasTakenOver};
-ghost use Rattle.world_semantics.specs.Laws.{last_checkpoint, Awaits, AwaitsAt, KeepsReplyTo, IsNextOf, waiting_of};
+ghost use Rattle.world_semantics.specs.Laws.{HasSentWhatItHas, Awaits, AwaitsAt, KeepsReplyTo, IsNextOf, IsPlaced};
+ghost use Rattle.world_semantics.specs.Laws.{waiting_of};
 
-/// A checkpoint of another era, or of another number than the next, is never applied: what a copy that watches has, and
-/// the number of its last checkpoint, change only by a checkpoint of its process that comes to it, is of its own era
-/// and has the number next to its own. A checkpoint that comes changes no other copy's.
+/// A checkpoint of another era, or of another number than the next, is never applied: what a copy that watches or is
+/// blank has, and the number of its last checkpoint, change only by a checkpoint of its process that comes to it, is of
+/// its own era and has the number next to its own, or when its processor is loaded again. A checkpoint that comes
+/// changes no other copy's.
 pub fn checkpoints_are_applied_in_order()
-    ensures watching { (site : Site) (w next : World) (cause : Cause) (sendings : List Sending) (number : ℕ)
+    ensures receiving { (site : Site) (w next : World) (cause : Cause) (sendings : List Sending) (number : ℕ)
         (before after : Pair) (k : Which)
         → Change site w cause sendings next → slice_get w.processes number ≡ Some before
-        → slice_get next.processes number ≡ Some after → (copy_of k before).role ≡ Watching
+        → slice_get next.processes number ≡ Some after → receives (copy_of k before).role ≡ true
         → HasStayed (copy_of k before) (copy_of k after)
-        ⊎ ((message : ImageMessage) × (cause ≡ Handing (copy_of k before).processor (Checkpointing message)) × IsAmong message before.checkpoints
-        × IsNextFor (copy_of k before) message × HasApplied (copy_of k before) message (copy_of k after)) }
+        ⊎ (((message : ImageMessage) × (cause ≡ Handing (copy_of k before).processor (Checkpointing message))
+        × IsAmong message before.checkpoints × IsNextFor (copy_of k before) message
+        × HasApplied (copy_of k before) message (copy_of k after))
+        ⊎ (cause ≡ Reloading (copy_of k before).processor)) }
     ensures others { (site : Site) (w next : World) (node : ℕ) (message : ImageMessage) (sendings : List Sending)
         (number : ℕ) (before after : Pair) (k : Which)
         → Change site w (Handing node (Checkpointing message)) sendings next
         → slice_get w.processes number ≡ Some before → slice_get next.processes number ≡ Some after
-        → ((copy_of k before).role ≡ Watching → ⊥) → HasStayed (copy_of k before) (copy_of k after) }
+        → receives (copy_of k before).role ≡ false → HasStayed (copy_of k before) (copy_of k after) }
 {}
 
 /// A copy's checkpoint becomes acknowledged only where the copy acts and has sent it, and a message comes that the
@@ -52,22 +56,21 @@ pub fn only_a_sent_checkpoint_is_acknowledged()
         × IsAmong taken before.takens × Acknowledges (copy_of k before) taken }
 {}
 
-/// In a run a copy that acts and has sent stands at its checkpoint, and that, with all that it has, is among those
-/// sent.
+/// In a run a copy that acts and has sent stands at its checkpoint, and that, with what it has, is among those sent; or
+/// one of everything is, and it awaits no reply.
 pub fn a_copy_has_sent_what_it_has()
     ensures { (site : Site) (events : List Event) (w : World) (number : ℕ) (pair : Pair) (k : Which)
         → IsRun site events w → slice_get w.processes number ≡ Some pair
         → (copy_of k pair).role ≡ Acting → (copy_of k pair).sent ≡ true
-        → (point (copy_of k pair).core.state ≡ AtCheckpoint)
-        × IsAmong (last_checkpoint number (copy_of k pair)) pair.checkpoints }
+        → HasSentWhatItHas number (copy_of k pair) pair.checkpoints }
 {}
 
-/// In a run a copy that watches is at most one checkpoint behind the other copy of its process, and has applied what is
-/// acknowledged.
-pub fn a_watching_copy_keeps_up()
-    ensures { (site : Site) (events : List Event) (w : World) (number : ℕ) (pair : Pair) (k : Which)
+/// In a run of a site whose processes are each in two of its processors, a copy that watches or is blank is of the
+/// other copy's era and at most one checkpoint behind it, and has applied what is acknowledged.
+pub fn a_receiving_copy_keeps_up()
+    ensures { (site : Site) (events : List Event) (w : World) (number : ℕ) (pair : Pair) (k : Which) → IsPlaced site
         → IsRun site events w → slice_get w.processes number ≡ Some pair
-        → (copy_of k pair).role ≡ Watching → KeepsUp (copy_of k pair) (copy_of (other_of k) pair) }
+        → receives (copy_of k pair).role ≡ true → KeepsUp (copy_of k pair) (copy_of (other_of k) pair) }
 {}
 
 /// A copy that watches acts only where its node marks the other copy's processor: in the next era, with checkpoint

@@ -18,6 +18,7 @@ use Rattle.world_semantics.proofs.Played.{ahead-impossible}
 use Rattle.takeover_laws.proofs.Kept.{kept-possible}
 use Rattle.accepted_sites.specs.Premises.{IsAcceptedSite}
 use Rattle.accepted_sites.proofs.Accepted.{accepted-fit}
+use Rattle.accepted_sites.proofs.Placed.{echo-placed}
 use Rattle.accepted_sites.proofs.guards.a_hasty_site_is_not_accepted.Goals as goal
 
 kept-by : {site : Site} {events : List Event} (acts : List Act) (p : Option (Played site (boot site) events))
@@ -38,7 +39,7 @@ run = kept-by ahead_acts (played echo_site moves (boot echo_site)) refl
 
 refused : IsAcceptedSite echo_site → ⊥
 refused accepted = ahead-impossible (subst (IsPossible echo_site) run.2
-    (kept-possible echo_site (accepted-fit echo_site accepted) ahead_events run.0 (omega arith) run.1))
+    (kept-possible echo_site (accepted-fit echo_site accepted echo-placed) ahead_events run.0 (omega arith) run.1))
 
 pub returns : goal.returns
 returns c = record { run = run; impossible = ahead-impossible; refused = refused }

@@ -4,12 +4,15 @@ use Rattle.world_semantics.proofs.Played.{repeated}
 use Rattle.takeover_laws.proofs.Kept.{kept-possible, kept-shown}
 use Rattle.accepted_sites.proofs.Accepted.{accepted-fit}
 use Rattle.accepted_sites.proofs.Pairs.{bank-site-accepted}
+use Rattle.accepted_sites.proofs.Placed.{bank-placed}
 use Rattle.accepted_sites.proofs.guards.a_repeated_request_of_the_bank_is_an_instance.Goals as goal
 
 pub returns : goal.returns
 returns c = record {
   run = (repeated.0, repeated.1);
-  possible = λ w run. kept-possible bank_site (accepted-fit bank_site bank-site-accepted) repeat_events w (omega arith)
+  possible = λ w run. kept-possible bank_site (accepted-fit bank_site bank-site-accepted bank-placed) repeat_events w
+      (omega arith)
       run;
-  shown = λ w run. kept-shown bank_site (accepted-fit bank_site bank-site-accepted) repeat_events w (omega arith) run;
+  shown = λ w run. kept-shown bank_site (accepted-fit bank_site bank-site-accepted bank-placed) repeat_events w
+      (omega arith) run;
 }

@@ -31,7 +31,7 @@ loop-event-preserved c =
     (sym c.in-Some.ensures.event) c.in-Some.ensures.agenda
     (subst (λ (one : Option Ending). IsTriedBy packet_rules c.loop-event.packets.machine.state c.in-Some.event
     c.tried_and_drawn.new.machine.state one) c.in-Ok-None.field-0-is c.in-Ok-None.ensures.tried)
-    c.in-Ok-None.ensures.drawn in (
+    c.in-Ok-None.ensures.drawn (c.is_too_long.ensures.room c.if-is_too_long.false) in (
       later,
       few_drawn _ c.next.new.self c.tried_and_drawn.new.machine.state _ c.tried_and_drawn.new.chart c.requires.can
           later,
@@ -42,7 +42,7 @@ pub returns-then-is_too_long : goal.returns-then-is_too_long
 returns-then-is_too_long c =
     ends_too_long _ c.loop-event.schedule c.next.new.self c.loop-event.packets.machine.state c.loop-event.played
     c.loop-event.chart c.in-Some.event c.loop-event.invariant.0 (sym c.in-Some.ensures.event)
-    c.in-Some.ensures.agenda (c.if-is_too_long.ensures refl)
+    c.in-Some.ensures.agenda (c.if-is_too_long.ensures.long refl)
 
 pub returns-in-Ok-Some : goal.returns-in-Ok-Some
 returns-in-Ok-Some c =
@@ -52,7 +52,7 @@ returns-in-Ok-Some c =
     (subst (λ (one : Option Ending). IsTriedBy packet_rules c.loop-event.packets.machine.state c.in-Some.event
     c.tried_and_drawn.new.machine.state one) c.in-Ok-Some.field-0-is c.in-Ok-Some.ensures.tried)
     c.in-Ok-Some.ensures.whole (last c.loop-event.played c.loop-event.invariant.1) c.from.ensures
-    c.in-Ok-Some.ensures.drawn
+    c.in-Ok-Some.ensures.drawn (c.is_too_long.ensures.room c.if-is_too_long.false)
 
 pub returns : goal.returns
 returns c =

@@ -1,7 +1,7 @@
 use Rattle.world_semantics.specs.Messages.{Stopping}
 use Rattle.computed_changes.specs.Stopped.{stop_done}
 use Rattle.computed_changes.proofs.Stopped.{stop-may, stop-only}
-use Rattle.computed_changes.proofs.Outcomes.{idle-where, stop-follows}
+use Rattle.computed_changes.proofs.Outcomes.{idle-where, stop-follows, nothing-follows}
 use Rattle.computed_changes.proofs.laws.a_stop_is_computed.Goals as goal
 
 pub returns : goal.returns
@@ -12,4 +12,6 @@ returns c = record {
       idle-where site w (Stopping processor) (stop_done processor w)
       (λ next sendings change. stop-only processor w next sendings change) e;
   follows = stop-follows;
+  ends = λ site w next processor sendings runs parts follows.
+      nothing-follows processor w next sendings runs parts follows;
 }

@@ -16,6 +16,16 @@ returns c = record {
   other_tick = none_spelt _ (λ processes. refl);
   fail = none_spelt _ (λ processes. refl);
   fail_of_the_terminals = none_spelt _ (λ processes. refl);
+  reload =
+      bare_spelt _ 3 (asked.Reload 2 ∷ asked.Fail 2 ∷ []) (line.One (event.Reload 2) ∷ line.One (event.Fail 2) ∷ [])
+      refl
+      (inl (refl, inl (refl, inl (refl, inl (refl, inl (refl, tt)))))) (refl, (refl, tt))
+      (bare_within 3 (line.One (event.Reload 2) ∷ line.One (event.Fail 2) ∷ []) (omega arith) (omega arith)
+      (two_lines 3 0 0 (line.One (event.Reload 2)) (line.One (event.Fail 2)) (omega arith) (omega arith))
+      (omega arith) (omega arith));
+  other_reload = none_spelt _ (λ processes. refl);
+  reload_of_the_terminals = none_spelt _ (λ processes. refl);
+  reload_often = none_spelt _ (λ processes. refl);
   mute = none_spelt _ (λ processes. refl);
   never = none_spelt _ (λ processes. refl);
 }

@@ -13,15 +13,15 @@ returns c =
     ap app_of_fields c.version.ensures ∙ ap versioned about_is in
     let mode = c.mode_argument.ensures in
     let file = c.file_argument.ensures in
-    let fail = c.fail_argument.ensures in
+    let fail = c.valued_argument.ensures in
     let one = c.in_ok-arg.ensures.shape mode.local ∙ ap₂ with_rule version_is mode.rule in
     let two = c.in_ok-arg-2.ensures.shape file.local ∙ ap₂ with_rule one file.rule in
-    let from = c.from_argument.ensures in
-    let to = c.to_argument.ensures in
+    let from = c.valued_argument-2.ensures in
+    let to = c.valued_argument-3.ensures in
     let three = c.in_ok-arg-3.ensures.shape fail.local ∙ ap₂ with_rule two fail.rule in
     let four = c.in_ok-arg-4.ensures.shape from.local ∙ ap₂ with_rule three from.rule in
-    let json = c.json_argument.ensures in
+    let json = c.flag_argument.ensures in
     let five = c.in_ok-arg-5.ensures.shape to.local ∙ ap₂ with_rule four to.rule in
     let six = c.in_ok-arg-6.ensures.shape json.local ∙ ap₂ with_rule five json.rule in
-    let alive = c.alive_argument.ensures in
+    let alive = c.flag_argument-2.ensures in
     IfOk-weaker c.arg-7.result _ _ (λ line h. h.shape alive.local ∙ ap₂ with_rule six alive.rule) c.arg-7.ensures

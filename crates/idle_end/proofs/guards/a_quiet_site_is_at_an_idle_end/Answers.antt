@@ -10,6 +10,7 @@ use Rattle.process_histories.specs.Served.{disc}
 use Rattle.world_semantics.specs.declared.which.Which.{Which}
 use Rattle.world_semantics.specs.declared.which.Which.TheVariants.{First, Second}
 use Rattle.world_semantics.specs.Follows.{stays}
+use Rattle.world_semantics.specs.Laws.{IsPlaced}
 use Rattle.world_semantics.specs.Rules.{by_enter}
 use Rattle.world_semantics.specs.Running.{run_done}
 use Rattle.world_semantics.specs.World.{Pair, boot, pair_at_boot, copy_of}
@@ -17,7 +18,7 @@ use Rattle.world_semantics.proofs.Lists.{some-same}
 use Rattle.letters.specs.Posts.{post_at_boot}
 use Rattle.awaited_requests.specs.Awaited.{IsAwaited, by_copy, by_terminal}
 use Rattle.idle_end.specs.Examples.{quiet_site}
-use Rattle.idle_end.proofs.Quiet.{disc-idle, none-stopped}
+use Rattle.idle_end.proofs.Quiet.{disc-idle}
 use Rattle.idle_end.proofs.guards.a_quiet_site_is_at_an_idle_end.Goals as goal
 
 -- what is so of the disc is so of each process
@@ -40,6 +41,10 @@ none-awaits (by_copy {number = zero} pair k there role at file next) =
 none-awaits (by_copy {number = suc number} pair k there role at file next) = cc
 none-awaits (by_terminal terminal there waits) = cc
 
+seats : IsPlaced quiet_site
+seats = each (λ spec. (spec.primary < 2) × (spec.backup < 2) × (spec.primary ≢ spec.backup))
+    (omega arith, omega arith, λ same. cc)
+
 pub returns-clause-quiet : goal.returns-clause-quiet
 returns-clause-quiet c = record {
   fit = record {
@@ -47,15 +52,11 @@ returns-clause-quiet c = record {
     disciplined =
         λ number. each (IsDisciplined quiet_site number) (disc-disciplined quiet_site number 2 false disc refl) number;
     requests = λ terminal entered words next. absurd (cc);
+    seats = seats;
   };
-  laid_out = record {
-    few = omega arith;
-    places = each (λ spec. (spec.primary < 2) × (spec.backup < 2) × (spec.primary ≢ spec.backup))
-        (omega arith, omega arith, λ same. cc);
-  };
+  laid_out = record { few = omega arith; places = seats };
   few = omega arith;
   run = stays;
-  one_stops = λ one other first second. absurd (none-stopped one first);
   served = λ asker one n opener pair opens there awaited. absurd (none-awaits awaited);
   idle = disc-idle quiet_site (post_at_boot quiet_site) refl refl refl (λ number terminal there. absurd (cc)) none;
 }

@@ -20,28 +20,18 @@ use Rattle.world_semantics.proofs.Lists.{some-same}
 use Rattle.world_semantics.specs.Rules.{by_enter, by_stop, by_mark}
 use Rattle.world_semantics.specs.World.{Pair, is_running, has_noted, copy_of}
 use Rattle.world_semantics.proofs.Ran.{run-idle}
-use Rattle.letters.specs.Idle.{IsIdle, OneStops}
+use Rattle.letters.specs.Idle.{IsIdle}
 use Rattle.letters.specs.Posts.{Post, plays_enter, plays_fail, plays_tick, one_mark, no_mark, HasPlayed, played_none}
 use Rattle.letters.specs.Posts.{played_more}
 use Rattle.served_requests.specs.awaited_requests.specs.Examples.{site_with, disc_pair, letter_to}
 use Rattle.idle_laws.proofs.guards.a_request_may_stay_with_nobody.Goals as goal
-
-abbrev two_stop : (post : Post) × HasPlayed (site_with 2 0 1) (Enter 0 ∷ Fail 0 ∷ Fail 1 ∷ Tick 16 ∷ []) post
-two_stop = (
-  _,
-  played_more (played_more (played_more (played_more played_none
-      (plays_enter (by_enter 0 _ _ refl refl refl refl)))
-      (plays_fail (by_stop 0 refl)))
-      (plays_fail (by_stop 1 refl)))
-      (plays_tick refl (one_mark 0 (by_mark 16 0 refl refl refl) (one_mark 1 (by_mark 16 1 refl refl refl) no_mark))),
-)
 
 abbrev one_is_there : (post : Post) × HasPlayed (site_with 1 0 1) (Enter 0 ∷ Fail 0 ∷ Tick 16 ∷ []) post
 one_is_there = (
   _,
   played_more (played_more (played_more played_none
       (plays_enter (by_enter 0 _ _ refl refl refl refl)))
-      (plays_fail (by_stop 0 refl)))
+      (plays_fail (by_stop 0 refl refl)))
       (plays_tick refl (one_mark 0 (by_mark 16 0 refl refl refl) no_mark)),
 )
 
@@ -76,20 +66,10 @@ idle-by site post pair processes rest owed stopped none marked = record {
         absurd (rest k (subst (λ (p : Pair). (copy_of k p).role ≡ Acting) (sym (some-same there)) role))
     waits (suc number) one k there role = absurd (cc)
 
-none : (number : ℕ) → (run_done (site_with 2 0 1) number two_stop.0.world ≡ None)
-    × (enter_done (site_with 2 0 1) number two_stop.0.world ≡ None)
-none zero = (refl, refl)
-none (suc number) = (refl, refl)
-
 none-there : (number : ℕ) → (run_done (site_with 1 0 1) number one_is_there.0.world ≡ None)
     × (enter_done (site_with 1 0 1) number one_is_there.0.world ≡ None)
 none-there zero = (refl, refl)
 none-there (suc number) = (refl, refl)
-
-rest : (k : Which) → (copy_of k (record disc_pair
-    { first = record disc_pair.first { role = Gone }; second = record disc_pair.second { role = Gone } })).role ≢ Acting
-rest First acts = cc
-rest Second acts = cc
 
 rest-there : (k : Which) → (copy_of k (record disc_pair { first = record disc_pair.first { role = Gone } })).role
     ≢ Acting
@@ -97,24 +77,11 @@ rest-there First acts = cc
 rest-there Second acts = cc
 
 -- of the nodes that run there is only that of the terminals
-only : (node processor : ℕ) → is_running (true ∷ true ∷ []) node ≡ true
-    → slice_get (true ∷ true ∷ []) processor ≡ Some true → has_noted two_stop.0.world.marks node processor ≡ true
-only zero processor runs down = absurd (cc)
-only (suc zero) processor runs down = absurd (cc)
-only (suc (suc node)) zero runs down = rw (eqb-true (suc (suc node)) 16 runs) refl
-only (suc (suc node)) (suc zero) runs down = rw (eqb-true (suc (suc node)) 16 runs) refl
-only (suc (suc node)) (suc (suc processor)) runs down = absurd (cc)
-
 only-there : (node processor : ℕ) → is_running (true ∷ []) node ≡ true → slice_get (true ∷ []) processor ≡ Some true
     → has_noted one_is_there.0.world.marks node processor ≡ true
 only-there zero processor runs down = absurd (cc)
 only-there (suc node) zero runs down = rw (eqb-true (suc node) 16 runs) refl
 only-there (suc node) (suc processor) runs down = absurd (cc)
-
-one-stops : OneStops one_is_there.0.world
-one-stops zero zero first second = refl
-one-stops zero (suc other) first second = absurd (cc)
-one-stops (suc one) other first second = absurd (cc)
 
 -- What is left
 
@@ -123,20 +90,11 @@ abbrev CanTake : Site → Option Made → Type 0
 CanTake site None = Unit {0}
 CanTake site (Some m) = made site m.plain (Take 0 0) ≢ None
 
-pub returns-clause-two_stop : goal.returns-clause-two_stop
-returns-clause-two_stop c = (
-  two_stop.0,
-  two_stop.1,
-  idle-by (site_with 2 0 1) two_stop.0 _ refl rest refl refl none only,
-  λ left. subst (CanTake (site_with 2 0 1)) left.1 (λ none. cc) (left.2 (Take 0 0)),
-)
-
 pub returns-clause-one_is_there : goal.returns-clause-one_is_there
 returns-clause-one_is_there c = (
   one_is_there.0,
   one_is_there.1,
   idle-by (site_with 1 0 1) one_is_there.0 _ refl rest-there refl refl none-there only-there,
-  one-stops,
   λ left. subst (CanTake (site_with 1 0 1)) left.1 (λ none. cc) (left.2 (Take 0 0)),
 )
 

@@ -5,7 +5,7 @@ use Rattle.world_semantics.specs.declared.which.Which.TheVariants.{First}
 use Rattle.world_semantics.specs.Follows.{IsIdleFor}
 use Rattle.world_semantics.specs.Messages.{Asking, Sending, Cause, Handing, NotingDown}
 use Rattle.world_semantics.specs.Rules.{Change, by_own, by_checkpoint, by_request, by_early_request, by_enter, by_print}
-use Rattle.world_semantics.specs.Rules.{by_stop, by_mark}
+use Rattle.world_semantics.specs.Rules.{by_stop, by_mark, by_reload}
 use Rattle.world_semantics.specs.World.{World}
 use Rattle.computed_changes.proofs.Causes.{IsOfCopies, own-causes, passes-causes}
 use Rattle.letters.specs.Posts.{Post, IsTaken, takes_first, takes_later, PlaysEvent, plays_nothing, plays_hand}
@@ -18,7 +18,7 @@ use Rattle.letter_guards.proofs.posts.a_letter_that_is_taken_is_not_dropped.Goal
 marked-stopped : {site : Site} {w next : World} {cause : Cause} {sendings : List Sending}
     → Change site w cause sendings next → (node processor : ℕ)
     → cause ≡ NotingDown node processor → slice_get w.stopped processor ≡ Some true
-marked-stopped (by_own number k pair there role causes advances enters) node processor same =
+marked-stopped (by_own number k pair there role causes advances enters free) node processor same =
     absurd (subst IsOfCopies same (own-causes causes))
 marked-stopped (by_checkpoint number pair there passes) node processor same =
     absurd (subst IsOfCopies same (passes-causes passes))
@@ -26,12 +26,13 @@ marked-stopped (by_request request k pair among there role) node processor same 
 marked-stopped (by_early_request request k pair among there role) node processor same = absurd (cc)
 marked-stopped (by_enter number terminal opener there even next opens) node processor same = absurd (cc)
 marked-stopped (by_print number terminal reply there odd among opens last) node processor same = absurd (cc)
-marked-stopped (by_stop other runs) node processor same = absurd (cc)
+marked-stopped (by_stop other runs whole) node processor same = absurd (cc)
 marked-stopped {w = w} (by_mark at other stopped runs new) node processor same =
     subst (λ p. slice_get w.stopped p ≡ Some true) (other-is same) stopped
   where
     other-is : {at other node processor : ℕ} → NotingDown at other ≡ NotingDown node processor → other ≡ processor
     other-is same = cc
+marked-stopped (by_reload other stopped marked counted less) node processor same = absurd (cc)
 
 none-stopped : (processor : ℕ) → slice_get owing.world.stopped processor ≡ Some true → ⊥
 none-stopped zero is = cc

@@ -14,7 +14,7 @@ sectors-requires c =
 
 pub returns : goal.returns
 returns c =
-    is-view c.args.machine.now.state.world _ c.in_ok-stopped.ensures
+    is-view c.args.machine.now.state.world _ c.in_ok-stopped.ensures c.in_ok-reloads.ensures
     (c.in_ok-down.ensures ∙ ap marks_in c.marks.ensures)
     (c.in_ok-copies.ensures ∙ ap (each_at copy_views 0) c.processes-processes.ensures.processes)
     (c.in_ok-terminals.ensures ∙ ap (map terminal_view) c.terminals.ensures)

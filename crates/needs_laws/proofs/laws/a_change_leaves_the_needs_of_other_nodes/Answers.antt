@@ -1,5 +1,5 @@
 use Rattle.needs_laws.proofs.Elsewhere.{enter-elsewhere, handed-elsewhere, marked-elsewhere, run-elsewhere}
-use Rattle.needs_laws.proofs.Elsewhere.{stopped-elsewhere}
+use Rattle.needs_laws.proofs.Elsewhere.{reloaded-elsewhere, stopped-elsewhere}
 use Rattle.needs_laws.proofs.laws.a_change_leaves_the_needs_of_other_nodes.Goals as goal
 
 pub returns : goal.returns
@@ -9,4 +9,5 @@ returns c = record {
   handed = handed-elsewhere;
   marked = marked-elsewhere;
   stopped = stopped-elsewhere;
+  reloaded = reloaded-elsewhere;
 }

@@ -5,4 +5,4 @@ use Rattle.packet_numbers.proofs.laws.accepted_sites_are_ready.Goals as goal
 
 pub returns : goal.returns
 returns c = λ site events s accepted keeps out few played.
-    is-ready site events s (accepted-fit site accepted) (small-of site accepted keeps) out few played
+    is-ready site events s (accepted-fit site accepted out.places) (small-of site accepted keeps) out few played

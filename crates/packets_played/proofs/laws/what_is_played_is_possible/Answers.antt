@@ -7,9 +7,9 @@ use Rattle.packets_played.proofs.laws.what_is_played_is_possible.Goals as goal
 pub returns : goal.returns
 returns c = record {
   possible = λ site events s accepted keeps out few played.
-      kept-possible site (accepted-fit site accepted) events s.world (omega (arith, few))
+      kept-possible site (accepted-fit site accepted out.places) events s.world (omega (arith, few))
       (runs site accepted keeps out events s few played);
   shown = λ site events s accepted keeps out few played.
-      kept-shown site (accepted-fit site accepted) events s.world (omega (arith, few))
+      kept-shown site (accepted-fit site accepted out.places) events s.world (omega (arith, few))
       (runs site accepted keeps out events s few played);
 }

@@ -19,6 +19,20 @@ returns-in-PassesCheckpoint c =
     ≡ c.args.text.now ++ found_text c.args.site.now c.args.places.now finding)) (sym c.in-PassesCheckpoint.is)
     c.put-in-PassesCheckpoint.ensures
 
+pub returns-in-SendsEverything : goal.returns-in-SendsEverything
+returns-in-SendsEverything c =
+    subst (λ (finding : Finding). OnOk c.put-in-SendsEverything.result
+    (c.put-in-SendsEverything.new.text
+    ≡ c.args.text.now ++ found_text c.args.site.now c.args.places.now finding)) (sym c.in-SendsEverything.is)
+    c.put-in-SendsEverything.ensures
+
+pub returns-in-EndsSending : goal.returns-in-EndsSending
+returns-in-EndsSending c =
+    subst (λ (finding : Finding). OnOk c.put-in-EndsSending.result
+    (c.put-in-EndsSending.new.text
+    ≡ c.args.text.now ++ found_text c.args.site.now c.args.places.now finding)) (sym c.in-EndsSending.is)
+    c.put-in-EndsSending.ensures
+
 pub returns-in_ok-put_takes_over-in-TakesOver : goal.returns-in_ok-put_takes_over-in-TakesOver
 returns-in_ok-put_takes_over-in-TakesOver c =
     let taken = rw c.process_name-in-TakesOver.ensures at c.in_ok-put_takes_over-in-TakesOver.ensures in

@@ -23,6 +23,7 @@ returns-clause-stepped c =
         checkpoints = inside.checkpoints;
         takens = inside.takens;
         sectors = sectors_on inside.device;
+        led = inside.led;
       };
       drives = drives_on inside.device;
     } in

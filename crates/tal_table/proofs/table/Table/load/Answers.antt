@@ -2,6 +2,7 @@ use Rattle.std.proofs.Common.{◌≡◌, List, slice_get, refl, ap, subst, sym, 
 use Rattle.tal_tree.specs.Ordered.{numbers_in_all}
 use Rattle.tal_tree.specs.declared.program.Procedure.{Procedure}
 use Rattle.tal_tree.specs.declared.program.Program.{Program}
+use Rattle.process_images.specs.Images.{asking_from, listable_from}
 use Rattle.tal_table.specs.Loads.{AreSmall}
 use Rattle.tal_table.specs.Tables.{IsTable}
 use Rattle.tal_table.proofs.Filled.{table-is, few-locals}
@@ -29,5 +30,10 @@ invariant_of-result c =
     table-is c.args.program.now c.as_slice-procedures.result.now c.in_ok-nodes.nodes.items
     c.in_ok-headings.headings.items c.as_slice-procedures.ensures
     c.requires.numbered c.requires.limits c.requires.regular c.in_ok-nodes.ensures c.in_ok-headings.ensures in
+    let named : c.in_ok-everything.everything.items ≡ listable_from 0 c.args.program.now.items = search rules in
+    let asked : c.in_ok-everything.everything.files ≡ asking_from 0 c.args.program.now.files = search rules in
     subst (λ (program : Program). (c.args.program.now.main ≡ program.main) × ((c.in_ok-items.items ≡ program.items)
-    × IsTable program c.in_ok-nodes.nodes.items c.in_ok-headings.headings.items)) (sym value) (refl, (items, table))
+    × (IsTable program c.in_ok-nodes.nodes.items c.in_ok-headings.headings.items
+    × ((c.in_ok-everything.everything.items ≡ listable_from 0 program.items)
+    × (c.in_ok-everything.everything.files ≡ asking_from 0 program.files))))) (sym value)
+    (refl, (items, (table, (named, asked))))

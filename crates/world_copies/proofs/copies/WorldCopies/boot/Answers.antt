@@ -1,4 +1,5 @@
-use Rattle.std.proofs.Common.{◌∙◌, ap, sym, arith}
+use Rattle.std.proofs.Common.{◌∙◌, ap, subst, sym, arith}
+use Rattle.process_copies.specs.Starting.{IsStartable}
 use Rattle.world_copies.specs.Seen.{terminal_row}
 use Rattle.world_copies.specs.Starting.{placed_from}
 use Rattle.world_copies.proofs.Beginning.{drives-of-first, stands-first, pairs-of-first}
@@ -8,12 +9,13 @@ pub invariant_of-result : goal.invariant_of-result
 invariant_of-result c =
     stands-first c.in_ok-site.site c.in_ok-processes.processes.items c.in_ok-places.places
     (c.in_ok-processes.ensures ∙ ap (λ site. placed_from site 0 site.processes)
-    (c.get-3.ensures ∙ sym c.in_ok-site.ensures))
+    (c.get-4.ensures ∙ sym c.in_ok-site.ensures))
     (c.in_ok-places.ensures ∙ ap (λ site. terminal_row site 0 site.terminals)
     (c.get.ensures ∙ sym c.in_ok-site.ensures))
+    (subst IsStartable (sym c.in_ok-site.ensures) c.requires)
 
 pub returns : goal.returns
 returns c =
-    let pairs = pairs-of-first c.get-3.result.now c.in_ok-processes.processes.items c.in_ok-processes.ensures in
-    let drives = drives-of-first c.get-3.result.now c.in_ok-processes.processes.items c.in_ok-processes.ensures in
+    let pairs = pairs-of-first c.get-4.result.now c.in_ok-processes.processes.items c.in_ok-processes.ensures in
+    let drives = drives-of-first c.get-4.result.now c.in_ok-processes.processes.items c.in_ok-processes.ensures in
     grind (arith, pairs, drives)

@@ -10,12 +10,12 @@ pub returns-in-None : goal.returns-in-None
 returns-in-None c =
     subst (λ (s : SiteWorld). None ≡ opener_of s.site (who.Terminal c.args.terminal)) c.self.view_is
     (ap option_flatten c.in-None.ensures.value
-    ∙ terminal-found c.self.inside.site c.self.inside.places c.from.result c.args.terminal c.self.invariant.2
+    ∙ terminal-found c.self.inside.site c.self.inside.places c.from.result c.args.terminal c.self.invariant.2.0
     c.from.ensures)
 
 pub returns-in-Some : goal.returns-in-Some
 returns-in-Some c =
     subst (λ (s : SiteWorld). c.in-Some.place.now ≡ opener_of s.site (who.Terminal c.args.terminal)) c.self.view_is
     (ap option_flatten c.in-Some.ensures.value
-    ∙ terminal-found c.self.inside.site c.self.inside.places c.from.result c.args.terminal c.self.invariant.2
+    ∙ terminal-found c.self.inside.site c.self.inside.places c.from.result c.args.terminal c.self.invariant.2.0
     c.from.ensures)

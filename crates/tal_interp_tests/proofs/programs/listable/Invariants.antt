@@ -1,6 +1,0 @@
-use Rattle.std.proofs.Common.{◌≡◌, ◌++◌, drop}
-use Rattle.process_images.specs.Images.{listable_from}
-use Rattle.tal_interp_tests.proofs.programs.listable.Given as goal
-
-abbrev pub invariant-loop-number : goal.invariant-loop-number
-invariant-loop-number l = listable_from 0 l.items ≡ l.numbers ++ listable_from l.number (drop l.number l.items)
