@@ -8,16 +8,16 @@ use Rattle.schedule.specs.declared.event.Event.{Event}
 use Rattle.schedule.specs.declared.line.Line.{Line}
 use Rattle.player.specs.declared.stop.ProcessorStop.{ProcessorStop}
 use Rattle.plain_semantics.specs.Machine.{IsNoneLeft, IsPossible, shown_by}
-use Rattle.world_semantics.specs.Kept.{acts_of, closed}
-use Rattle.world_semantics.specs.World.{World}
+use Rattle.packet_lengths.specs.world_semantics.specs.Kept.{acts_of, closed}
+use Rattle.packet_lengths.specs.world_semantics.specs.World.{World}
 use Rattle.agendas.specs.Agendas.{Agenda}
 use Rattle.packet_lengths.specs.packet_wires.specs.Idle.{is_idle}
 use Rattle.packet_lengths.specs.packet_wires.specs.Play.{Packeted}
 use Rattle.packet_lengths.specs.packet_wires.specs.Runs.{IsPlayed}
 use Rattle.packet_lengths.specs.world_copies.specs.Closed.{closed_world}
-use Rattle.schedule_loop.specs.Ends.{EndsBy, Plays}
-use Rattle.schedule_loop.specs.declared.ran.Ending.{Ending}
-use Rattle.schedule_loop.specs.declared.ran.Ending.TheVariants.{Idle, Cut, Second, Lost}
+use Rattle.packet_lengths.specs.schedule_loop.specs.Ends.{EndsBy, Plays}
+use Rattle.packet_lengths.specs.schedule_loop.specs.declared.ran.Ending.{Ending}
+use Rattle.packet_lengths.specs.schedule_loop.specs.declared.ran.Ending.TheVariants.{Idle, Cut, Second, Lost}
 use Rattle.packet_lengths.specs.packet_runs.specs.Ends.{IsRunOf}
 use Rattle.packet_lengths.specs.packet_runs.specs.Runs.{course_on, packet_rules}
 use Rattle.packet_lengths.specs.packet_runs.specs.declared.ran.Ran.{Ran}

@@ -15,7 +15,7 @@ use Rattle.plain_semantics.specs.Openers.{files_of}
 use Rattle.plain_semantics.specs.SiteLimits.{KeepsSiteLimits}
 use Rattle.packet_lengths.specs.process_copies.specs.Starting.{HasDepths, HasSectors, IsStartable}
 use Rattle.packet_lengths.specs.processes.specs.Seen.{IsLoadableKind}
-use Rattle.sync_ids.specs.Tables.{IsDepth}
+use Rattle.packet_lengths.specs.sync_ids.specs.Tables.{IsDepth}
 use Rattle.loading_laws.specs.tal_interp.specs.Sound.{IsLoadable}
 use Rattle.loading_laws.specs.tal_reader.specs.Reads.{Reads}
 use Rattle.tal_tree.specs.Limits.{IsFileWithinLimits}

@@ -2,9 +2,9 @@
 use Rattle.std.specs.Prelude.{◌≡◌, reverse}
 use Rattle.tal_tree.specs.declared.site.Site.{Site}
 use Rattle.plain_semantics.specs.Machine.{IsNoneLeft, IsPossible, shown_by}
-use Rattle.world_semantics.specs.Kept.{acts_of}
+use Rattle.packet_lengths.specs.world_semantics.specs.Kept.{acts_of}
 use Rattle.packet_lengths.specs.packet_runs.specs.declared.ran.Ran.{Ran}
-use Rattle.schedule_loop.specs.declared.ran.Ending.TheVariants.{Idle}
+use Rattle.packet_lengths.specs.schedule_loop.specs.declared.ran.Ending.TheVariants.{Idle}
 
 -- the acts that the run keeps are possible on the machine of single unfailing processes; what was shown, in order, is
 -- what they show there; and where the run ended idle no act is possible after them

@@ -10,13 +10,13 @@ ghost use Rattle.player.specs.declared.stop.ProcessorStop.{ProcessorStop};
 ghost use Rattle.packet_lengths.specs.process_copies.specs.Starting.{IsStartable};
 ghost use Rattle.packet_lengths.specs.packet_runs.specs.Runs.{course_on, packet_rules};
 ghost use Rattle.plain_semantics.specs.SiteLimits.{KeepsSiteLimits};
-ghost use Rattle.schedule_loop.specs.Ends.{CanBePlayed};
+ghost use Rattle.packet_lengths.specs.schedule_loop.specs.Ends.{CanBePlayed};
 ghost use Rattle.packet_lengths.specs.site_machine.specs.Needs.{IsReady};
 
-use packet_lengths::deck_reader::{
-    a_deck_keeps_the_limits, a_deck_reads_its_programs, requests_of_a_deck_are_short,
+use packet_lengths::{
+    a_deck_keeps_the_limits, a_deck_reads_its_programs, a_schedule_asks_for_few_events,
+    an_accepted_site_can_be_played, requests_of_a_deck_are_short,
 };
-use packet_lengths::{a_schedule_asks_for_few_events, an_accepted_site_can_be_played};
 
 /// The programs of a deck that bytes spell can be judged, the machine of copies starts on its site, which keeps the
 /// limits, and its processes are laid out over its processors. Where all its programs are accepted, its site is an

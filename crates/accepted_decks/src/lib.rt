@@ -12,5 +12,5 @@ pub mod decks;
 pub mod runs;
 
 pub use decks::an_accepted_deck_meets_the_premises;
-pub use packet_lengths::deck_reader;
+pub use packet_lengths::Deck;
 pub use runs::a_run_of_an_accepted_site_keeps_possible_acts;

@@ -10,11 +10,10 @@ ghost use Rattle.packet_lengths.specs.packet_runs.specs.Ends.{IsRunOf};
 ghost use Rattle.packet_lengths.specs.packet_runs.specs.declared.ran.Ran.{Ran};
 ghost use Rattle.accepted_decks.specs.Left.{KeepsPossibleActs};
 
-use packet_lengths::packet_runs::events_of_a_schedule_are_played;
-use packet_lengths::packets_played::{
-    an_idle_end_that_is_played_leaves_none, what_is_played_is_possible,
+use packet_lengths::{
+    a_closed_world_has_the_closed_run, an_idle_end_that_is_played_leaves_none,
+    events_of_a_schedule_are_played, what_is_played_is_possible,
 };
-use packet_lengths::world_copies::laws::a_closed_world_has_the_closed_run;
 
 /// Whatever its schedule, a run of an accepted site within the limits keeps possible acts, and none is left at an idle
 /// end.

@@ -4,7 +4,7 @@ use Rattle.tal_tree.specs.declared.site.Kind.{Kind}
 use Rattle.tal_tree.specs.declared.site.Kind.TheVariants as kind
 use Rattle.tal_tree.specs.declared.site.ProcessSpec.{ProcessSpec}
 use Rattle.tal_tree.specs.declared.site.Site.{Site}
-use Rattle.whole_states.specs.Processes.{IsRegularKind}
+use Rattle.world_semantics.specs.whole_states.specs.Processes.{IsRegularKind}
 use Rattle.takeover_laws.specs.discipline_laws.specs.Disciplined.{IsDisciplined}
 use Rattle.takeover_laws.specs.discipline_laws.proofs.Accepted.{accepted-disciplined}
 use Rattle.takeover_laws.specs.discipline_laws.proofs.Discs.{disc-disciplined}

@@ -12,7 +12,7 @@ use Rattle.tal_tokens.specs.Lexer.{tokens_of}
 use Rattle.tal_syntax.specs.Grammar as g
 use Rattle.tal_syntax.specs.Nesting.{nest_text}
 use Rattle.tal_syntax.specs.Expected.{AllAtMost}
-use Rattle.tal_rules.specs.Texts.{faults}
+use Rattle.tal_laws.specs.tal_rules.specs.Texts.{faults}
 use Rattle.tal_laws.specs.tal_meaning.specs.Programs.{tree_of}
 use Rattle.tal_laws.specs.tal_reader.specs.Reads.{Reads}
 use Rattle.world_semantics.specs.Examples.{adder, bank}

@@ -8,13 +8,13 @@ use Rattle.tal_tree.specs.declared.program.FileUse.{FileUse}
 use Rattle.tal_tree.specs.declared.program.Program.{Program}
 use Rattle.tal_tree.specs.declared.statement.Statement.{Statement}
 use Rattle.tal_tree.specs.declared.statement.What.{What, What-F, out-What}
-use Rattle.process_semantics.specs.State.{Entry, Run, Test, Last}
-use Rattle.path_semantics.specs.declared.dues.Dues.{Dues}
-use Rattle.path_semantics.specs.declared.reason.Reason.TheVariants.{Input, Depth}
-use Rattle.path_semantics.specs.Break.{asked_count, is_reached, breaks_by, breaks_entry}
-use Rattle.path_semantics.specs.Dues.{after_entry}
-use Rattle.path_semantics.specs.Path.{Walks, Leads}
-use Rattle.path_semantics.specs.Place.{Place, Stand, ways_of, settled, stands_after, first_stand}
+use Rattle.discipline.specs.process_semantics.specs.State.{Entry, Run, Test, Last}
+use Rattle.discipline.specs.path_semantics.specs.declared.dues.Dues.{Dues}
+use Rattle.discipline.specs.path_semantics.specs.declared.reason.Reason.TheVariants.{Input, Depth}
+use Rattle.discipline.specs.path_semantics.specs.Break.{asked_count, is_reached, breaks_by, breaks_entry}
+use Rattle.discipline.specs.path_semantics.specs.Dues.{after_entry}
+use Rattle.discipline.specs.path_semantics.specs.Path.{Walks, Leads}
+use Rattle.discipline.specs.path_semantics.specs.Place.{Place, Stand, ways_of, settled, stands_after, first_stand}
 use Rattle.advice.specs.Choice.{deepened, deepest}
 use Rattle.advice.specs.Due.{is_ask, is_ask_next}
 

@@ -7,16 +7,16 @@ use Rattle.tal_tree.specs.Statements.{all_of}
 use Rattle.tal_tree.specs.declared.program.Program.{Program}
 use Rattle.tal_tree.specs.declared.statement.Statement.{Statement}
 use Rattle.tal_tree.specs.declared.statement.What.{out-What}
-use Rattle.path_semantics.specs.declared.reason.Reason.{Reason}
-use Rattle.path_semantics.specs.declared.reason.Reason.TheVariants.{Data, SyncBlock, Input, Depth}
-use Rattle.path_semantics.specs.declared.reason.RefusalFault.TheVariants as verdict
-use Rattle.path_semantics.specs.Bounds.{IsWithinBounds}
-use Rattle.path_semantics.specs.Break.{Breaks}
+use Rattle.discipline.specs.path_semantics.specs.declared.reason.Reason.{Reason}
+use Rattle.discipline.specs.path_semantics.specs.declared.reason.Reason.TheVariants.{Data, SyncBlock, Input, Depth}
+use Rattle.discipline.specs.path_semantics.specs.declared.reason.RefusalFault.TheVariants as verdict
+use Rattle.discipline.specs.path_semantics.specs.Bounds.{IsWithinBounds}
+use Rattle.discipline.specs.path_semantics.specs.Break.{Breaks}
 use Rattle.discipline.specs.Verdict.{IsEarlier, IsLeast, IsVerdict}
 use Rattle.advice.specs.declared.answer.Advice.{Advice}
 use Rattle.advice.specs.declared.answer.Advised.{Advised}
-use Rattle.advice.specs.declared.answer.AdviseRefusal.{AdviseRefusal}
-use Rattle.advice.specs.declared.answer.AdviseRefusal.TheVariants.{TooDeep, TooLarge, Unmendable, NoMemory}
+use Rattle.advice.specs.declared.answer.AdviseFault.{AdviseFault}
+use Rattle.advice.specs.declared.answer.AdviseFault.TheVariants.{TooDeep, TooLarge, Unmendable, NoMemory}
 use Rattle.advice.specs.Advice.{IsLeastDepth}
 use Rattle.advice.specs.Choice.{Choice, deepest}
 use Rattle.advice.specs.Due.{is_checkpoint, IsItemDue, IsFileDue}
@@ -91,7 +91,7 @@ pub record IsUnmendable (program : Program) (reason : Reason) (path : List ℕ) 
 
 -- what comes of asking for advice: the lists and depths, or calls too deep, or else too many statements with the calls
 -- written out, as in the verdict, or else what can't be mended. Want of memory is free
-abbrev pub IsAdvised : Program → Result Advice AdviseRefusal → Type 0
+abbrev pub IsAdvised : Program → Result Advice AdviseFault → Type 0
 IsAdvised program (Ok advice) = IsAnswer program advice
 IsAdvised program (Err TooDeep) = IsVerdict program (Err verdict.TooDeep)
 IsAdvised program (Err (TooLarge n)) = IsVerdict program (Err (verdict.TooLarge n))

@@ -5,10 +5,10 @@ use Rattle.gd_words.specs.Members.{is_among}
 use Rattle.tal_tree.specs.declared.program.Program.{Program}
 use Rattle.tal_tree.specs.declared.statement.Statement.{Statement}
 use Rattle.tal_tree.specs.declared.statement.What.{What, What-F, out-What}
-use Rattle.process_semantics.specs.State.{Entry, Run}
-use Rattle.path_semantics.specs.Break.{asked_count}
-use Rattle.path_semantics.specs.Path.{Leads}
-use Rattle.path_semantics.specs.Place.{Stand, next_entry}
+use Rattle.discipline.specs.process_semantics.specs.State.{Entry, Run}
+use Rattle.discipline.specs.path_semantics.specs.Break.{asked_count}
+use Rattle.discipline.specs.path_semantics.specs.Path.{Leads}
+use Rattle.discipline.specs.path_semantics.specs.Place.{Stand, next_entry}
 
 abbrev pub is_checkpoint : What-F What Statement → Bool
 is_checkpoint (What-F.Checkpoint items files) = true

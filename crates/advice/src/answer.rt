@@ -1,5 +1,5 @@
+use discipline::Reason;
 use gd_words::{List, NoMemory};
-use path_semantics::Reason;
 
 /// What a CHECKPOINT has to name: its statement's number and line, the globals by their items' numbers, and the files
 /// by their numbers in the order of the OPENs.
@@ -21,7 +21,7 @@ pub struct Advice {
 
 /// Why there is no advice for a program.
 #[derive(Drop)]
-pub enum AdviseRefusal {
+pub enum AdviseFault {
     /// Its calls go more than 16 procedures deep.
     TooDeep,
     /// With its calls written out it has so many statements, more than 8,192.
@@ -32,13 +32,13 @@ pub enum AdviseRefusal {
     NoMemory(NoMemory),
 }
 
-impl From<NoMemory> for AdviseRefusal {
+impl From<NoMemory> for AdviseFault {
     ghost use Rattle.std.specs.Prelude.{◌≡◌};
-    ghost use Rattle.advice.specs.declared.answer.AdviseRefusal.TheVariants as advise;
+    ghost use Rattle.advice.specs.declared.answer.AdviseFault.TheVariants as advise;
 
     ghost from_gives = { λ memory refusal. refusal ≡ advise.NoMemory memory };
 
-    fn from(memory: NoMemory) -> AdviseRefusal {
-        AdviseRefusal::NoMemory(memory)
+    fn from(memory: NoMemory) -> AdviseFault {
+        AdviseFault::NoMemory(memory)
     }
 }

@@ -8,4 +8,5 @@
 
 pub mod answer;
 
-pub use answer::{Advice, AdviseRefusal, Advised};
+pub use answer::{Advice, AdviseFault, Advised};
+pub use discipline::{Aim, Flow, FlowFault, Numbers, Search, Visit, may_break_at};

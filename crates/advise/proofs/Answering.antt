@@ -16,12 +16,12 @@ use Rattle.path_semantics.specs.Bounds.{IsWithinBounds}
 use Rattle.path_semantics.specs.Break.{Breaks}
 use Rattle.path_semantics.specs.Dues.{after_entry}
 use Rattle.path_semantics.proofs.Kept.{one-mapped}
-use Rattle.flow_paths.specs.Flow.{AllArrive, IsFlow}
-use Rattle.flow_paths.specs.Graph.{Node, edges_of}
-use Rattle.reason_dues.specs.Amounts.{is_there, most_of, depth_in}
-use Rattle.reason_dues.specs.declared.number_set.Numbers.{Numbers}
-use Rattle.due_search.specs.declared.queue.Visit.{Visit}
-use Rattle.due_search.specs.Ends.{HasFound}
+use Rattle.advice.specs.flow_paths.specs.Flow.{AllArrive, IsFlow}
+use Rattle.advice.specs.flow_paths.specs.Graph.{Node, edges_of}
+use Rattle.advice.specs.reason_dues.specs.Amounts.{is_there, most_of, depth_in}
+use Rattle.advice.specs.reason_dues.specs.declared.number_set.Numbers.{Numbers}
+use Rattle.advice.specs.due_search.specs.declared.queue.Visit.{Visit}
+use Rattle.advice.specs.due_search.specs.Ends.{HasFound}
 use Rattle.advice.specs.discipline.specs.Verdict.{IsEarlier}
 use Rattle.advice.specs.discipline.proofs.Impossible.{dues-own}
 use Rattle.advice.specs.discipline.proofs.Tried.{aim_with, found-none, found-some}

@@ -10,12 +10,12 @@ use Rattle.process_semantics.specs.State.{Entry, Run, Test, Last}
 use Rattle.path_semantics.specs.declared.reason.Reason.TheVariants.{Depth}
 use Rattle.path_semantics.specs.Break.{asked_count, may_break}
 use Rattle.path_semantics.specs.Place.{next_entry}
-use Rattle.flow_paths.specs.Flow.{IsFlow}
-use Rattle.flow_paths.specs.Graph.{Node}
-use Rattle.reason_dues.specs.Amounts.{may_break_at}
-use Rattle.due_search.specs.declared.queue.Visit.{Visit}
-use Rattle.due_search.specs.Ends.{AreReached}
-use Rattle.due_search.proofs.Paths.{at-node, at-stand}
+use Rattle.advice.specs.flow_paths.specs.Flow.{IsFlow}
+use Rattle.advice.specs.flow_paths.specs.Graph.{Node}
+use Rattle.advice.specs.reason_dues.specs.Amounts.{may_break_at}
+use Rattle.advice.specs.due_search.specs.declared.queue.Visit.{Visit}
+use Rattle.advice.specs.due_search.specs.Ends.{AreReached}
+use Rattle.advice.specs.due_search.proofs.Paths.{at-node, at-stand}
 use Rattle.advice.specs.Advice.{IsDepthEnough, IsLeastDepth}
 use Rattle.advice.specs.Due.{is_ask, is_ask_next, IsAskedAfter}
 use Rattle.advise.specs.Gathered.{asks_in, IsDeepest}

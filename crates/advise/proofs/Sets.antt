@@ -9,10 +9,10 @@ use Rattle.std.proofs.lemmas.Option.{slice_get_read}
 use Rattle.tal_tree.specs.declared.statement.What.{out-What}
 use Rattle.process_semantics.specs.Rests.{entry_number}
 use Rattle.process_semantics.specs.State.{Entry, Run, Test, Last}
-use Rattle.flow_paths.specs.Graph.{Node}
-use Rattle.reason_dues.specs.Sets.{has_number, AreNumbers}
-use Rattle.reason_dues.specs.declared.number_set.Numbers.{Numbers}
-use Rattle.due_search.specs.declared.queue.Visit.{Visit}
+use Rattle.advice.specs.flow_paths.specs.Graph.{Node}
+use Rattle.advice.specs.reason_dues.specs.Sets.{has_number, AreNumbers}
+use Rattle.advice.specs.reason_dues.specs.declared.number_set.Numbers.{Numbers}
+use Rattle.advice.specs.due_search.specs.declared.queue.Visit.{Visit}
 use Rattle.advice.specs.Due.{is_checkpoint}
 use Rattle.advise.specs.Gathered.{checkpoint_at, due_at, is_this, is_due_among, has_in, AreReadable, AreAdded}
 use Rattle.advise.specs.Gathered.{AreDue}

@@ -11,13 +11,13 @@ use Rattle.path_semantics.specs.declared.reason.Reason.TheVariants.{Data, Depth}
 use Rattle.path_semantics.specs.Break.{asked_count}
 use Rattle.path_semantics.specs.Path.{Leads}
 use Rattle.path_semantics.specs.Place.{Stand, next_entry}
-use Rattle.flow_paths.specs.Flow.{IsFlow}
-use Rattle.flow_paths.specs.Graph.{Node}
-use Rattle.reason_dues.specs.Amounts.{amount, one_if}
-use Rattle.due_search.specs.declared.queue.Visit.{Visit}
-use Rattle.due_search.specs.declared.search.Aim.{Aim}
-use Rattle.due_search.specs.Ends.{counted, AreReached, AreNumbered, HasFound, ends_next}
-use Rattle.due_search.proofs.Paths.{at-node, at-stand}
+use Rattle.advice.specs.flow_paths.specs.Flow.{IsFlow}
+use Rattle.advice.specs.flow_paths.specs.Graph.{Node}
+use Rattle.advice.specs.reason_dues.specs.Amounts.{amount, one_if}
+use Rattle.advice.specs.due_search.specs.declared.queue.Visit.{Visit}
+use Rattle.advice.specs.due_search.specs.declared.search.Aim.{Aim}
+use Rattle.advice.specs.due_search.specs.Ends.{counted, AreReached, AreNumbered, HasFound, ends_next}
+use Rattle.advice.specs.due_search.proofs.Paths.{at-node, at-stand}
 use Rattle.advice.specs.Due.{is_checkpoint, is_checkpoint_next, IsItemDue, IsFileDue}
 use Rattle.advise.specs.Gathered.{checkpoint_at, checkpoint_in, due_at, is_this, is_due_among, AreReadable}
 use Rattle.advise.proofs.Any.{any-there, any-at, counted-among, among-counted}

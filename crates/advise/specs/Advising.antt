@@ -3,7 +3,7 @@ use Rattle.std.specs.Prelude.{◌≡◌, ◌≤◌, ◌<◌, ℕ, List, length, 
 use Rattle.tal_tree.specs.declared.program.Program.{Program}
 use Rattle.path_semantics.specs.declared.reason.Reason.TheVariants.{Input, Depth}
 use Rattle.path_semantics.specs.Break.{Breaks}
-use Rattle.advice.specs.declared.answer.AdviseRefusal.{AdviseRefusal}
+use Rattle.advice.specs.declared.answer.AdviseFault.{AdviseFault}
 use Rattle.advice.specs.Advice.{IsLeastDepth}
 use Rattle.advice.specs.Answer.{IsAdvised}
 use Rattle.advice.specs.Choice.{deepest}
@@ -14,12 +14,12 @@ pub record NoneDeepBefore (program : Program) (file : ℕ) : Type 0 where
   pub depths : (earlier : ℕ) (path : List ℕ) → earlier < file → Breaks (deepest program) path (Depth earlier) → ⊥
 
 -- no path sends after a request was read, or the program is refused
-abbrev pub IsInputTried : Program → Result ⊤ AdviseRefusal → Type 0
+abbrev pub IsInputTried : Program → Result ⊤ AdviseFault → Type 0
 IsInputTried program (Ok _) = ((path : List ℕ) → Breaks program path Input → ⊥) × NoneDeepBefore program 0
 IsInputTried program (Err refusal) = IsAdvised program (Err refusal)
 
 -- a file's depth is the least that is enough, and no path breaks the greatest; or the program is refused
-abbrev pub IsDepthFound : Program → ℕ → Result ℕ AdviseRefusal → Type 0
+abbrev pub IsDepthFound : Program → ℕ → Result ℕ AdviseFault → Type 0
 IsDepthFound program file (Ok depth) =
     IsLeastDepth program file depth × (depth ≤ 4) × ((path : List ℕ) → Breaks (deepest program) path (Depth file) → ⊥)
 IsDepthFound program file (Err refusal) = IsAdvised program (Err refusal)
@@ -30,6 +30,6 @@ pub record AreLeastDepths (program : Program) (depths : List ℕ) : Type 0 where
   pub few : (file depth : ℕ) → slice_get depths file ≡ Some depth → depth ≤ 4
 
 -- there is such a depth for each file, or the program is refused
-abbrev pub AreDepthsFound : Program → Result (List ℕ) AdviseRefusal → Type 0
+abbrev pub AreDepthsFound : Program → Result (List ℕ) AdviseFault → Type 0
 AreDepthsFound program (Ok depths) = AreLeastDepths program depths × (length depths ≡ length program.files)
 AreDepthsFound program (Err refusal) = IsAdvised program (Err refusal)

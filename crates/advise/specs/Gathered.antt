@@ -6,10 +6,10 @@ use Rattle.std.specs.List.{list_any}
 use Rattle.tal_tree.specs.declared.statement.What.{out-What}
 use Rattle.process_semantics.specs.Rests.{entry_number}
 use Rattle.process_semantics.specs.State.{Entry, Run, Test, Last}
-use Rattle.flow_paths.specs.Graph.{Node}
-use Rattle.reason_dues.specs.Sets.{has_number}
-use Rattle.reason_dues.specs.declared.number_set.Numbers.{Numbers}
-use Rattle.due_search.specs.declared.queue.Visit.{Visit}
+use Rattle.advice.specs.flow_paths.specs.Graph.{Node}
+use Rattle.advice.specs.reason_dues.specs.Sets.{has_number}
+use Rattle.advice.specs.reason_dues.specs.declared.number_set.Numbers.{Numbers}
+use Rattle.advice.specs.due_search.specs.declared.queue.Visit.{Visit}
 use Rattle.advice.specs.Due.{is_checkpoint, is_ask_next}
 
 -- the number of a CHECKPOINT

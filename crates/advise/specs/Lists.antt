@@ -3,7 +3,7 @@ use Rattle.std.specs.Prelude.{ℕ, zero, suc, ◌++◌, Bool, if◌then◌else�
 use Rattle.tal_tree.specs.Statements.{all_of}
 use Rattle.tal_tree.specs.declared.program.Program.{Program}
 use Rattle.tal_tree.specs.declared.statement.Statement.{Statement}
-use Rattle.reason_dues.specs.declared.number_set.Numbers.{Numbers}
+use Rattle.advice.specs.reason_dues.specs.declared.number_set.Numbers.{Numbers}
 use Rattle.advice.specs.Answer.{marks}
 use Rattle.advice.specs.declared.answer.Advised.{Advised}
 use Rattle.advise.specs.Gathered.{has_in}

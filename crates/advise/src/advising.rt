@@ -3,9 +3,9 @@ ghost use Rattle.tal_tree.specs.Limits.{IsWithinLimits};
 ghost use Rattle.tal_tree.specs.Ordered.{IsOrdered};
 ghost use Rattle.tal_tree.specs.Regular.{IsRegular};
 ghost use Rattle.path_semantics.specs.Bounds.{IsWithinBounds};
-ghost use Rattle.flow_paths.specs.Flow.{IsFlow};
-ghost use Rattle.due_search.specs.Ends.{AreNumbered};
-ghost use Rattle.due_search.specs.Search.{IsClear};
+ghost use Rattle.advice.specs.flow_paths.specs.Flow.{IsFlow};
+ghost use Rattle.advice.specs.due_search.specs.Ends.{AreNumbered};
+ghost use Rattle.advice.specs.due_search.specs.Search.{IsClear};
 ghost use Rattle.advice.specs.Answer.{IsAdvised};
 ghost use Rattle.advice.specs.Due.{IsItemDue, IsFileDue};
 ghost use Rattle.advise.specs.Gathered.{AreDue};
@@ -14,9 +14,7 @@ ghost use Rattle.advise.specs.Advising.{IsInputTried, NoneDeepBefore, IsDepthFou
 use crate::deepest::deepest;
 use crate::due_sets::DueSets;
 use crate::lists::lists_of;
-use advice::{Advice, AdviseRefusal};
-use due_search::{Aim, Search};
-use flow_paths::{Flow, FlowFault};
+use advice::{Advice, AdviseFault, Aim, Flow, FlowFault, Search};
 use gd_words::{List, NoMemory};
 use path_semantics::Reason;
 use std::alloc::Global;
@@ -28,7 +26,7 @@ const MOST_DEPTH: u8 = 4;
 /// The advice for a program: for each CHECKPOINT the globals and files that it has to name, and for each file how many
 /// replies have to be kept; or why no lists and depths mend the program. Among causes too deep calls come first, then
 /// too many statements, then input, and the files as they are opened.
-pub fn advise(alloc: Global, program: &Program) -> Result<Advice, AdviseRefusal>
+pub fn advise(alloc: Global, program: &Program) -> Result<Advice, AdviseFault>
     requires ordered { IsOrdered program.now }
     requires limits { IsWithinLimits program.now }
     requires regular { IsRegular program.now }
@@ -36,14 +34,14 @@ pub fn advise(alloc: Global, program: &Program) -> Result<Advice, AdviseRefusal>
 {
     match Flow::of(alloc, program) {
         Ok(flow) => advise_by(alloc, program, &flow),
-        Err(FlowFault::TooDeep) => Err(AdviseRefusal::TooDeep),
-        Err(FlowFault::TooLarge(size)) => Err(AdviseRefusal::TooLarge(size)),
-        Err(FlowFault::NoMemory(memory)) => Err(AdviseRefusal::NoMemory(memory)),
+        Err(FlowFault::TooDeep) => Err(AdviseFault::TooDeep),
+        Err(FlowFault::TooLarge(size)) => Err(AdviseFault::TooLarge(size)),
+        Err(FlowFault::NoMemory(memory)) => Err(AdviseFault::NoMemory(memory)),
     }
 }
 
 /// The advice for the program of a graph.
-fn advise_by(alloc: Global, program: &Program, flow: &Flow<'_>) -> Result<Advice, AdviseRefusal>
+fn advise_by(alloc: Global, program: &Program, flow: &Flow<'_>) -> Result<Advice, AdviseFault>
     requires ordered { IsOrdered program.now }
     requires limits { IsWithinLimits program.now }
     requires regular { IsRegular program.now }
@@ -68,7 +66,7 @@ fn try_input(
     program: &Program,
     flow: &Flow<'_>,
     search: &mut Search,
-) -> Result<(), AdviseRefusal>
+) -> Result<(), AdviseFault>
     requires bounds { IsWithinBounds program.now }
     requires flow { IsFlow program.now flow.now }
     requires numbers { AreNumbered flow.now }
@@ -86,7 +84,7 @@ fn try_input(
     };
     match search.run(alloc, flow, aim)? {
         None => Ok(()),
-        Some(path) => Err(AdviseRefusal::Unmendable { reason, path }),
+        Some(path) => Err(AdviseFault::Unmendable { reason, path }),
     }
 }
 
@@ -97,7 +95,7 @@ fn find_depths(
     flow: &Flow<'_>,
     search: &mut Search,
     files: &mut DueSets,
-) -> Result<List<u8>, AdviseRefusal>
+) -> Result<List<u8>, AdviseFault>
     requires limits { IsWithinLimits program.now }
     requires bounds { IsWithinBounds program.now }
     requires flow { IsFlow program.now flow.now }
@@ -127,7 +125,7 @@ fn find_depth(
     search: &mut Search,
     files: &mut DueSets,
     file: u8,
-) -> Result<u8, AdviseRefusal>
+) -> Result<u8, AdviseFault>
     requires there { file < length program.now.files }
     requires limits { IsWithinLimits program.now }
     requires bounds { IsWithinBounds program.now }
@@ -156,7 +154,7 @@ fn find_depth(
             files.add(flow, visits, u16::from(file));
             Ok(deepest(flow, visits, file))
         }
-        Some(path) => Err(AdviseRefusal::Unmendable { reason, path }),
+        Some(path) => Err(AdviseFault::Unmendable { reason, path }),
     }
 }
 

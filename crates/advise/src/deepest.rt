@@ -1,10 +1,8 @@
 ghost use Rattle.std.specs.Prelude.{length};
 ghost use Rattle.advise.specs.Gathered.{AreReadable, IsDeepest};
 
-use due_search::Visit;
-use flow_paths::Flow;
+use advice::{Flow, Visit, may_break_at};
 use path_semantics::Reason;
-use reason_dues::may_break_at;
 
 /// The least depth that is enough for a file at each of these visits, from 1 on.
 pub(crate) fn deepest(flow: &Flow<'_>, visits: &[Visit], file: u8) -> u8

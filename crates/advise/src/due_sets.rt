@@ -1,13 +1,11 @@
 ghost use Rattle.std.specs.Prelude.{◌≡◌, ◌<◌, ◌≤◌, ℕ, length, false, IfOk};
 ghost use Rattle.process_semantics.specs.SeenEntries.{entry_of};
-ghost use Rattle.reason_dues.specs.Sets.{has_number};
+ghost use Rattle.advice.specs.reason_dues.specs.Sets.{has_number};
 ghost use Rattle.advise.specs.Gathered.{checkpoint_at, due_at, has_in, AreReadable, AreAdded};
 
-use due_search::Visit;
-use flow_paths::Flow;
+use advice::{Flow, Numbers, Visit};
 use gd_words::NoMemory;
 use process_semantics::Entry;
-use reason_dues::Numbers;
 use std::alloc::Global;
 use tal_tree::What;
 

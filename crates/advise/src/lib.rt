@@ -11,5 +11,6 @@ mod deepest;
 mod due_sets;
 mod lists;
 
-pub use advice;
+pub use advice::{Advice, AdviseFault, Advised};
 pub use advising::advise;
+pub use path_semantics::{Reason, RefusalFault};

@@ -1,14 +1,13 @@
 ghost use Rattle.std.specs.Prelude.{◌≡◌, ◌≤◌, length, map, IfOk};
 ghost use Rattle.advice.specs.Answer.{checkpoints_of as program_checkpoints};
-ghost use Rattle.reason_dues.specs.Sets.{has_number};
+ghost use Rattle.advice.specs.reason_dues.specs.Sets.{has_number};
 ghost use Rattle.advise.specs.Gathered.{has_in};
 ghost use Rattle.advise.specs.Lists.{place_of, numbers_below, advised};
 
 use crate::checkpoints::{Checkpoint, checkpoints_of};
 use crate::due_sets::DueSets;
-use advice::Advised;
+use advice::{Advised, Numbers};
 use gd_words::{List, NoMemory};
-use reason_dues::Numbers;
 use std::alloc::Global;
 use tal_tree::Program;
 

@@ -71,8 +71,8 @@ RunsFresh {S} {P} sizes w counts agenda s =
     (list_all is_calm_line agenda.lines ≡ true) × HeldFresh sizes w counts agenda.standing s agenda.held_back
 
 -- a machine whose states are numbered, as its packets are
-abbrev pub Machine : Type 0
-Machine = ℕ → Event → Option ℕ
+abbrev pub NumberedMachine : Type 0
+NumberedMachine = ℕ → Event → Option ℕ
 
-abbrev pub Plays : Machine → ℕ → Event → ℕ → Type 0
-Plays machine s event next = machine s event ≡ Some next
+abbrev pub PlaysTo : NumberedMachine → ℕ → Event → ℕ → Type 0
+PlaysTo machine s event next = machine s event ≡ Some next

@@ -14,27 +14,28 @@ ghost use Rattle.round_laws.specs.Buses.{HasBuses};
 ghost use Rattle.round_laws.specs.Rounds.{TurnsIn};
 ghost use Rattle.round_laws.specs.Stretches.{CountsBuses};
 ghost use Rattle.alive_rounds.specs.Fresh.{IsFresh};
-ghost use Rattle.alive_rounds.specs.Runs.{CountsShown, Machine, Plays};
+ghost use Rattle.alive_rounds.specs.Runs.{CountsShown, NumberedMachine, PlaysTo};
 ghost use Rattle.alive_rounds.specs.Watched.{IsWatched, Sight};
 
 /// Every turn of a round keeps I'm-alive packets fresh, on each machine of at most 16 processors whose nodes watch each
 /// other.
 pub fn a_turn_keeps_alive_packets_fresh()
-    ensures { (sizes : Sizes) (w : Sight ℕ ℕ) (machine : Machine) → IsWatched sizes.processors w (Plays machine)
-        → sizes.processors ≤ 16 → HasBuses w.buses (Plays machine) → (s : ℕ) (event : Event) (next : ℕ)
-        (from to : Place) → TurnsIn sizes w.buses s from event to → Plays machine s event next
+    ensures { (sizes : Sizes) (w : Sight ℕ ℕ) (machine : NumberedMachine)
+        → IsWatched sizes.processors w (PlaysTo machine)
+        → sizes.processors ≤ 16 → HasBuses w.buses (PlaysTo machine) → (s : ℕ) (event : Event) (next : ℕ)
+        (from to : Place) → TurnsIn sizes w.buses s from event to → PlaysTo machine s event next
         → IsFresh sizes.processors w from s → IsFresh sizes.processors w to next }
 {}
 
 /// On such a machine, no tick of a calm schedule stops a processor.
 pub fn a_calm_schedule_stops_nobody_at_a_tick()
-    ensures { (sizes : Sizes) (w : Sight ℕ ℕ) (machine : Machine) (counts : ℕ → Counts)
-        → IsWatched sizes.processors w (Plays machine) → sizes.processors ≤ 16 → HasBuses w.buses (Plays machine)
-        → CountsBuses w.buses counts → CountsShown (Plays machine) counts
+    ensures { (sizes : Sizes) (w : Sight ℕ ℕ) (machine : NumberedMachine) (counts : ℕ → Counts)
+        → IsWatched sizes.processors w (PlaysTo machine) → sizes.processors ≤ 16 → HasBuses w.buses (PlaysTo machine)
+        → CountsBuses w.buses counts → CountsShown (PlaysTo machine) counts
         → (start : ℕ) (lines : List Line) (stop : Option ProcessorStop) → list_all is_calm_line lines ≡ true
         → IsFresh sizes.processors w Before start → (events : List Event) (agenda : Agenda) (s : ℕ)
-        → PlaysOn sizes counts (Plays machine) start lines stop events agenda s
+        → PlaysOn sizes counts (PlaysTo machine) start lines stop events agenda s
         → (plan : Plan) → upcoming sizes (length events) (counts s) agenda ≡ Some plan
-        → (next : ℕ) → Plays machine s plan.event next → (node p : ℕ) → plan.event ≡ Tick node
+        → (next : ℕ) → PlaysTo machine s plan.event next → (node p : ℕ) → plan.event ≡ Tick node
         → p < sizes.processors → w.runs s p ≡ true → w.runs next p ≡ true }
 {}

@@ -2,9 +2,9 @@
 use Rattle.std.proofs.Common.{◌≡◌, ◌≢◌, ℕ, ◌+◌, ◌≤◌, ℤ, List, length, Some, slice_get, ap, arith}
 use Rattle.tal_tree.specs.declared.site.Site.{Site}
 use Rattle.tal_tree.specs.declared.site.Who.{Who}
-use Rattle.plain_semantics.specs.declared.slot.Opener.{Opener}
-use Rattle.plain_semantics.specs.declared.slot.Slot.{Slot}
-use Rattle.plain_semantics.specs.Openers.{opener_of}
+use Rattle.world_semantics.specs.plain_semantics.specs.declared.slot.Opener.{Opener}
+use Rattle.world_semantics.specs.plain_semantics.specs.declared.slot.Slot.{Slot}
+use Rattle.world_semantics.specs.plain_semantics.specs.Openers.{opener_of}
 use Rattle.world_semantics.specs.World.{Pair, World, copy_of}
 use Rattle.world_semantics.specs.declared.role.Role.TheVariants.{Gone, Blank}
 use Rattle.world_semantics.specs.declared.which.Which.{Which}

@@ -7,10 +7,10 @@ use Rattle.tal_tree.specs.declared.site.ProcessSpec.{ProcessSpec}
 use Rattle.tal_tree.specs.declared.site.Site.{Site}
 use Rattle.tal_tree.specs.declared.site.Who.{Who}
 use Rattle.tal_tree.specs.declared.site.Who.TheVariants as who
-use Rattle.process_semantics.specs.declared.point.Point.TheVariants as point
-use Rattle.process_semantics.specs.Process as process
-use Rattle.plain_semantics.specs.declared.slot.Opener.{Opener}
-use Rattle.plain_semantics.specs.Openers.{files_of, openers_of, opener_of}
+use Rattle.takeover_laws.specs.process_semantics.specs.declared.point.Point.TheVariants as point
+use Rattle.takeover_laws.specs.process_semantics.specs.Process as process
+use Rattle.world_semantics.specs.plain_semantics.specs.declared.slot.Opener.{Opener}
+use Rattle.world_semantics.specs.plain_semantics.specs.Openers.{files_of, openers_of, opener_of}
 use Rattle.world_semantics.specs.Core.{Core, Deed, Went, Checkpointed, Took, Asked, Got, Answered, Acted, goes, marks}
 use Rattle.world_semantics.specs.Core.{takes, asks, gets, answers, acts, next_on}
 use Rattle.world_semantics.specs.World.{Copy, World, copy_of}

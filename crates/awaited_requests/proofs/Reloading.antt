@@ -3,15 +3,15 @@ use Rattle.awaited_requests.specs.Awaited.{IsAwaited, by_copy, by_terminal}
 use Rattle.awaited_requests.specs.Seats.{IsLaidOut}
 use Rattle.awaited_requests.specs.Served.{AreServed, IsServed, WaitsFor, is_owed, is_seen, reply_of}
 use Rattle.awaited_requests.specs.Served.{request_of, route_stopped}
-use Rattle.checkpoint_image.specs.Receive.{standing_at}
-use Rattle.checkpoint_image.specs.declared.receive.RequestStanding.TheVariants.{Kept, Next}
+use Rattle.world_semantics.specs.checkpoint_image.specs.Receive.{standing_at}
+use Rattle.world_semantics.specs.checkpoint_image.specs.declared.receive.RequestStanding.TheVariants.{Kept, Next}
 use Rattle.gd_words.specs.Members.{IsAmong}
 use Rattle.letters.proofs.Owed.{filter-among}
 use Rattle.letters.specs.Posts.{Post, after_reloading, is_from_or_to, without_those_of}
 use Rattle.letters.specs.Routes.{Letter, home_of, route_of, route_to}
-use Rattle.plain_semantics.specs.declared.slot.Opener.{Opener}
-use Rattle.process_semantics.specs.Process as process
-use Rattle.process_semantics.specs.declared.point.Point.TheVariants as point
+use Rattle.world_semantics.specs.plain_semantics.specs.declared.slot.Opener.{Opener}
+use Rattle.takeover_laws.specs.process_semantics.specs.Process as process
+use Rattle.takeover_laws.specs.process_semantics.specs.declared.point.Point.TheVariants as point
 use Rattle.std.proofs.Common.{Bool, List, None, Option, Some, [], ap, arith, false, inl, inr, length}
 use Rattle.std.proofs.Common.{not, option_map, refl, slice_get, slice_set, subst, suc, sym, true, zero, ℕ, ℤ, ◌+◌, ◌<◌}
 use Rattle.std.proofs.Common.{◌==◌, ◌∙◌, ◌∷◌, ◌≡◌, ◌≢◌, ◌≤◌, ◌⊎◌}

@@ -6,7 +6,7 @@ use Rattle.tal_tree.specs.declared.act.Act.{Act}
 use Rattle.tal_tree.specs.declared.site.ProcessSpec.{ProcessSpec}
 use Rattle.tal_tree.specs.declared.site.Site.{Site}
 use Rattle.tal_tree.specs.declared.site.TerminalSpec.{TerminalSpec}
-use Rattle.checkpoint_image.specs.declared.message.ImageMessage.{ImageMessage}
+use Rattle.world_semantics.specs.checkpoint_image.specs.declared.message.ImageMessage.{ImageMessage}
 use Rattle.schedule.specs.declared.event.Event.{Event}
 use Rattle.world_semantics.specs.Core.{Core}
 use Rattle.world_semantics.specs.Follows.{IsRun, stays}
@@ -391,7 +391,8 @@ not-reloaded w next cause sendings change on ok number pair at =
     let led = change-led w next cause sendings change on number pair at in
     led-stays led.before pair led.same
     (λ k. becomes-getting
-    (change-copy w next cause sendings number led.before pair k change led.there at) on) (ok number led.before led.there)
+    (change-copy w next cause sendings number led.before pair k change led.there at) on)
+    (ok number led.before led.there)
 
 acts-apart : {cause : Cause} {x : ℕ} → acts_by cause ≡ 1 → cause ≡ Reloading x → ⊥
 acts-apart one is = let none = ap acts_by (sym is) ∙ one in cc

@@ -1,8 +1,8 @@
 ghost use Rattle.std.specs.Prelude.{◌≡◌, ℕ, false, List, [], ◌∷◌};
 ghost use Rattle.tal_tree.specs.declared.site.Who.{Who};
 ghost use Rattle.tal_tree.specs.declared.site.Who.TheVariants.{Terminal};
-ghost use Rattle.checkpoint_image.specs.declared.receive.RequestStanding.TheVariants.{Old};
-ghost use Rattle.checkpoint_image.specs.Receive.{standing_at};
+ghost use Rattle.world_semantics.specs.checkpoint_image.specs.declared.receive.RequestStanding.TheVariants.{Old};
+ghost use Rattle.world_semantics.specs.checkpoint_image.specs.Receive.{standing_at};
 ghost use Rattle.takeover_laws.specs.process_histories.specs.Served.{disc_site};
 ghost use Rattle.world_semantics.specs.Core.{Core};
 ghost use Rattle.world_semantics.specs.World.{terminal_node, boot};

@@ -3,8 +3,8 @@ ghost use Rattle.std.specs.Prelude.{◌≡◌, ◌≢◌, ◌<◌, ℕ, List, le
 ghost use Rattle.tal_tree.specs.declared.site.Site.{Site};
 ghost use Rattle.tal_tree.specs.declared.site.Who.{Who};
 ghost use Rattle.schedule.specs.declared.event.Event.{Event};
-ghost use Rattle.plain_semantics.specs.declared.slot.Opener.{Opener};
-ghost use Rattle.plain_semantics.specs.Openers.{opener_of};
+ghost use Rattle.world_semantics.specs.plain_semantics.specs.declared.slot.Opener.{Opener};
+ghost use Rattle.world_semantics.specs.plain_semantics.specs.Openers.{opener_of};
 ghost use Rattle.world_semantics.specs.Follows.{IsRun};
 ghost use Rattle.world_semantics.specs.World.{Pair, World, copy_of};
 ghost use Rattle.world_semantics.specs.declared.role.Role.TheVariants.{Blank, Gone};

@@ -27,7 +27,7 @@ use Rattle.computed_changes.specs.Stopped.{stop_done}
 use Rattle.machine_states.specs.States.{Harm}
 use Rattle.packet_words.specs.declared.bus_name.BusName.{BusName}
 use Rattle.packet_wires.specs.Wires.{on_bus, packets_over}
-use Rattle.packet_wires.specs.Play.{IsClear, Packeted, begun as event_begun, fail_acted, out_of, packeted_at_boot}
+use Rattle.packet_wires.specs.Play.{IsClear, Packeted, underway, fail_acted, out_of, packeted_at_boot}
 use Rattle.packet_wires.specs.Play.{sent_by, stop_acted}
 use Rattle.round_laws.specs.Stretches.{is_drain}
 use Rattle.calm_runs.specs.packet_rounds.specs.Played.{IsClearPlay}
@@ -36,8 +36,8 @@ use Rattle.schedule_loop.specs.Ends.{Plays, RunsToHarmBy, planned_in}
 use Rattle.schedule_loop.specs.Plans.{Sight, next_seen, planned_seen, seen_none, seen_on, upcoming_seen}
 use Rattle.schedule_loop.specs.Plans.{upcoming_seen_after}
 use Rattle.schedule_loop.specs.Rules.{IsPlayBy, sight_of}
-use Rattle.packet_runs.proofs.Played.{played}
-use Rattle.packet_runs.specs.Runs.{course_on, packet_rules, sizes_of}
+use Rattle.packet_lengths.specs.packet_runs.proofs.Played.{played}
+use Rattle.packet_lengths.specs.packet_runs.specs.Runs.{course_on, packet_rules, sizes_of}
 use Rattle.packet_lengths.proofs.Buses.{bus-few}
 use Rattle.bounded_runs.specs.Moments.{AreClear, counts_in}
 use Rattle.bounded_runs.specs.Places.{is_in_drain_round}
@@ -158,11 +158,11 @@ module _ (sizes : Sizes) (sight : Sight) where
 fail-sends : (s : Packeted) (processor : ℕ) → sent_by s (Fail processor) ≡ []
 fail-sends s processor = by (slice_get s.world.stopped processor)
   where
-    stops : (done : Option Done) → out_of (stop_acted processor (event_begun s) done) ≡ []
+    stops : (done : Option Done) → out_of (stop_acted processor (underway s) done) ≡ []
     stops None = refl
     stops (Some done) = refl
 
-    by : (stopped : Option Bool) → out_of (fail_acted processor (event_begun s) stopped) ≡ []
+    by : (stopped : Option Bool) → out_of (fail_acted processor (underway s) stopped) ≡ []
     by None = refl
     by (Some true) = refl
     by (Some false) = stops (stop_done processor s.world)

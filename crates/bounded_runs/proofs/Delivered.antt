@@ -20,7 +20,7 @@ use Rattle.round_laws.proofs.Stretching.{stretch-rounds}
 use Rattle.calm_runs.specs.packet_rounds.specs.Played.{IsPlay, buses_of}
 use Rattle.calm_runs.specs.packet_rounds.proofs.Buses.{has-buses}
 use Rattle.schedule_loop.specs.Rules.{IsPlayBy, sight_of}
-use Rattle.packet_runs.specs.Runs.{packet_rules, sizes_of}
+use Rattle.packet_lengths.specs.packet_runs.specs.Runs.{packet_rules, sizes_of}
 use Rattle.bounded_runs.specs.Moments.{AreDrainRounds, Moment, counts_in, delivered_by, state_after}
 use Rattle.bounded_runs.proofs.Playing.{alive_in, one-next, sender_in}
 use Rattle.bounded_runs.proofs.Stretches.{Cut, DrainSteps, PlannedOn, at_first, counted-on, counted_plans, cut}

@@ -17,8 +17,8 @@ use Rattle.calm_runs.specs.packet_rounds.specs.Played.{IsClearPlay, IsPlay}
 use Rattle.calm_runs.specs.packet_rounds.proofs.Rounds.{lines-end}
 use Rattle.schedule_loop.specs.Ends.{Plays, planned_in}
 use Rattle.schedule_loop.specs.Rules.{IsPlayBy, sight_of}
-use Rattle.packet_runs.proofs.Played.{played}
-use Rattle.packet_runs.specs.Runs.{course_on, packet_rules, sizes_of}
+use Rattle.packet_lengths.specs.packet_runs.proofs.Played.{played}
+use Rattle.packet_lengths.specs.packet_runs.specs.Runs.{course_on, packet_rules, sizes_of}
 use Rattle.bounded_runs.specs.Moments.{AreClear, AreDrainRounds, Moment, counts_in}
 use Rattle.bounded_runs.specs.Places.{is_in_drain_round}
 use Rattle.bounded_runs.proofs.Playing.{alive_in, counted, one-next, sender_in}

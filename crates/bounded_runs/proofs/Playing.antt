@@ -3,7 +3,7 @@ use Rattle.std.proofs.Common.{◌≡◌, inl, inr, ◌∙◌, Bool, ℕ, refl, a
 use Rattle.schedule.specs.declared.event.Event.{Event}
 use Rattle.player.specs.declared.player.Player.{Player}
 use Rattle.machine_states.specs.States.{Played, Makes, Skips}
-use Rattle.node_copies.specs.ShownCounts.{replies_in, writes_in}
+use Rattle.packet_lengths.specs.node_copies.specs.ShownCounts.{replies_in, writes_in}
 use Rattle.packet_wires.specs.Play.{Packeted, count_on, play}
 use Rattle.packet_wires.specs.Wires.{Wires}
 use Rattle.packet_words.specs.declared.bus_name.BusName.TheVariants as bus
@@ -11,7 +11,7 @@ use Rattle.round_laws.specs.Stretches.{CountsBuses}
 use Rattle.calm_runs.specs.packet_rounds.specs.Played.{buses_of}
 use Rattle.calm_runs.specs.Sights.{CountsOfShown}
 use Rattle.schedule_loop.specs.Rules.{IsPlayBy}
-use Rattle.packet_runs.specs.Runs.{concerned, is_alive, packet_rules, sender_of}
+use Rattle.packet_lengths.specs.packet_runs.specs.Runs.{concerned, is_alive, packet_rules, sender_of}
 use Rattle.bounded_runs.specs.Moments.{counts_in}
 
 -- whether the packet that the next event concerns is an alive one, and who sent it

@@ -11,9 +11,9 @@ use Rattle.packet_wires.specs.Play.{Packeted}
 use Rattle.schedule_loop.specs.Ends.{EndsBy, Plays, RunsToHarmBy, ending_by}
 use Rattle.schedule_loop.specs.declared.ran.Ending.{Ending}
 use Rattle.schedule_loop.specs.declared.ran.Ending.TheVariants.{Cut, Idle, Lost, Second}
-use Rattle.packet_runs.specs.Ends.{IsRunOf}
-use Rattle.packet_runs.specs.Runs.{course_on, packet_rules}
-use Rattle.packet_runs.specs.declared.ran.Ran.{Ran}
+use Rattle.packet_lengths.specs.packet_runs.specs.Ends.{IsRunOf}
+use Rattle.packet_lengths.specs.packet_runs.specs.Runs.{course_on, packet_rules}
+use Rattle.packet_lengths.specs.packet_runs.specs.declared.ran.Ran.{Ran}
 use Rattle.bounded_runs.specs.Moments.{AreClear, Moment}
 use Rattle.bounded_runs.proofs.Calm.{no-harm}
 use Rattle.machine_states.specs.States.{Harm, SecondStop, DiscLoss}

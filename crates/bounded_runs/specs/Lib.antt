@@ -1,3 +1,3 @@
 pub mod Moments
 pub mod Places
-pub use Rattle.packet_runs
+pub use Rattle.packet_lengths.specs.packet_runs

@@ -8,7 +8,7 @@ use Rattle.player.specs.declared.standing.Rule.{Rule}
 use Rattle.player.specs.declared.stop.ProcessorStop.{ProcessorStop}
 use Rattle.agendas.specs.Agendas.{Agenda, Plan}
 use Rattle.machine_states.specs.States.{Played, Makes, Skips, Would}
-use Rattle.node_copies.specs.ShownCounts.{replies_in, writes_in}
+use Rattle.packet_lengths.specs.node_copies.specs.ShownCounts.{replies_in, writes_in}
 use Rattle.packet_words.specs.declared.bus_name.BusName.TheVariants as bus
 use Rattle.packet_words.specs.declared.packet.Packet.{Packet}
 use Rattle.packet_wires.specs.Idle.{is_idle}
@@ -18,7 +18,7 @@ use Rattle.round_laws.specs.Buses.{delivered_of}
 use Rattle.round_laws.specs.Stretches.{BeginsRound, EndsRound, is_drain}
 use Rattle.calm_runs.specs.packet_rounds.specs.Played.{buses_of}
 use Rattle.schedule_loop.specs.Ends.{Plays, planned_in}
-use Rattle.packet_runs.specs.Runs.{course_on, packet_rules, sizes_of}
+use Rattle.packet_lengths.specs.packet_runs.specs.Runs.{course_on, packet_rules, sizes_of}
 use Rattle.bounded_runs.specs.Places.{is_in_drain_round}
 
 -- Moments

@@ -17,9 +17,9 @@ ghost use Rattle.calm_runs.specs.packet_rounds.specs.Pieces.{IsAcknowledged};
 ghost use Rattle.calm_runs.specs.packet_rounds.specs.Played.{buses_of};
 ghost use Rattle.schedule_loop.specs.Rules.{IsPlayBy};
 ghost use Rattle.schedule_loop.specs.declared.ran.Ending.TheVariants.{Lost, Second};
-ghost use Rattle.packet_runs.specs.Ends.{IsRunOf};
-ghost use Rattle.packet_runs.specs.Runs.{packet_rules};
-ghost use Rattle.packet_runs.specs.declared.ran.Ran.{Ran};
+ghost use Rattle.packet_lengths.specs.packet_runs.specs.Ends.{IsRunOf};
+ghost use Rattle.packet_lengths.specs.packet_runs.specs.Runs.{packet_rules};
+ghost use Rattle.packet_lengths.specs.packet_runs.specs.declared.ran.Ran.{Ran};
 ghost use Rattle.bounded_runs.specs.Moments.{AreClear, AreDrainRounds, ComesNext, Moment, delivered_by};
 
 /// What a run has played is a moment of its schedule.

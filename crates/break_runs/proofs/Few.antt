@@ -9,8 +9,8 @@ use Rattle.tal_tree.specs.declared.site.Site.{Site}
 use Rattle.schedule.specs.declared.event.Event.{Event}
 use Rattle.schedule.specs.declared.line.Line.{Line}
 use Rattle.player.specs.declared.stop.ProcessorStop.{ProcessorStop}
-use Rattle.message_wires.specs.Play.{MachineState}
-use Rattle.message_wires.specs.Runs.{IsPlayed}
+use Rattle.schedule_runs.specs.message_wires.specs.Play.{MachineState}
+use Rattle.schedule_runs.specs.message_wires.specs.Runs.{IsPlayed}
 use Rattle.schedule_runs.specs.pair_machine.specs.number_laws.proofs.Played.{kinds_of, played-within}
 use Rattle.schedule_runs.specs.pair_machine.specs.number_laws.proofs.Within.{WorldWithin, held_in}
 use Rattle.schedule_runs.proofs.Played.{played}

@@ -7,7 +7,7 @@ ghost use Rattle.schedule_runs.specs.Ends.{IsRunOf};
 ghost use Rattle.schedule_runs.specs.declared.ran.Ran.{Ran};
 ghost use Rattle.world_semantics.specs.Kept.{closed};
 
-use schedule_runs::world_copies::laws::a_closed_world_has_the_closed_run;
+use schedule_runs::a_closed_world_has_the_closed_run;
 
 /// A run does at most as many acts as events were played, and so fewer than there are numbers of 32 bits.
 pub fn a_run_does_few_acts()

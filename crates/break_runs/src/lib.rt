@@ -13,7 +13,8 @@ pub mod searching;
 pub mod stops;
 pub mod tried;
 
-pub use break_progress;
+pub use break_progress::runs_of;
 pub use found::{Break, Search, StopBreak};
 pub use laws::a_run_does_few_acts;
 pub use searching::search_breaks;
+pub use unfailing_judge::{Apart, Stuck, Wrong};

@@ -7,10 +7,10 @@ use Rattle.tal_tree.specs.declared.act.Act.TheVariants.{Step, Take, Enter, Print
 use Rattle.tal_tree.specs.declared.site.Site.{Site}
 use Rattle.tal_tree.specs.declared.act.Shown.{Shown}
 use Rattle.trace_print.specs.ShownLine.{process_name, shown_line, terminal_name}
-use Rattle.unfailing_judge.specs.declared.wrong.Apart.{Apart}
-use Rattle.unfailing_judge.specs.declared.wrong.Stuck.{Stuck}
-use Rattle.unfailing_judge.specs.declared.wrong.Wrong.{Wrong}
-use Rattle.unfailing_judge.specs.declared.wrong.Wrong.TheVariants as wrong
+use Rattle.break_runs.specs.unfailing_judge.specs.declared.wrong.Apart.{Apart}
+use Rattle.break_runs.specs.unfailing_judge.specs.declared.wrong.Stuck.{Stuck}
+use Rattle.break_runs.specs.unfailing_judge.specs.declared.wrong.Wrong.{Wrong}
+use Rattle.break_runs.specs.unfailing_judge.specs.declared.wrong.Wrong.TheVariants as wrong
 use Rattle.break_runs.specs.break_progress.specs.Progress.{runs_of}
 use Rattle.break_runs.specs.declared.found.Break.{Break}
 use Rattle.break_runs.specs.declared.found.Search.{Search}

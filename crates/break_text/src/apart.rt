@@ -2,11 +2,11 @@ ghost use Rattle.std.specs.Prelude.{◌≡◌, ◌++◌, OnOk};
 ghost use Rattle.break_text.specs.BreakText.{agreed_text, apart_if, apart_text, unlike_text};
 
 use crate::lines::put_line;
+use break_runs::Apart;
 use gd_words::{List, NoMemory};
 use std::alloc::Global;
 use tal_tree::Site;
 use text_pieces::{put, put_number};
-use unfailing_judge::Apart;
 
 /// Puts where the run differs from unfailing processes behind the text, if it does.
 pub(crate) fn put_apart_if(

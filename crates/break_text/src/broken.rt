@@ -4,13 +4,12 @@ ghost use Rattle.break_text.specs.BreakText.{stopped_text, stuck_text, wrong_tex
 
 use crate::apart::{put_apart, put_apart_if};
 use crate::names::{act_name, actor_name};
-use break_runs::Break;
+use break_runs::{Break, Stuck, Wrong};
 use gd_words::{List, NoMemory};
 use player::ProcessorStop;
 use std::alloc::Global;
 use tal_tree::{Act, Site};
 use text_pieces::{put, put_number};
-use unfailing_judge::{Stuck, Wrong};
 
 /// Puts the run that breaks behind the text.
 pub(crate) fn put_break(

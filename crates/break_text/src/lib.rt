@@ -11,5 +11,5 @@ mod lines;
 mod names;
 pub mod whole;
 
-pub use break_runs;
+pub use break_runs::search_breaks;
 pub use whole::put_search;

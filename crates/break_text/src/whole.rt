@@ -2,8 +2,7 @@ ghost use Rattle.std.specs.Prelude.{◌≡◌, ◌++◌, OnOk};
 ghost use Rattle.break_text.specs.BreakText.{asked_text, search_text, tried_text, unbroken_text};
 
 use crate::broken::put_break;
-use break_runs::Search;
-use break_runs::break_progress::runs_of;
+use break_runs::{Search, runs_of};
 use gd_words::{List, NoMemory};
 use std::alloc::Global;
 use tal_tree::Site;

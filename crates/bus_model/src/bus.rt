@@ -3,8 +3,7 @@ ghost use Rattle.std.specs.List.{remove};
 ghost use Rattle.std.specs.Option.{option_copied, option_map};
 ghost use Rattle.bus_model.specs.Packets.{has_room, sent, sent_again};
 
-use gd_words::NoMemory;
-use packet_words::Packet;
+use packet_words::{NoMemory, Packet};
 use std::alloc::Global;
 use std::collections::VecDeque;
 use std::marker::Model;

@@ -12,18 +12,18 @@ use Rattle.schedule_loop.specs.declared.ran.Ending.{Ending}
 use Rattle.schedule_loop.specs.declared.ran.Ending.TheVariants as ending
 use Rattle.verdicts.specs.Refused.{AreAccepted}
 use Rattle.bounded_runs.proofs.Runs.{never-harmed}
-use Rattle.command_dues.specs.Decided.{IsDue, IsDueOfRun}
-use Rattle.command_dues.specs.RunEnds.{status_of_run}
-use Rattle.command_dues.specs.Tasks.{can_stop}
-use Rattle.command_dues.specs.Written.{outcome_of, status_of}
-use Rattle.command_dues.specs.declared.due.Due.{Due}
-use Rattle.command_dues.specs.declared.due.Due.TheVariants as due
-use Rattle.command_dues.specs.declared.outcome.Outcome.{Outcome}
-use Rattle.command_dues.specs.declared.outcome.Status.{Status}
-use Rattle.command_dues.specs.declared.outcome.Status.TheVariants as status
-use Rattle.command_dues.specs.declared.task.Task.TheVariants as task
-use Rattle.command_dues.specs.declared.task.Telling.{Telling}
-use Rattle.command_dues.specs.declared.task.Telling.TheVariants.{Lines}
+use Rattle.command_laws.specs.command_dues.specs.Decided.{IsDue, IsDueOfRun}
+use Rattle.command_laws.specs.command_dues.specs.RunEnds.{status_of_run}
+use Rattle.command_laws.specs.command_dues.specs.Tasks.{can_stop}
+use Rattle.command_laws.specs.command_dues.specs.Written.{outcome_of, status_of}
+use Rattle.command_laws.specs.command_dues.specs.declared.due.Due.{Due}
+use Rattle.command_laws.specs.command_dues.specs.declared.due.Due.TheVariants as due
+use Rattle.command_laws.specs.command_dues.specs.declared.outcome.Outcome.{Outcome}
+use Rattle.command_laws.specs.command_dues.specs.declared.outcome.Status.{Status}
+use Rattle.command_laws.specs.command_dues.specs.declared.outcome.Status.TheVariants as status
+use Rattle.command_laws.specs.command_dues.specs.declared.task.Task.TheVariants as task
+use Rattle.command_laws.specs.command_dues.specs.declared.task.Telling.{Telling}
+use Rattle.command_laws.specs.command_dues.specs.declared.task.Telling.TheVariants.{Lines}
 use Rattle.calm_commands.specs.CalmRuns.{IsCalmAndClear, IsStatusOfCalmRun, IsStatusWithoutFaults}
 use Rattle.machine_states.specs.States.{Harm, SecondStop, DiscLoss}
 use Rattle.schedule_loop.specs.Ends.{ending_by}

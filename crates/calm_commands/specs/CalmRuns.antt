@@ -7,8 +7,8 @@ use Rattle.calm_schedules.specs.Calm.{IsCalm}
 use Rattle.bounded_runs.specs.packet_runs.specs.Ends.{IsRunOf}
 use Rattle.bounded_runs.specs.packet_runs.specs.declared.ran.Ran.{Ran}
 use Rattle.bounded_runs.specs.Moments.{AreClear}
-use Rattle.command_dues.specs.declared.outcome.Status.{Status}
-use Rattle.command_dues.specs.declared.outcome.Status.TheVariants as status
+use Rattle.command_laws.specs.command_dues.specs.declared.outcome.Status.{Status}
+use Rattle.command_laws.specs.command_dues.specs.declared.outcome.Status.TheVariants as status
 
 -- the schedule of a deck, with the stop of the words, is calm, and each drain round of its run is clear
 pub record IsCalmAndClear (deck : Deck) (stop : Option ProcessorStop) : Type 0 where

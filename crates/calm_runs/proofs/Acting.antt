@@ -12,7 +12,8 @@ use Rattle.computed_changes.specs.Stopped.{stop_if}
 use Rattle.single_stops.specs.message_wires_laws.proofs.Stopping.{StopsNone, run-none, enter-none}
 use Rattle.machine_states.specs.States.{Played, Makes, Skips, Would}
 use Rattle.packet_wires.specs.Wires.{Midst, bus_named}
-use Rattle.packet_wires.specs.Play.{Packeted, Underway, acted, begun, comes_in, deliver_acted, fail_acted, lose_acted}
+use Rattle.packet_wires.specs.Play.{Packeted, Underway, acted, underway, comes_in, deliver_acted, fail_acted}
+use Rattle.packet_wires.specs.Play.{lose_acted}
 use Rattle.packet_wires.specs.Play.{made_by, packet_at, received, repeat_acted, stop_acted}
 use Rattle.calm_runs.proofs.Sending.{over-still}
 use Rattle.calm_runs.proofs.Watching.{StateKeeps, state-none, any-keeps, received-keeps, still-keeps}
@@ -30,13 +31,13 @@ is_quiet (Reload processor) = false
 is_quiet (Drive event) = false
 
 abbrev pub KeepsIf : Packeted → Played Midst → Type 0
-KeepsIf s (Makes after) = StateKeeps (begun s) after
+KeepsIf s (Makes after) = StateKeeps (underway s) after
 KeepsIf s Skips = Unit {0}
 KeepsIf s (Would harm) = ⊥
 
-made-keeps : (s : Packeted) (done : Option Done) → StopsNone s.world done → KeepsIf s (made_by (begun s) done)
+made-keeps : (s : Packeted) (done : Option Done) → StopsNone s.world done → KeepsIf s (made_by (underway s) done)
 made-keeps s None none = tt
-made-keeps s (Some done) none = any-keeps (begun s) (Some done) none
+made-keeps s (Some done) none = any-keeps (underway s) (Some done) none
 
 pub quiet-keeps : (s : Packeted) (event : Event) → is_quiet event ≡ true → KeepsIf s (acted s event)
 quiet-keeps s (Run number) quiet = made-keeps s (run_done s.site number s.world) (run-none s.site s.world number)
@@ -45,25 +46,25 @@ quiet-keeps s (Enter terminal) quiet =
 quiet-keeps s (Deliver y k) quiet = by (packet_at s (bus_named y) k)
   where
     to : (packet : Packet) (runs : Bool)
-        → StateKeeps (begun s) (if runs then received (bus_named y) packet (begun s) else begun s)
-    to packet true = received-keeps (bus_named y) packet (begun s)
-    to packet false = state-none (begun s)
+        → StateKeeps (underway s) (if runs then received (bus_named y) packet (underway s) else underway s)
+    to packet true = received-keeps (bus_named y) packet (underway s)
+    to packet false = state-none (underway s)
 
-    by : (packet : Option Packet) → KeepsIf s (deliver_acted (bus_named y) (begun s) packet)
+    by : (packet : Option Packet) → KeepsIf s (deliver_acted (bus_named y) (underway s) packet)
     by None = tt
-    by (Some packet) = to packet (comes_in packet (begun s))
+    by (Some packet) = to packet (comes_in packet (underway s))
 quiet-keeps s (Lose y k) quiet = by (packet_at s (bus_named y) k)
   where
-    by : (packet : Option Packet) → KeepsIf s (lose_acted (begun s) packet)
+    by : (packet : Option Packet) → KeepsIf s (lose_acted (underway s) packet)
     by None = tt
-    by (Some packet) = state-none (begun s)
+    by (Some packet) = state-none (underway s)
 quiet-keeps s (Repeat y k) quiet = by (packet_at s (bus_named y) k)
   where
-    by : (packet : Option Packet) → KeepsIf s (repeat_acted (bus_named y) (begun s) packet)
+    by : (packet : Option Packet) → KeepsIf s (repeat_acted (bus_named y) (underway s) packet)
     by None = tt
     by (Some packet) = record {
       stopped = refl;
-      keep = still-keeps s.world.stopped (begun s).wires _ (over-still (bus_named y) packet (begun s).wires);
+      keep = still-keeps s.world.stopped (underway s).wires _ (over-still (bus_named y) packet (underway s).wires);
     }
 quiet-keeps s (Tick node) quiet = absurd (cc)
 quiet-keeps s (Fail processor) quiet = absurd (cc)
@@ -72,7 +73,7 @@ quiet-keeps s (Drive event) quiet = absurd (cc)
 
 -- a stop changes nothing but who runs
 pub record StopsSo (s : Packeted) (after : Underway) : Type 0 where
-  pub wires : after.wires ≡ (begun s).wires
+  pub wires : after.wires ≡ (underway s).wires
   pub shown : after.world.shown ≡ s.world.shown
 
 abbrev pub StopsIf : Packeted → Played Midst → Type 0
@@ -84,11 +85,11 @@ pub stop-leaves : (s : Packeted) (processor : ℕ) → StopsIf s (acted s (Fail 
 stop-leaves s processor = by (slice_get s.world.stopped processor) refl
   where
     first : (whole : Bool) → is_whole s.world ≡ whole
-        → StopsIf s (stop_acted processor (begun s) (stop_if processor s.world whole))
+        → StopsIf s (stop_acted processor (underway s) (stop_if processor s.world whole))
     first true is = record { wires = refl; shown = refl }
     first false is = is
 
-    by : (o : Option Bool) → slice_get s.world.stopped processor ≡ o → StopsIf s (fail_acted processor (begun s) o)
+    by : (o : Option Bool) → slice_get s.world.stopped processor ≡ o → StopsIf s (fail_acted processor (underway s) o)
     by None at = tt
     by (Some true) at = tt
     by (Some false) at = rw at (first (is_whole s.world) refl)

@@ -22,7 +22,7 @@ use Rattle.world_semantics.specs.World.{is_noted_by_all, is_running, is_whole, r
 use Rattle.computed_changes.specs.Stopped.{reload_counted, reload_done, reload_if, reload_where}
 use Rattle.machine_states.specs.States.{Played, Makes, Skips, Would, Harm, SecondStop, DiscLoss}
 use Rattle.packet_wires.specs.Wires.{Midst}
-use Rattle.packet_wires.specs.Play.{Packeted, acted, begun, ended, packeted_at_boot, play, reload_acted, taken_off}
+use Rattle.packet_wires.specs.Play.{Packeted, acted, underway, ended, packeted_at_boot, play, reload_acted, taken_off}
 use Rattle.single_stops.specs.StopsAsked.{stops_asked, stops_in, stops_of, stops_of_lines}
 use Rattle.single_stops.proofs.Costs.{IsPaid, to_come, upcoming-paid}
 use Rattle.single_stops.specs.message_wires_laws.proofs.Whole.{begins-whole}
@@ -76,7 +76,7 @@ reload-shown s processor next made =
     where-shown (Some true) = counted (slice_get s.world.reloads processor)
     where-shown (Some false) = tt
 
-    by : (done : Option Done) → Shows done → ended s.wires (reload_acted processor (begun s) done) ≡ Makes next
+    by : (done : Option Done) → Shows done → ended s.wires (reload_acted processor (underway s) done) ≡ Makes next
         → next.world.shown ≡ s.world.shown
     by None shows made = absurd (cc)
     by (Some done) shows made =

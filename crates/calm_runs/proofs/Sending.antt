@@ -21,7 +21,7 @@ use Rattle.packet_wires.specs.Wires.{Midst, Outgoing, alive_at, all_posted, any_
 use Rattle.packet_wires.specs.Wires.{at_node, bus_of_answer, declares, down_at, end_changed, for_each, goes_again}
 use Rattle.packet_wires.specs.Wires.{goes_over}
 use Rattle.packet_wires.specs.Wires.{posted, push_at, reports, resends, sends, sends_all, tells_alive, tick_at}
-use Rattle.packet_nets.proofs.Nodes.{Same, are, differ, same}
+use Rattle.packet_rounds.specs.packet_nets.proofs.Nodes.{Same, are, differ, same}
 use Rattle.calm_runs.specs.Sights.{watch_at}
 
 pub record IsStill (before after : Midst) : Type 0 where

@@ -29,11 +29,11 @@ use Rattle.channel_laws.specs.Rounds.{by_mark}
 use Rattle.machine_states.specs.States.{Played, Makes, Skips, Would}
 use Rattle.packet_wires.specs.Nodes.{Node, all_nodes, end_at, never_reloaded, node_at_boot, nodes_at_boot, numbers}
 use Rattle.packet_wires.specs.Wires.{Wires, Midst, Outgoing, packets_over, is_bus}
-use Rattle.packet_wires.specs.Play.{Packeted, Underway, IsClear, acted, begun, comes_in, deliver_acted, ended}
+use Rattle.packet_wires.specs.Play.{Packeted, Underway, IsClear, acted, underway, comes_in, deliver_acted, ended}
 use Rattle.packet_wires.specs.Play.{is_current_at, line_of, out_of, over, packeted_at_boot, play, received, taken_off}
 use Rattle.packet_wires.specs.Play.{tick_acted}
 use Rattle.packet_wires.proofs.Rooms.{all-there}
-use Rattle.packet_nets.proofs.Ticking.{begins-net}
+use Rattle.packet_rounds.specs.packet_nets.proofs.Ticking.{begins-net}
 use Rattle.packet_rounds.specs.packets_laws.specs.Passing.{IsNetOf, ReloadsNone, as_on_buses}
 use Rattle.packet_rounds.specs.packets_laws.proofs.Passing.{event-passes}
 use Rattle.round_laws.specs.Buses.{HasBuses}
@@ -85,9 +85,9 @@ pub record TickMade (s : Packeted) (node : ℕ) (next : Packeted) : Type 0 where
   pub so : TicksSo node s after
 
 pub tick-made : (s : Packeted) (node : ℕ) (next : Packeted) → play s (Tick node) ≡ Makes next → TickMade s node next
-tick-made s node next made = by (tick_acted node (begun s)) refl (ticks-so s node) made
+tick-made s node next made = by (tick_acted node (underway s)) refl (ticks-so s node) made
   where
-    by : (played : Played Midst) → tick_acted node (begun s) ≡ played → TicksIf node s played
+    by : (played : Played Midst) → tick_acted node (underway s) ≡ played → TicksIf node s played
         → ended s.wires played ≡ Makes next → TickMade s node next
     by (Makes after) is so made =
         record { after = after; acts = is; next_is = (let same : next ≡ over s.wires after = cc in same); so = so }
@@ -95,7 +95,7 @@ tick-made s node next made = by (tick_acted node (begun s)) refl (ticks-so s nod
     by (Would harm) is so made = absurd (cc)
 
 pub tick-skips : (s : Packeted) (node : ℕ) → play s (Tick node) ≡ Skips → is_running s.world.stopped node ≡ false
-tick-skips s node skips = by (tick_acted node (begun s)) (ticks-so s node) skips
+tick-skips s node skips = by (tick_acted node (underway s)) (ticks-so s node) skips
   where
     by : (played : Played Midst) → TicksIf node s played → ended s.wires played ≡ Skips
         → is_running s.world.stopped node ≡ false
@@ -145,7 +145,7 @@ module _ (s : Packeted) (q : ℕ) where
       (λ next. Keeps next.world.stopped (watch_at s.wires.nodes q) (watch_at next.wires.nodes q))
       (play s (Drive event))
   drive-kept event =
-      drive-cases event (begun s) (λ (played : Played Midst). OnlyIf
+      drive-cases event (underway s) (λ (played : Played Midst). OnlyIf
       (λ next. Keeps next.world.stopped (watch_at s.wires.nodes q) (watch_at next.wires.nodes q))
       (ended s.wires played))
       (λ drives. keeps-same s.world.stopped (watch_at s.wires.nodes q) (watch_at s.wires.nodes q) refl) tt
@@ -171,7 +171,7 @@ module _ (s : Packeted) (q : ℕ) where
       subst (λ (u : Packeted). Keeps u.world.stopped (watch_at s.wires.nodes q) (watch_at u.wires.nodes q))
       (sym t.next_is)
       (subst (λ o. Keeps t.after.world.stopped o (watch_at t.after.wires.nodes q))
-      (ticked-other s.site.processors node (begun s).wires q (λ is. apart (ap Tick is))) (t.so.keep.keeps q))
+      (ticked-other s.site.processors node (underway s).wires q (λ is. apart (ap Tick is))) (t.so.keep.keeps q))
 
   pub event-me : (event : Event) (next : Packeted) → ReloadsNone event → play s event ≡ Makes next
       → option_map (λ (w : Watching). w.me) (watch_at next.wires.nodes q)
@@ -186,7 +186,7 @@ module _ (s : Packeted) (q : ℕ) where
   event-me (Drive event) next none made = (event-keeps (Drive event) next tt made (λ is. cc)).me
   event-me (Tick node) next none made = let t = tick-made s node next made in
       ap (λ (u : Packeted). option_map (λ (w : Watching). w.me) (watch_at u.wires.nodes q)) t.next_is
-      ∙ (t.so.keep.keeps q).me ∙ ticked-me s.site.processors node (begun s).wires q
+      ∙ (t.so.keep.keeps q).me ∙ ticked-me s.site.processors node (underway s).wires q
 
 watch-of : (q : ℕ) (o : Option Watching) → option_map (λ (w : Watching). w.me) o ≡ Some q
     → (w : Watching) × (o ≡ Some w) × (w.me ≡ q)
@@ -361,17 +361,17 @@ hears-alive site few s next p q rest sound g front on_p on_q there = of g
     ran_q : is_running s.world.stopped q ≡ true
     ran_q = ran-before s (Deliver false 0) next tt g q on_q
 
-    comes : comes_in (alive_packet p q) (begun s) ≡ true
+    comes : comes_in (alive_packet p q) (underway s) ≡ true
     comes = both_true ran_q
         (alive-current site few s p q sound (in-site s.world.stopped site.processors p sound.size ran_p)
         (in-site s.world.stopped site.processors q sound.size ran_q) ran_q)
 
     heard : HeardIf p q (play s (Deliver false 0))
-    heard = subst (λ o. HeardIf p q (ended (taken_off (Deliver false 0) s.wires) (deliver_acted bus.X (begun s) o)))
+    heard = subst (λ o. HeardIf p q (ended (taken_off (Deliver false 0) s.wires) (deliver_acted bus.X (underway s) o)))
         (sym (ap (λ l. slice_get l 0) front))
         (subst (λ b. HeardIf p q (ended (taken_off (Deliver false 0) s.wires)
-        (Makes (if b then received bus.X (alive_packet p q) (begun s) else begun s))))
-        (sym comes) (alive-heard bus.X p q (begun s) ran_p there))
+        (Makes (if b then received bus.X (alive_packet p q) (underway s) else underway s))))
+        (sym comes) (alive-heard bus.X p q (underway s) ran_p there))
 
     of : IsPlay s (Deliver false 0) next → WasHeard (known_of (watch_at next.wires.nodes q) p)
     of (inl made) = subst (HeardIf p q) made heard
@@ -412,7 +412,7 @@ alive-there site few s node q after sound clear acts so low low_q apart on_q =
     (among-right (alive_packet node q) s.wires.x (packets_over bus.X after.wires.out)
     (subst (λ p. IsAmong p (packets_over bus.X after.wires.out)) named
     (among-over (over_x e.0) after.wires.out refl
-    (so.keep.out (over_x e.0) (alive-sent s.site.processors node q (begun s).wires f.0 e.0 (omega (arith, low, few))
+    (so.keep.out (over_x e.0) (alive-sent s.site.processors node q (underway s).wires f.0 e.0 (omega (arith, low, few))
     (let same = sound.site_is in let many = ap (λ (t : Site). t.processors) same in omega (arith, low_q, many)) apart
     f.1
     f.2 up)))))
@@ -446,9 +446,9 @@ ticks-watch site few s next node sound (clear, inr skips) low here = not-both _
 ticks-watch site few s next node sound (clear, inl made) low here =
     subst (λ (u : Packeted). TicksWatch site.processors packets_seen s u node) (sym t.next_is) (record {
       ran = t.so.runs;
-      checks = k.checks ∙ ticked-checks s.site.processors node (begun s).wires m.0 m.1 low16;
+      checks = k.checks ∙ ticked-checks s.site.processors node (underway s).wires m.0 m.1 low16;
       there = λ p runs there. (k.kept p runs).0
-          (subst IsThere (sym (ticked-knows s.site.processors node (begun s).wires m.0 m.1 low16 p)) there);
+          (subst IsThere (sym (ticked-knows s.site.processors node (underway s).wires m.0 m.1 low16 p)) there);
       sends = λ q low_q apart on_q there. alive-there site few s node q t.after sound clear t.acts t.so low low_q apart
           (ran-before s (Tick node) next tt (inl made) q
           (subst (λ (u : Packeted). is_running u.world.stopped q ≡ true) (sym t.next_is) on_q));
@@ -477,7 +477,7 @@ line-pulled site few s node p sound here line = by (in-site s.world.stopped site
       one = by_number (in-site s.world.stopped site.processors node sound.size here);
       runs = here;
       apart = λ is. pulled.apart (sym is);
-      silent = ap (option_map is_silent) (sym (ticked-knows s.site.processors node (begun s).wires m.0 m.1 low p))
+      silent = ap (option_map is_silent) (sym (ticked-knows s.site.processors node (underway s).wires m.0 m.1 low p))
           ∙ ap (λ o. option_map is_silent (known_of o p)) own ∙ pulled.silent;
     }
       where
@@ -485,7 +485,7 @@ line-pulled site few s node p sound here line = by (in-site s.world.stopped site
         m = sound.me node most
 
         own : watch_at (sent_before node s).wires.nodes node ≡ Some (after_tick m.0)
-        own = ticked-own s.site.processors node (begun s).wires ∙ ap (option_map after_tick) m.1
+        own = ticked-own s.site.processors node (underway s).wires ∙ ap (option_map after_tick) m.1
 
         pulled : IsLine node p (after_tick m.0)
         pulled = line-is node p (sent_before node s) (after_tick m.0) own line

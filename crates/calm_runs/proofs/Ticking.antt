@@ -22,9 +22,9 @@ use Rattle.packet_wires.specs.Nodes.{Node, numbers, others}
 use Rattle.packet_wires.specs.Lines.{first_held, line_pulled}
 use Rattle.packet_wires.specs.Wires.{Midst, Outgoing, alive_at, at_end, at_end_of, at_node, check_at, checks, for_each}
 use Rattle.packet_wires.specs.Wires.{goes_over, learns, tells_alive, ticked, watch_changed}
-use Rattle.packet_wires.specs.Play.{Packeted, Underway, begun, line_of, marked_by, marks, marks_and_declares, pulled}
-use Rattle.packet_wires.specs.Play.{pulled_first, pulls, pulls_its, tick_acted}
-use Rattle.packet_nets.proofs.Nodes.{Same, are, differ, same}
+use Rattle.packet_wires.specs.Play.{Packeted, Underway, underway, line_of, marked_by, marks, marks_and_declares, pulled}
+use Rattle.packet_wires.specs.Play.{pulled_running, pulls, pulls_its, tick_acted}
+use Rattle.packet_rounds.specs.packet_nets.proofs.Nodes.{Same, are, differ, same}
 use Rattle.alive_rounds.specs.Watched.{after_tick_of}
 use Rattle.calm_runs.specs.Sights.{watch_at, known_of, checks_of}
 use Rattle.calm_runs.proofs.Sending.{IsStill, still-none, still-on, each-alive-still, reports-still}
@@ -261,7 +261,7 @@ line-is node k s w there line = by (slice_get s.wires.nodes node) there line
 -- A tick that is made
 
 abbrev pub sent_before : ℕ → Packeted → Underway
-sent_before node s = record (begun s) { wires = ticked s.site.processors node (begun s).wires }
+sent_before node s = record (underway s) { wires = ticked s.site.processors node (underway s).wires }
 
 pub record TicksSo (node : ℕ) (s : Packeted) (after : Underway) : Type 0 where
   pub runs : is_running s.world.stopped node ≡ true
@@ -292,7 +292,7 @@ marks-shown node k s = by (slice_get s.world.stopped k)
     by (Some false) = refl
     by (Some true) = allowed (may_note node k s.world)
 
-pub ticks-so : (s : Packeted) (node : ℕ) → TicksIf node s (tick_acted node (begun s))
+pub ticks-so : (s : Packeted) (node : ℕ) → TicksIf node s (tick_acted node (underway s))
 ticks-so s node = by (is_running s.world.stopped node) refl
   where
     none : is_running s.world.stopped node ≡ true → TicksSo node s (sent_before node s)
@@ -334,7 +334,7 @@ ticks-so s node = by (is_running s.world.stopped node) refl
 
     first : is_running s.world.stopped node ≡ true → (k : ℕ) → line_of node (sent_before node s) ≡ Some k
         → slice_get s.world.stopped k ≡ Some false → (whole : Bool)
-        → TicksIf node s (pulled_first node k (sent_before node s) (stop_if k s.world whole))
+        → TicksIf node s (pulled_running node k (sent_before node s) (stop_if k s.world whole))
     first runs k is there true = stops runs k is
     first runs k is there false = (runs, is, there)
 

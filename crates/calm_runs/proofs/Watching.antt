@@ -29,7 +29,7 @@ use Rattle.packet_wires.specs.Wires.{Midst, Outgoing, arrive_at, arrived, at_end
 use Rattle.packet_wires.specs.Wires.{learns, watch_changed}
 use Rattle.packet_wires.specs.Play.{Underway, after_any, completed, handed, handed_any, handed_words}
 use Rattle.packet_wires.specs.Play.{marked_by, marks, marks_and_declares, received}
-use Rattle.packet_nets.proofs.Nodes.{Same, are, differ, same}
+use Rattle.packet_rounds.specs.packet_nets.proofs.Nodes.{Same, are, differ, same}
 use Rattle.alive_rounds.specs.Watched.{IsThere, WasHeard}
 use Rattle.calm_runs.specs.Sights.{watch_at, known_of, checks_of, alive_packet}
 use Rattle.calm_runs.proofs.Sending.{IsStill, still-none, all-posted-still, declares-still, arrive-still, down-still}

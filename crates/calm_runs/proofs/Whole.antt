@@ -23,9 +23,9 @@ use Rattle.machine_states.proofs.Turning.{drive-cases}
 use Rattle.message_layout.specs.Messages.{NodeMessage, Carrying, Changing, Reporting, Declaring}
 use Rattle.message_layout.specs.Reading.{understood}
 use Rattle.packet_wires.specs.Nodes.{end_at}
-use Rattle.packet_wires.specs.Play.{Packeted, Underway, acted, after_any, begun, comes_in, completed, deliver_acted}
+use Rattle.packet_wires.specs.Play.{Packeted, Underway, acted, after_any, underway, comes_in, completed, deliver_acted}
 use Rattle.packet_wires.specs.Play.{ended, handed, handed_any, handed_words, line_of, lose_acted, made_by, marked_by}
-use Rattle.packet_wires.specs.Play.{marks, packet_at, play, pulled, pulled_first, pulls, pulls_its}
+use Rattle.packet_wires.specs.Play.{marks, packet_at, play, pulled, pulled_running, pulls, pulls_its}
 use Rattle.packet_wires.specs.Play.{received, reload_acted, repeat_acted, taken_off, tick_acted}
 use Rattle.packet_wires.specs.Wires.{Midst, arrived, bus_named, ticked}
 use Rattle.packet_rounds.specs.packets_laws.proofs.Going.{marks-stay}
@@ -97,7 +97,7 @@ tick-whole node s = by (is_running s.world.stopped node)
     line midst (Some k) = at (slice_get s.world.stopped k) refl
       where
         first : slice_get s.world.stopped k ≡ Some false → (whole : Bool)
-            → WholeIf s (pulled_first node k (record s { wires = midst }) (stop_if k s.world whole))
+            → WholeIf s (pulled_running node k (record s { wires = midst }) (stop_if k s.world whole))
         first there false = tt
         first there true = λ whole.
             (let stay = marks-stay node k (record s { world = stopped_world k s.world; wires = midst }) in
@@ -131,34 +131,34 @@ reload-whole processor s = by (reload_done s.site processor s.world) refl
         (let none = sym (none-reloaded s.site s.world processor whole) ∙ is in absurd (cc))
 
 acted-whole : (s : Packeted) (event : Event) → ((processor : ℕ) → event ≡ Fail processor → ⊥)
-    → WholeIf (begun s) (acted s event)
-acted-whole s (Run number) calm = made-whole (begun s) (run_done s.site number s.world)
+    → WholeIf (underway s) (acted s event)
+acted-whole s (Run number) calm = made-whole (underway s) (run_done s.site number s.world)
     (run-whole s.site s.world number)
-acted-whole s (Enter number) calm = made-whole (begun s) (enter_done s.site number s.world)
+acted-whole s (Enter number) calm = made-whole (underway s) (enter_done s.site number s.world)
     (enter-whole s.site s.world number)
-acted-whole s (Deliver y k) calm = deliver-whole (bus_named y) (begun s) (packet_at s (bus_named y) k)
+acted-whole s (Deliver y k) calm = deliver-whole (bus_named y) (underway s) (packet_at s (bus_named y) k)
 acted-whole s (Lose y k) calm = by (packet_at s (bus_named y) k)
   where
-    by : (packet : Option Packet) → WholeIf (begun s) (lose_acted (begun s) packet)
+    by : (packet : Option Packet) → WholeIf (underway s) (lose_acted (underway s) packet)
     by None = tt
     by (Some packet) = λ whole. inl whole
 acted-whole s (Repeat y k) calm = by (packet_at s (bus_named y) k)
   where
-    by : (packet : Option Packet) → WholeIf (begun s) (repeat_acted (bus_named y) (begun s) packet)
+    by : (packet : Option Packet) → WholeIf (underway s) (repeat_acted (bus_named y) (underway s) packet)
     by None = tt
     by (Some packet) = λ whole. inl whole
-acted-whole s (Tick node) calm = tick-whole node (begun s)
+acted-whole s (Tick node) calm = tick-whole node (underway s)
 acted-whole s (Fail processor) calm = absurd (calm processor refl)
-acted-whole s (Reload processor) calm = reload-whole processor (begun s)
+acted-whole s (Reload processor) calm = reload-whole processor (underway s)
 acted-whole s (Drive event) calm =
-    drive-cases event (begun s) (WholeIf (begun s)) (λ drives whole. inl whole) tt (λ process. tt)
+    drive-cases event (underway s) (WholeIf (underway s)) (λ drives whole. inl whole) tt (λ process. tt)
 
 pub play-whole : (s : Packeted) (event : Event) (next : Packeted) → ((processor : ℕ) → event ≡ Fail processor → ⊥)
     → play s event ≡ Makes next → is_whole s.world ≡ true
     → (is_whole next.world ≡ true) ⊎ StopsWho s.world.stopped next.world.stopped
 play-whole s event next calm made whole = by (acted s event) (acted-whole s event calm) made
   where
-    by : (played : Played Midst) → WholeIf (begun s) played → ended (taken_off event s.wires) played ≡ Makes next
+    by : (played : Played Midst) → WholeIf (underway s) played → ended (taken_off event s.wires) played ≡ Makes next
         → (is_whole next.world ≡ true) ⊎ StopsWho s.world.stopped next.world.stopped
     by (Makes after) stays made =
         let same : after.world ≡ next.world = cc in

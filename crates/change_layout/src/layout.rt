@@ -7,10 +7,7 @@ ghost use Rattle.change_layout.specs.declared.message.ChangeMessage.{ChangeMessa
 use crate::message::ChangeMessage;
 use crate::putting::{put_contents, put_heading, put_receive};
 use crate::reading::message_in;
-use receive_changes::checkpoint_image::ImageMessage;
-use receive_changes::checkpoint_image::reading::ReadingFault;
-use receive_changes::gd_words::{List, NoMemory};
-use receive_changes::sync_ids::change_between;
+use receive_changes::{ImageMessage, List, NoMemory, ReadingFault, change_between};
 use std::alloc::Global;
 
 /// The words of a checkpoint whose counts and places each fit their words.

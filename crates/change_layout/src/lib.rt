@@ -6,8 +6,6 @@
 //! and words at most one such checkpoint (`from_words`).
 #![tactic(auto)]
 
-pub use receive_changes::sync_ids;
-
 pub mod laws;
 pub mod layout;
 pub mod message;
@@ -17,3 +15,4 @@ mod reading;
 pub use laws::a_change_makes_its_checkpoint;
 pub use layout::{from_words, to_words, words_since, words_tell_their_message};
 pub use message::{ChangeImage, ChangeMessage};
+pub use receive_changes::{Asker, Receive};

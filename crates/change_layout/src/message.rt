@@ -1,6 +1,4 @@
-use receive_changes::checkpoint_image::FileNumber;
-use receive_changes::gd_words::List;
-use receive_changes::sync_ids::ReceiveChange;
+use receive_changes::{FileNumber, List, ReceiveChange};
 
 /// What a later checkpoint of an era carries: the words of its process's image, the files that it names, and what
 /// changed in the receive table since the checkpoint before it.

@@ -4,12 +4,10 @@ ghost use Rattle.receive_changes.specs.process_semantics.specs.Words.{counted, l
 ghost use Rattle.receive_changes.specs.checkpoint_image.specs.Layout.{IsPlace, file_words, listed};
 ghost use Rattle.change_layout.specs.Layout.{IsShort, change_words, receive_words};
 
-use receive_changes::checkpoint_image::FileNumber;
-use receive_changes::checkpoint_image::putting::{
-    put_count, put_counted, put_files, put_long, put_place, put_replies,
+use receive_changes::{
+    FileNumber, List, NoMemory, OpenerChange, ReceiveChange, put_count, put_counted, put_files,
+    put_long, put_place, put_replies,
 };
-use receive_changes::gd_words::{List, NoMemory};
-use receive_changes::sync_ids::{OpenerChange, ReceiveChange};
 
 fn put_change(change: &OpenerChange, out: &mut List<i16>) -> Result<(), NoMemory>
     requires { IsShort change.now }

@@ -2,11 +2,10 @@ ghost use Rattle.receive_changes.specs.checkpoint_image.specs.Reading.{Tells, li
 ghost use Rattle.change_layout.specs.Reading.{added_in, change_in, image_in, message_in, receive_in};
 
 use crate::message::{ChangeImage, ChangeMessage};
-use receive_changes::checkpoint_image::reading::{
-    ReadingFault, contents_in, count_in, heading_in, many_replies, pair_in, place_in,
+use receive_changes::{
+    List, OpenerChange, ReadingFault, ReceiveChange, contents_in, count_in, heading_in,
+    many_replies, pair_in, place_in,
 };
-use receive_changes::gd_words::List;
-use receive_changes::sync_ids::{OpenerChange, ReceiveChange};
 use std::alloc::Global;
 
 /// What changed of the opener at a place, to which so many replies were added.

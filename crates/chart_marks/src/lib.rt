@@ -19,6 +19,4 @@ pub mod ways;
 pub use chart::Chart;
 pub use layout::Layout;
 pub use standing::Standing;
-pub use svg_text;
-pub use trace_lines;
 pub use ways::Way;

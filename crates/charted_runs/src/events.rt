@@ -14,9 +14,7 @@ use schedule_loop::Ending;
 use std::alloc::Global;
 use tal_tree::Site;
 use trace_lines::{EventTold, Places};
-use traced_runs::ending_of;
-use traced_runs::event_findings::{Noted, findings, note, shown_since, what_is_found_is_told};
-use traced_runs::site_machine::Machine;
+use traced_runs::{Machine, Noted, ending_of, findings, note, shown_since, what_is_found_is_told};
 
 /// Plays the event of a number, and tells it to the chart, unless it is behind the last one that is drawn. Answers how
 /// the run ends before the event, where that would do harm, and then nothing changes in the machine.

@@ -9,7 +9,6 @@ pub mod charted;
 mod events;
 pub mod running;
 
-pub use chart_marks;
 pub use charted::{ChartFault, Charted};
 pub use running::chart_run;
-pub use traced_runs;
+pub use traced_runs::{Span, sizes_of};

@@ -9,7 +9,7 @@ use Rattle.tal_tree.specs.declared.site.ProcessSpec.{ProcessSpec}
 use Rattle.tal_tree.specs.declared.site.Site.{Site}
 use Rattle.schedule.specs.declared.event.Event.{Event}
 use Rattle.disc_device.specs.Sectors.{Stored}
-use Rattle.plain_semantics.specs.Openers.{openers_of}
+use Rattle.world_semantics.specs.plain_semantics.specs.Openers.{openers_of}
 use Rattle.process_semantics.specs.Image.{restored}
 use Rattle.process_semantics.specs.Process.{ProcessState}
 use Rattle.checkpoint_image.specs.declared.message.Image.{Image}
@@ -43,7 +43,7 @@ use Rattle.world_semantics.proofs.Reached.{one-acts, run-kept, run-roles, surviv
 use Rattle.world_semantics.proofs.Roles.{reload-all, taker-is}
 use Rattle.world_semantics.proofs.Runs.{holds-on}
 use Rattle.world_semantics.proofs.Steady.{marked-down}
-use Rattle.computed_changes.specs.Fitting.{depths_of}
+use Rattle.letter_laws.specs.computed_changes.specs.Fitting.{depths_of}
 use Rattle.letter_laws.proofs.Reached.{IsReached, change-reached}
 use Rattle.checkpoint_chains.specs.Chains.{AllChained, GoesOnFrom, IsChained, StandsTo}
 use Rattle.checkpoint_chains.proofs.Following.{deed-comes, goes-on}

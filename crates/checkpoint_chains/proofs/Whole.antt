@@ -7,13 +7,13 @@ use Rattle.std.proofs.lemmas.Bool.{eqb-true}
 use Rattle.gd_words.specs.Members.{IsAmong}
 use Rattle.tal_tree.specs.declared.site.Site.{Site}
 use Rattle.schedule.specs.declared.event.Event.{Event}
-use Rattle.change_layout.specs.Changing.{change_of, made_whole, whole_of, whole_where}
-use Rattle.change_layout.proofs.Whole.{makes-whole}
+use Rattle.letter_laws.specs.change_layout.specs.Changing.{change_of, made_whole, whole_of, whole_where}
+use Rattle.letter_laws.specs.change_layout.proofs.Whole.{makes-whole}
 use Rattle.checkpoint_image.specs.declared.message.ImageMessage.{ImageMessage}
 use Rattle.checkpoint_image.specs.declared.receive.ReceiveBlock.{ReceiveBlock}
-use Rattle.sync_ids.specs.Changes.{fits_change}
-use Rattle.sync_ids.specs.Tables as tables
-use Rattle.sync_ids.proofs.Tables.{and-right}
+use Rattle.receive_changes.specs.sync_ids.specs.Changes.{fits_change}
+use Rattle.receive_changes.specs.sync_ids.specs.Tables as tables
+use Rattle.receive_changes.specs.sync_ids.proofs.Tables.{and-right}
 use Rattle.world_semantics.specs.declared.role.Role.{Role}
 use Rattle.world_semantics.specs.declared.role.Role.TheVariants.{Acting, Blank, Gone, Watching}
 use Rattle.world_semantics.specs.declared.which.Which.{Which}
@@ -24,13 +24,13 @@ use Rattle.world_semantics.specs.Running.{Stepped, in_world}
 use Rattle.world_semantics.specs.World.{Copy, Down, Pair, copy_of, receives}
 use Rattle.world_semantics.proofs.Lists.{some-same}
 use Rattle.world_semantics.proofs.Roles.{both-true}
-use Rattle.computed_changes.specs.Changed.{change_brought_to, change_done, change_step}
-use Rattle.computed_changes.specs.Checkpoints.{applied_step, checkpoint_step, core_where, is_next_for}
-use Rattle.computed_changes.specs.Fitting.{are_files, depths_of}
-use Rattle.computed_changes.specs.Handed.{brought_to, copy_in, handed_done, step_by}
-use Rattle.computed_changes.specs.Laws.{IsSent}
-use Rattle.letters.specs.Posts.{HasPlayed, Post}
-use Rattle.letters.proofs.Worlds.{played-run}
+use Rattle.letter_laws.specs.computed_changes.specs.Changed.{change_brought_to, change_done, change_step}
+use Rattle.letter_laws.specs.computed_changes.specs.Checkpoints.{applied_step, checkpoint_step, core_where, is_next_for}
+use Rattle.letter_laws.specs.computed_changes.specs.Fitting.{are_files, depths_of}
+use Rattle.letter_laws.specs.computed_changes.specs.Handed.{brought_to, copy_in, handed_done, step_by}
+use Rattle.letter_laws.specs.computed_changes.specs.Laws.{IsSent}
+use Rattle.letter_laws.specs.letters.specs.Posts.{HasPlayed, Post}
+use Rattle.letter_laws.specs.letters.proofs.Worlds.{played-run}
 use Rattle.letter_laws.specs.takeover_laws.specs.Fit.{IsFit}
 use Rattle.letter_laws.specs.takeover_laws.proofs.Kept.{run-keeps}
 use Rattle.letter_laws.proofs.Fitting.{sent-fit}

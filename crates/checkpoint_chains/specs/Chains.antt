@@ -6,7 +6,7 @@ use Rattle.tal_tree.specs.declared.site.Site.{Site}
 use Rattle.receive_changes.specs.Later.{ComesTo}
 use Rattle.checkpoint_image.specs.declared.message.ImageMessage.{ImageMessage}
 use Rattle.checkpoint_image.specs.declared.receive.ReceiveBlock.{ReceiveBlock}
-use Rattle.computed_changes.specs.Fitting.{depths_of}
+use Rattle.letter_laws.specs.computed_changes.specs.Fitting.{depths_of}
 use Rattle.world_semantics.specs.declared.role.Role.{Role}
 use Rattle.world_semantics.specs.declared.role.Role.TheVariants.{Acting}
 use Rattle.world_semantics.specs.World.{Copy, Down, Pair, World, has_noted, receives}

@@ -1,22 +1,29 @@
 ghost use Rattle.std.specs.Prelude.{◌≡◌, ◌+◌, ◌<◌, ◌^◌, IfOk, Some, None};
 ghost use Rattle.std.specs.Bool.{OnTrue, OnFalse};
-ghost use Rattle.whole_states.specs.gd_words.specs.Ranges.{HasNext};
-ghost use Rattle.whole_states.specs.process_semantics.specs.declared.point.Point.TheVariants.{Inner, Take, Ask, Await};
-ghost use Rattle.whole_states.specs.process_semantics.specs.declared.point.Point.TheVariants.{Answer};
-ghost use Rattle.whole_states.specs.process_semantics.specs.declared.point.Point.TheVariants.{AtCheckpoint, Device};
-ghost use Rattle.whole_states.specs.process_semantics.specs.Image.{image_of, listed_items, listed_files, restored};
-ghost use Rattle.whole_states.specs.process_semantics.specs.Process.{ProcessState, point, in_hand, after_inner};
-ghost use Rattle.whole_states.specs.process_semantics.specs.Process.{after_took, asked_file};
-ghost use Rattle.whole_states.specs.process_semantics.specs.Process.{asked_words, after_asked, after_got, answer_of};
-ghost use Rattle.whole_states.specs.process_semantics.specs.Process.{after_answered};
-ghost use Rattle.whole_states.specs.process_semantics.specs.Process.{after_checkpoint, call_of, after_device};
-ghost use Rattle.whole_states.specs.Listing.{MayList};
+ghost use Rattle.process_images.specs.whole_states.specs.gd_words.specs.Ranges.{HasNext};
+ghost use Rattle.process_images.specs.whole_states.specs.process_semantics.specs.declared.point.Point.TheVariants.{Inner};
+ghost use Rattle.process_images.specs.whole_states.specs.process_semantics.specs.declared.point.Point.TheVariants.{Take};
+ghost use Rattle.process_images.specs.whole_states.specs.process_semantics.specs.declared.point.Point.TheVariants.{Ask};
+ghost use Rattle.process_images.specs.whole_states.specs.process_semantics.specs.declared.point.Point.TheVariants.{Await};
+ghost use Rattle.process_images.specs.whole_states.specs.process_semantics.specs.declared.point.Point.TheVariants.{Answer};
+ghost use Rattle.process_images.specs.whole_states.specs.process_semantics.specs.declared.point.Point.TheVariants.{AtCheckpoint};
+ghost use Rattle.process_images.specs.whole_states.specs.process_semantics.specs.declared.point.Point.TheVariants.{Device};
+ghost use Rattle.process_images.specs.whole_states.specs.process_semantics.specs.Image.{image_of, listed_items};
+ghost use Rattle.process_images.specs.whole_states.specs.process_semantics.specs.Image.{listed_files, restored};
+ghost use Rattle.process_images.specs.whole_states.specs.process_semantics.specs.Process.{ProcessState, point, in_hand};
+ghost use Rattle.process_images.specs.whole_states.specs.process_semantics.specs.Process.{after_inner};
+ghost use Rattle.process_images.specs.whole_states.specs.process_semantics.specs.Process.{after_took, asked_file};
+ghost use Rattle.process_images.specs.whole_states.specs.process_semantics.specs.Process.{asked_words, after_asked};
+ghost use Rattle.process_images.specs.whole_states.specs.process_semantics.specs.Process.{after_got, answer_of};
+ghost use Rattle.process_images.specs.whole_states.specs.process_semantics.specs.Process.{after_answered};
+ghost use Rattle.process_images.specs.whole_states.specs.process_semantics.specs.Process.{after_checkpoint, call_of};
+ghost use Rattle.process_images.specs.whole_states.specs.process_semantics.specs.Process.{after_device};
+ghost use Rattle.process_images.specs.whole_states.specs.Listing.{MayList};
 ghost use Rattle.process_images.specs.Images.{all_files_of, everything_of};
 ghost use Rattle.checkpoint_image.specs.Behaving.{last_write_of};
 
+use process_images::{Asked, DeviceCall, List, NoMemory, Point, Sector, Words};
 use std::alloc::Global;
-use whole_states::gd_words::{DeviceCall, List, NoMemory, Sector, Words};
-use whole_states::process_semantics::{Asked, Point};
 
 /// What a checkpoint names: items and files by their numbers, in the order in which they stand in it.
 #[derive(Drop)]

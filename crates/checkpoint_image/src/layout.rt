@@ -5,8 +5,8 @@ ghost use Rattle.checkpoint_image.specs.declared.message.ImageMessage.{ImageMess
 use crate::message::ImageMessage;
 use crate::putting::{put_heading, put_image};
 use crate::reading::{ReadingFault, message_in};
+use process_images::{List, NoMemory};
 use std::alloc::Global;
-use whole_states::gd_words::{List, NoMemory};
 
 /// How many words a checkpoint has, so that their memory is taken at once: the ten that each has, those of its body,
 /// three of each file, three of each opener, and those of each reply with their count.

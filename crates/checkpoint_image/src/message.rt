@@ -1,5 +1,5 @@
 use crate::receive::ReceiveBlock;
-use whole_states::gd_words::List;
+use process_images::List;
 
 /// A file that a checkpoint names, and the number of the next request on it.
 #[derive(Clone, Copy, PartialEq, Eq)]

@@ -1,13 +1,13 @@
 ghost use Rattle.std.specs.List.{All, flat_map};
 ghost use Rattle.std.specs.Prelude.{◌≡◌, ◌≤◌, [], ◌∷◌, ◌++◌, length, OnOk, pos};
-ghost use Rattle.whole_states.specs.gd_words.specs.Arithmetic.{wrap};
-ghost use Rattle.whole_states.specs.process_semantics.specs.Words.{long, counted};
+ghost use Rattle.process_images.specs.whole_states.specs.gd_words.specs.Arithmetic.{wrap};
+ghost use Rattle.process_images.specs.whole_states.specs.process_semantics.specs.Words.{long, counted};
 ghost use Rattle.checkpoint_image.specs.Layout.{IsPlace, listed, file_words, opener_words, place_word, receive_words};
 ghost use Rattle.checkpoint_image.specs.Layout.{image_words, heading_words};
 
 use crate::message::{FileNumber, Image, ImageMessage};
 use crate::receive::{OpenerBlock, ReceiveBlock};
-use whole_states::gd_words::{List, NoMemory, Words};
+use process_images::{List, NoMemory, Words};
 
 pub fn put_count(count: usize, out: &mut List<i16>) -> Result<(), NoMemory>
     requires { count ≤ 32767 }

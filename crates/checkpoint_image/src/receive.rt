@@ -1,4 +1,4 @@
-use whole_states::gd_words::{List, Words};
+use process_images::{List, Words};
 
 /// How the number of a request stands to what its process has taken from that opener.
 #[derive(Drop)]

@@ -1,14 +1,14 @@
 -- What a checkpoint carries is put in whole.
 use Rattle.std.proofs.Common.{◌≡◌, Bool, List, ℕ, Some, ap, sym, ◌∙◌}
 use Rattle.std.specs.Option.{option_map}
-use Rattle.process_semantics.specs.declared.point.Point.TheVariants.{AtCheckpoint, Await}
-use Rattle.process_semantics.specs.Image.{image_of, listed_items, listed_files, restored, imaged}
-use Rattle.process_semantics.specs.Process.{ProcessState, point, after_checkpoint}
-use Rattle.whole_states.specs.Processes.{IsWholeProcess}
+use Rattle.world_semantics.specs.process_semantics.specs.declared.point.Point.TheVariants.{AtCheckpoint, Await}
+use Rattle.world_semantics.specs.process_semantics.specs.Image.{image_of, listed_items, listed_files, restored, imaged}
+use Rattle.world_semantics.specs.process_semantics.specs.Process.{ProcessState, point, after_checkpoint}
+use Rattle.world_semantics.specs.whole_states.specs.Processes.{IsWholeProcess}
 use Rattle.world_semantics.specs.Core.{Core, after_passing, carried, put_in, with_files, carried_whole, imaged_core}
-use Rattle.process_images.proofs.Processes.{marked-restores, restores}
-use Rattle.process_images.proofs.Everything.{everything-agrees, whole-listed}
-use Rattle.process_images.specs.Images.{all_files_of, everything_of}
+use Rattle.world_semantics.specs.process_images.proofs.Processes.{marked-restores, restores}
+use Rattle.world_semantics.specs.process_images.proofs.Everything.{everything-agrees, whole-listed}
+use Rattle.world_semantics.specs.process_images.specs.Images.{all_files_of, everything_of}
 use Rattle.checkpoint_laws.specs.Behind.{IsBehind, AgreesInHand, IsOfSame}
 use Rattle.checkpoint_laws.proofs.Files.{files-restored}
 

@@ -1,5 +1,4 @@
-use disc_device::mirror::DriveState;
-use disc_device::{Disc, Stored};
+use disc_device::{Disc, DriveState, Stored};
 use std::test::Fail;
 
 #[test]

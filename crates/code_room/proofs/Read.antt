@@ -6,9 +6,10 @@ use Rattle.tal_syntax.specs.Nesting.{nest_locals, nest_statement, nest_row, nest
 use Rattle.tal_tree.specs.declared.program.Procedure.{Procedure}
 use Rattle.tal_tree.specs.declared.program.Program.{Program}
 use Rattle.tal_names.specs.Names.{Declarations}
-use Rattle.tal_rules.specs.declared.walk.Progress.{Progress}
-use Rattle.tal_rules.specs.Texts.{headed_text, files_by, entered, after_procedure, first_progress, scope_of}
-use Rattle.tal_meaning.specs.Programs.{tree_of, trees_of, tree_of_procedure}
+use Rattle.tal_pieces.specs.tal_rules.specs.declared.walk.Progress.{Progress}
+use Rattle.tal_pieces.specs.tal_rules.specs.Texts.{headed_text, files_by, entered, after_procedure, first_progress}
+use Rattle.tal_pieces.specs.tal_rules.specs.Texts.{scope_of}
+use Rattle.tal_pieces.specs.tal_meaning.specs.Programs.{tree_of, trees_of, tree_of_procedure}
 use Rattle.tal_laws.specs.tal_reader.specs.Reads.{Reads}
 use Rattle.tal_pieces.proofs.Texts.LaterLevels.{after_heading, after_locals, after_lines}
 use Rattle.tal_code.specs.Waiting.{WaitsBelow}

@@ -21,15 +21,18 @@ use Rattle.tal_names.specs.declared.system.System.TheVariants as system
 use Rattle.tal_names.specs.Places.{first_of_spot, name_of_expr, arguments_of, further_arguments}
 use Rattle.tal_names.specs.Scopes.{meaning_of}
 use Rattle.tal_names.specs.Systems.{system_of}
-use Rattle.tal_rules.specs.declared.walk.Walk.{Walk}
-use Rattle.tal_rules.specs.Statements.{stepped, inside_do, after}
-use Rattle.tal_meaning.specs.Calls.{value_of_argument, procedure_by, meaning_by, call_what, item_by, file_by, value_at}
-use Rattle.tal_meaning.specs.Calls.{meaning_at, variable_by, items_named, files_named, values_of, values_of_arguments}
-use Rattle.tal_meaning.specs.Calls.{system_what}
-use Rattle.tal_meaning.specs.Expressions.{value_of_expr, cond_of_expr, target_of_spot}
-use Rattle.tal_meaning.specs.Programs.{body_statements}
-use Rattle.tal_meaning.specs.Statements.{answer_of, assign_by, is_down, step_of, statements_of, else_statements}
-use Rattle.tal_meaning.specs.Statements.{row_statements}
+use Rattle.tal_pieces.specs.tal_rules.specs.declared.walk.Walk.{Walk}
+use Rattle.tal_pieces.specs.tal_rules.specs.Statements.{stepped, inside_do, after}
+use Rattle.tal_pieces.specs.tal_meaning.specs.Calls.{value_of_argument, procedure_by, meaning_by, call_what, item_by}
+use Rattle.tal_pieces.specs.tal_meaning.specs.Calls.{file_by, value_at}
+use Rattle.tal_pieces.specs.tal_meaning.specs.Calls.{meaning_at, variable_by, items_named, files_named, values_of}
+use Rattle.tal_pieces.specs.tal_meaning.specs.Calls.{values_of_arguments}
+use Rattle.tal_pieces.specs.tal_meaning.specs.Calls.{system_what}
+use Rattle.tal_pieces.specs.tal_meaning.specs.Expressions.{value_of_expr, cond_of_expr, target_of_spot}
+use Rattle.tal_pieces.specs.tal_meaning.specs.Programs.{body_statements}
+use Rattle.tal_pieces.specs.tal_meaning.specs.Statements.{answer_of, assign_by, is_down, step_of, statements_of}
+use Rattle.tal_pieces.specs.tal_meaning.specs.Statements.{else_statements}
+use Rattle.tal_pieces.specs.tal_meaning.specs.Statements.{row_statements}
 use Rattle.tal_pieces.proofs.Standing.LevelsAfter.{after_step}
 use Rattle.tal_laws.proofs.Everywhere.{Everywhere, everywhere_append, among_append, everywhere_one}
 use Rattle.tal_code.specs.Waiting.{waiting_of, waiting_of_spot, waiting_of_all, waiting_of_answer, waiting_at}
@@ -210,7 +213,8 @@ module _ (s : Scope) (most : ℕ) where
         let body = suc n ∷ nest_statement (suc n) t ls in
         let first = few_expr s most from (suc n) (suc n ∷ nest_expr (suc n) to (nest_step (suc n) step body)) h.1.1.1 in
         let second = few_expr s most to (suc n) (nest_step (suc n) step body) first.1.1 in
-        let rest = statement_few (stepped (stepped w)) t (suc n) ls (after_step s most step (suc n) body second.1).1 in (
+        let rest = statement_few (stepped (stepped w)) t (suc n) ls
+        (after_step s most step (suc n) body second.1).1 in (
           everywhere_one (WaitsFew most) w.number head.place.line (what.For variable low high down by xs last)
               (What-F.For variable low high down by xs last) (rolls-For variable low high down by xs last)
               (omega (arith, first.0, second.0, (for-more high).1)) rest.0,

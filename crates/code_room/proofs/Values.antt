@@ -12,11 +12,15 @@ use Rattle.tal_names.specs.declared.meaning.Meaning.{Meaning}
 use Rattle.tal_names.specs.declared.meaning.Meaning.TheVariants as m
 use Rattle.tal_names.specs.declared.scope.Scope.{Scope}
 use Rattle.tal_names.specs.Scopes.{meaning_of}
-use Rattle.tal_meaning.specs.Expressions.{op_of_sign, op_of_scale, read_by, target_by, target_of_spot, value_of_expr}
-use Rattle.tal_meaning.specs.Expressions.{value_of_both, value_of_neg, value_of_sum, value_of_terms, value_of_product}
-use Rattle.tal_meaning.specs.Expressions.{value_of_factors, value_of_factor, value_of_spot, value_of_index}
-use Rattle.tal_meaning.specs.Expressions.{cond_of_expr, cond_of_ors, cond_of_both, cond_of_ands, cond_of_neg}
-use Rattle.tal_meaning.specs.Expressions.{cond_of_sum, cond_of_product, cond_of_factor}
+use Rattle.tal_pieces.specs.tal_meaning.specs.Expressions.{op_of_sign, op_of_scale, read_by, target_by, target_of_spot}
+use Rattle.tal_pieces.specs.tal_meaning.specs.Expressions.{value_of_expr}
+use Rattle.tal_pieces.specs.tal_meaning.specs.Expressions.{value_of_both, value_of_neg, value_of_sum, value_of_terms}
+use Rattle.tal_pieces.specs.tal_meaning.specs.Expressions.{value_of_product}
+use Rattle.tal_pieces.specs.tal_meaning.specs.Expressions.{value_of_factors, value_of_factor, value_of_spot}
+use Rattle.tal_pieces.specs.tal_meaning.specs.Expressions.{value_of_index}
+use Rattle.tal_pieces.specs.tal_meaning.specs.Expressions.{cond_of_expr, cond_of_ors, cond_of_both, cond_of_ands}
+use Rattle.tal_pieces.specs.tal_meaning.specs.Expressions.{cond_of_neg}
+use Rattle.tal_pieces.specs.tal_meaning.specs.Expressions.{cond_of_sum, cond_of_product, cond_of_factor}
 use Rattle.tal_code.specs.Waiting.{waiting_of, waiting_of_spot, waiting_for, waiting_of_test}
 use Rattle.tal_code.proofs.Waits.{for-read, for-minus, waiting-two, waiting-not, waiting-and, waiting-or}
 use Rattle.code_room.proofs.Layers.{for-more}

@@ -13,3 +13,4 @@ pub use laws::{
     a_loop_waits_for_its_limit, steps_compute_what_they_are_of, there_is_room_above_others,
     there_is_room_where_few_wait, what_is_read_has_room,
 };
+pub use tal_laws::read_program;

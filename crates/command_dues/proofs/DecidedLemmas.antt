@@ -5,7 +5,7 @@ use Rattle.gd_words.specs.Memory.{no_memory}
 use Rattle.deck_reader.specs.Decks.{Decks}
 use Rattle.deck_reader.specs.Refusals.{IsRefusalOf}
 use Rattle.deck_reader.specs.declared.deck.Deck.{Deck}
-use Rattle.verdicts.specs.Refused.{AreAccepted}
+use Rattle.report_judge.specs.verdicts.specs.Refused.{AreAccepted}
 use Rattle.gd_io.specs.Reads.{Leaves}
 use Rattle.gd_io.specs.declared.writing.WriteFault.{WriteFault}
 use Rattle.schedule_loop.specs.declared.ran.Ending.{Ending}
@@ -33,7 +33,7 @@ pub told : (left now : Option (List ℕ)) (bytes rest : List ℕ) → Leaves lef
 told None now bytes rest h = tt
 told (Some xs) now bytes rest h = h.0
 
--- what a program is refused for is told, where it isn't want of memory
+-- what a program is refused for is told, if it isn't that memory ran out
 of_text : (why : TalFault) → why ≢ tal.NoMemory no_memory → IsOfText why
 of_text (tal.NoMemory _) memory = absurd (memory refl)
 of_text _ memory = tt

@@ -6,7 +6,7 @@ use Rattle.deck_reader.specs.Refusals.{IsRefusalOf}
 use Rattle.deck_reader.specs.declared.deck.Deck.{Deck}
 use Rattle.tal_tree.specs.declared.fault.DeckFault.{DeckFault}
 use Rattle.tal_tree.specs.declared.fault.DeckFault.TheVariants as fault
-use Rattle.verdicts.specs.Refused.{AreAccepted}
+use Rattle.report_judge.specs.verdicts.specs.Refused.{AreAccepted}
 use Rattle.command_dues.specs.Decided.{IsDueOfVerify, IsTold, due_of_fault}
 use Rattle.command_dues.specs.Verified.{IsDueOfInput, IsDueOfJudged, IsDueOfReport, deck_in, report_in}
 use Rattle.command_dues.specs.declared.due.Due.{Due}

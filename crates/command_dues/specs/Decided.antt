@@ -18,7 +18,7 @@ use Rattle.schedule_loop.specs.declared.ran.Ending.TheVariants.{Idle}
 use Rattle.schedule_sweeps.specs.Sweeps.{IsSweepOf}
 use Rattle.shown_sectors.specs.Sectors.{sectors_after}
 use Rattle.report_judge.specs.site_advice.specs.SiteAdvised.{AreAdvised, IsFirstUnadvised}
-use Rattle.verdicts.specs.Refused.{AreAccepted, IsFirstRefused}
+use Rattle.report_judge.specs.verdicts.specs.Refused.{AreAccepted, IsFirstRefused}
 use Rattle.command_dues.specs.RunEnds.{acts_of_run, shown_in}
 use Rattle.command_dues.specs.Mirrors.{mirrors_from}
 use Rattle.command_dues.specs.Stopped.{stopped_from}
@@ -138,7 +138,7 @@ abbrev pub IsDueOn : Option Command → Option (List ℕ) → ℕ → ℕ → Du
 IsDueOn None left before now decided = decided ≡ due.Usage
 IsDueOn (Some asked) left before now decided = IsDueOfCommand asked left before now decided
 
--- what is due: want of memory, or what is due by what the words ask for, the program's name first
+-- what is due: that memory ran out, or what is due by what the words ask for, the program's name first
 abbrev pub IsDue : List (List ℕ) → Option (List ℕ) → ℕ → ℕ → Due → Type 0
 IsDue words left before now decided =
     (decided ≡ due.NoMemory no_memory) ⊎ IsDueOn (asked_by words) left before now decided

@@ -10,3 +10,9 @@ pub mod Written
 pub use Rattle.schedule_sweeps.specs.packet_runs
 pub use Rattle.schedule_sweeps
 pub use Rattle.schedule_sweeps.specs.site_machine
+pub use Rattle.deck_reader
+pub use Rattle.report_judge.specs.plain_machine
+pub use Rattle.report_judge
+pub use Rattle.report_judge.specs.report_reader
+pub use Rattle.report_judge.specs.site_advice
+pub use Rattle.report_judge.specs.trace_print

@@ -8,7 +8,7 @@ use Rattle.report_judge.specs.trace_print.specs.declared.closing.Closing.TheVari
 use Rattle.report_judge.specs.trace_print.specs.declared.closing.Closing.TheVariants.{Ended}
 use Rattle.report_judge.specs.trace_print.specs.declared.closing.End.TheVariants as end
 use Rattle.report_judge.specs.trace_print.specs.declared.load.LoadCounts.{LoadCounts}
-use Rattle.world_semantics.specs.Kept.{acts_of}
+use Rattle.schedule_loop.specs.world_semantics.specs.Kept.{acts_of}
 use Rattle.schedule_loop.specs.declared.ran.Ending.{Ending}
 use Rattle.schedule_loop.specs.declared.ran.Ending.TheVariants.{Idle, Cut, Second, Lost}
 use Rattle.command_dues.specs.declared.outcome.RunEnd.{RunEnd}

@@ -4,12 +4,12 @@ use Rattle.deck_reader.specs.Decks.{Decks}
 use Rattle.deck_reader.specs.Refusals.{IsRefusalOf}
 use Rattle.deck_reader.specs.declared.deck.Deck.{Deck}
 use Rattle.report_judge.specs.Verdicts.{IsVerdict}
-use Rattle.report_judge.specs.declared.judge.VerifyRefusal.TheVariants as refusal
+use Rattle.report_judge.specs.declared.judge.VerifyFault.TheVariants as refusal
 use Rattle.report_judge.specs.report_reader.specs.DeckEnds.{deck_end}
 use Rattle.tal_tree.specs.declared.fault.DeckFault.{DeckFault}
 use Rattle.tal_tree.specs.declared.fault.DeckFault.TheVariants.{TooLong}
 use Rattle.tal_tree.specs.declared.site.Site.{Site}
-use Rattle.verdicts.specs.Refused.{AreAccepted, IsFirstRefused}
+use Rattle.report_judge.specs.verdicts.specs.Refused.{AreAccepted, IsFirstRefused}
 use Rattle.command_dues.specs.declared.due.Due.{Due}
 use Rattle.command_dues.specs.declared.due.Due.TheVariants as due
 

@@ -2,13 +2,10 @@ use crate::outcome::RunEnd;
 use crate::task::Telling;
 use gd_words::{List, NoMemory};
 use logs::Shared;
-use report_judge::Why;
-use report_judge::site_advice::PairAdvice;
-use report_judge::trace_print::MirrorDrives;
+use report_judge::{MirrorDrives, PairAdvice, RefusedProgram, Why};
 use run_table::Table;
 use shown_sectors::SectorWords;
 use tal_tree::{DeckFault, Site};
-use verdicts::RefusedProgram;
 
 /// What is due once all is decided and nothing is written yet.
 #[derive(Drop)]

@@ -9,10 +9,13 @@ pub mod due;
 pub mod outcome;
 pub mod task;
 
+pub use deck_reader::{Deck, read_deck};
 pub use due::{AdvisedSite, Due, RefusedSite, Report};
 pub use outcome::{Outcome, RunEnd, Status};
-pub use report_judge;
-pub use report_judge::report_reader;
-pub use schedule_sweeps;
-pub use schedule_sweeps::{packet_runs, site_machine};
+pub use report_judge::{
+    Closing, End, MirrorDrives, SiteAdvice, VerifyFault, Why, advise_all, deck_end, verify,
+    write_advised, write_checked, write_fault, write_load_report, write_refusal, write_rejected,
+    write_report, write_sweep, write_usage, write_verified,
+};
+pub use schedule_sweeps::{Machine, run, sweep};
 pub use task::{Task, Telling};

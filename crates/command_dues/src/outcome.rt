@@ -4,10 +4,9 @@ ghost use Rattle.std.specs.Prelude.{◌≡◌};
 
 use gd_words::NoMemory;
 use path_semantics::RefusalFault;
-use report_judge::Why;
-use report_judge::trace_print::LoadCounts;
+use report_judge::{LoadCounts, Why};
 use schedule_loop::Ending;
-use schedule_sweeps::packet_runs::Ran;
+use schedule_sweeps::Ran;
 use tal_tree::{Act, DeckFault, Shown};
 
 /// How a call ended, and the run, where one was made.

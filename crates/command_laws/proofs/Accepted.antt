@@ -32,7 +32,7 @@ none-refused specs refused accepted first =
     (accepted-ok first.program (Err refused.refusal) first.verdict
     (accepted refused.process first.program first.there)))
 
--- what is due is what is due of accepted programs, or want of memory
+-- what is due is what is due of accepted programs, or that memory ran out
 abbrev pub IsGood : Task → Deck → Due → Type 0
 IsGood task deck decided = (decided ≡ due.NoMemory no_memory) ⊎ IsDueOfTask task deck decided
 

@@ -27,8 +27,9 @@ use Rattle.advice.specs.Choice.{deepest}
 use Rattle.advice.specs.Due.{IsAskedAfter}
 use Rattle.advice.proofs.Deepest.{depth-asked, input-own, leads-own}
 use Rattle.advice_laws.proofs.OneAnswer.{answers-same}
-use Rattle.site_advice.specs.SiteAdvised.{AreAdvised, IsFirstUnadvised, IsUnadvised, pair_at, pairs_from}
-use Rattle.site_advice.specs.declared.pairs.PairAdvice.{PairAdvice}
+use Rattle.command_dues.specs.site_advice.specs.SiteAdvised.{AreAdvised, IsFirstUnadvised, IsUnadvised, pair_at}
+use Rattle.command_dues.specs.site_advice.specs.SiteAdvised.{pairs_from}
+use Rattle.command_dues.specs.site_advice.specs.declared.pairs.PairAdvice.{PairAdvice}
 use Rattle.command_dues.specs.declared.due.RefusedSite.{RefusedSite}
 use Rattle.command_laws.specs.OneDue.{IsSameRefusal}
 

@@ -26,15 +26,15 @@ use Rattle.shown_sectors.specs.Sectors.{sectors_after}
 use Rattle.shown_sectors.specs.declared.sectors.SectorWords.{SectorWords}
 use Rattle.single_runs.proofs.Runs.{one-run}
 use Rattle.statement_lines.specs.Lines.{lines_of}
-use Rattle.site_advice.specs.SiteAdvised.{AreAdvised}
-use Rattle.site_advice.specs.declared.pairs.PairAdvice.{PairAdvice}
+use Rattle.command_dues.specs.site_advice.specs.SiteAdvised.{AreAdvised}
+use Rattle.command_dues.specs.site_advice.specs.declared.pairs.PairAdvice.{PairAdvice}
 use Rattle.verdicts.specs.Refused.{AreAccepted, IsFirstRefused, program_at}
 use Rattle.verdicts.specs.declared.refused.RefusedProgram.{RefusedProgram}
-use Rattle.report_judge.specs.Verdicts.{IsVerdict as IsJudgement}
-use Rattle.report_judge.specs.declared.judge.VerifyRefusal.{VerifyRefusal}
-use Rattle.report_judge.specs.declared.judge.VerifyRefusal.TheVariants as refusal
-use Rattle.report_judge.specs.declared.judge.Why.{Why}
-use Rattle.report_judge.specs.trace_print.specs.declared.mirrors.MirrorDrives.{MirrorDrives}
+use Rattle.command_dues.specs.report_judge.specs.Verdicts.{IsVerdict as IsJudgement}
+use Rattle.command_dues.specs.report_judge.specs.declared.judge.VerifyFault.{VerifyFault}
+use Rattle.command_dues.specs.report_judge.specs.declared.judge.VerifyFault.TheVariants as refusal
+use Rattle.command_dues.specs.report_judge.specs.declared.judge.Why.{Why}
+use Rattle.command_dues.specs.report_judge.specs.trace_print.specs.declared.mirrors.MirrorDrives.{MirrorDrives}
 use Rattle.report_laws.proofs.OneVerdict.{one-verdict}
 use Rattle.report_laws.specs.OneVerdict.{IsSameVerdict}
 use Rattle.command_dues.specs.Verified.{IsDueOfInput, IsDueOfJudged, deck_in, report_in}
@@ -394,17 +394,17 @@ of-judged deck report (due.Advised advised) is = absurd is.1
 of-judged deck report (due.Unadvised found) is = absurd is.1
 
 -- what is due by a verdict
-abbrev due_by : Result ℕ VerifyRefusal → Due
+abbrev due_by : Result ℕ VerifyFault → Due
 due_by (Ok acts) = due.Verified acts
 due_by (Err (refusal.Rejected line cause)) = due.Rejected line cause
 due_by (Err (refusal.NoMemory memory)) = due.NoMemory memory
 
-same-verdict : (deck : Deck) (report : List ℕ) (one other : Result ℕ VerifyRefusal) → IsJudgement deck.site report one
+same-verdict : (deck : Deck) (report : List ℕ) (one other : Result ℕ VerifyFault) → IsJudgement deck.site report one
     → IsJudgement deck.site report other
     → IsSameDue (due_by one) (due_by other)
 same-verdict deck report one other is two = by one other (one-verdict deck.site report one other is two)
   where
-    by : (one other : Result ℕ VerifyRefusal) → IsSameVerdict one other → IsSameDue (due_by one) (due_by other)
+    by : (one other : Result ℕ VerifyFault) → IsSameVerdict one other → IsSameDue (due_by one) (due_by other)
     by (Err (refusal.NoMemory memory)) other same = tt
     by (Ok acts) (Err (refusal.NoMemory memory)) same = tt
     by (Err (refusal.Rejected line cause)) (Err (refusal.NoMemory memory)) same = tt

@@ -7,8 +7,8 @@ use Rattle.command_words.specs.declared.asked.Command.{Command}
 use Rattle.command_words.specs.declared.asked.Command.TheVariants.{Verify}
 use Rattle.deck_reader.specs.declared.deck.Deck.{Deck}
 use Rattle.gd_io.specs.declared.writing.WriteFault.{WriteFault}
-use Rattle.report_reader.specs.Reading.{acts_in}
-use Rattle.report_reader.specs.declared.reading.Reading.{Reading}
+use Rattle.command_dues.specs.report_reader.specs.Reading.{acts_in}
+use Rattle.command_dues.specs.report_reader.specs.declared.reading.Reading.{Reading}
 use Rattle.command_dues.specs.Decided.{IsDue, IsDueOn}
 use Rattle.command_dues.specs.Written.{outcome_of, status_of}
 use Rattle.command_dues.specs.declared.due.Due.{Due}

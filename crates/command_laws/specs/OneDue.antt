@@ -13,7 +13,7 @@ pub record IsSameRefusal (one other : RefusedSite) : Type 0 where
   pub lines : one.found.lines ≡ other.found.lines
   pub cause : Agree (Err one.found.refusal) (Err other.found.refusal)
 
--- what is due is the same, and so its text is, where neither is a read fault or want of memory
+-- what is due is the same, and so its text is, if neither is a read fault or that memory ran out
 abbrev pub IsSameDue : Due → Due → Type 0
 IsSameDue (due.NoMemory _) _ = Unit {0}
 IsSameDue _ (due.NoMemory _) = Unit {0}

@@ -2,9 +2,9 @@
 use Rattle.std.specs.Prelude.{◌≡◌, ◌≤◌, ℕ, List, Ok, length}
 use Rattle.deck_reader.specs.Decks.{Decks}
 use Rattle.deck_reader.specs.declared.deck.Deck.{Deck}
-use Rattle.report_judge.specs.Reported.{IsReported}
-use Rattle.report_reader.specs.Reading.{acts_in, read_report, stops_in}
-use Rattle.report_reader.specs.declared.reading.Reading.{Reading}
+use Rattle.command_dues.specs.report_judge.specs.Reported.{IsReported}
+use Rattle.command_dues.specs.report_reader.specs.Reading.{acts_in, read_report, stops_in}
+use Rattle.command_dues.specs.report_reader.specs.declared.reading.Reading.{Reading}
 use Rattle.command_dues.specs.Verified.{deck_in, report_in}
 use Rattle.verdicts.specs.Refused.{AreAccepted}
 

@@ -4,7 +4,7 @@ use Rattle.std.proofs.Common.{slice_get, slice_set, refl, subst, ◌∙◌}
 use Rattle.std.specs.Cmp.Derive.{both_true}
 use Rattle.std.proofs.lemmas.Bool.{lt-ltb}
 use Rattle.std.proofs.lemmas.List.{length-map, length-set}
-use Rattle.gd_words.specs.Members.{IsAmong}
+use Rattle.tal_tree.specs.gd_words.specs.Members.{IsAmong}
 use Rattle.tal_tree.specs.declared.program.FileUse.{FileUse}
 use Rattle.tal_tree.specs.declared.site.Site.{Site}
 use Rattle.tal_tree.specs.declared.site.ProcessSpec.{ProcessSpec}

@@ -1,7 +1,7 @@
 -- What the copies of a process ever sent each other, before a change and after it.
 use Rattle.std.proofs.Common.{◌≡◌, ℕ, List, ◌∷◌, Option, Some, None, map, slice_get, slice_set, refl, sym, subst}
 use Rattle.std.proofs.Common.{◌==◌, Bool, true, false}
-use Rattle.gd_words.specs.Members.{IsAmong}
+use Rattle.tal_tree.specs.gd_words.specs.Members.{IsAmong}
 use Rattle.tal_tree.specs.declared.act.Act.{Act}
 use Rattle.tal_tree.specs.declared.site.Site.{Site}
 use Rattle.world_semantics.specs.checkpoint_image.specs.declared.message.ImageMessage.{ImageMessage}

@@ -1,8 +1,8 @@
 -- Words for the laws of computed changes: what they need of a site and of the message that comes.
 use Rattle.std.specs.Prelude.{◌≡◌, ◌≢◌, ◌<◌, ℕ, true, length, slice_get, Some}
 use Rattle.std.specs.Option.{option_map}
-use Rattle.gd_words.specs.Members.{IsAmong}
-use Rattle.gd_words.specs.declared.message.Reply.{Reply}
+use Rattle.tal_tree.specs.gd_words.specs.Members.{IsAmong}
+use Rattle.tal_tree.specs.gd_words.specs.declared.message.Reply.{Reply}
 use Rattle.tal_tree.specs.declared.site.Site.{Site}
 use Rattle.tal_tree.specs.declared.site.ProcessSpec.{ProcessSpec}
 use Rattle.tal_tree.specs.declared.site.Who.{Who}

@@ -11,3 +11,5 @@ pub use Rattle.change_layout
 pub use Rattle.world_semantics.specs.checkpoint_image.specs.process_semantics
 pub use Rattle.world_semantics
 pub use Rattle.world_semantics.specs.checkpoint_image
+pub use Rattle.world_semantics.specs.plain_semantics
+pub use Rattle.change_layout.specs.sync_ids

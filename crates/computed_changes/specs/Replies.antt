@@ -1,7 +1,7 @@
 -- What a reply does that comes to a copy of a process or to a terminal, computed.
 use Rattle.std.specs.Prelude.{ℕ, ◌+◌, ◌==◌, ◌&&◌, ℤ, Bool, true, false, List, [], ◌∷◌, slice_get, slice_set, Option}
 use Rattle.std.specs.Prelude.{Some, None}
-use Rattle.gd_words.specs.declared.message.Reply.{Reply}
+use Rattle.tal_tree.specs.gd_words.specs.declared.message.Reply.{Reply}
 use Rattle.tal_tree.specs.declared.act.Act.{Act}
 use Rattle.tal_tree.specs.declared.act.Act.TheVariants as act
 use Rattle.tal_tree.specs.declared.act.Shown.TheVariants as shown

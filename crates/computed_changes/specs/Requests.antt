@@ -1,6 +1,6 @@
 -- What a request does that comes to a copy of a process, computed.
 use Rattle.std.specs.Prelude.{List, [], map, Option, Some, None}
-use Rattle.gd_words.specs.declared.message.Request.{Request}
+use Rattle.tal_tree.specs.gd_words.specs.declared.message.Request.{Request}
 use Rattle.world_semantics.specs.checkpoint_image.specs.Receive.{waits, came, repeated}
 use Rattle.world_semantics.specs.declared.role.Role.{Role}
 use Rattle.world_semantics.specs.declared.role.Role.TheVariants.{Acting, Watching, Blank, Gone}

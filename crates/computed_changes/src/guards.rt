@@ -1,6 +1,6 @@
 ghost use Rattle.std.specs.Prelude.{◌≡◌, ◌≢◌, ℕ, ◌+◌, ℤ, true, false, pos, List, [], ◌∷◌, slice_get, Some, None};
-ghost use Rattle.gd_words.specs.declared.message.Request.{Request};
-ghost use Rattle.gd_words.specs.declared.message.Reply.{Reply};
+ghost use Rattle.tal_tree.specs.gd_words.specs.declared.message.Request.{Request};
+ghost use Rattle.tal_tree.specs.gd_words.specs.declared.message.Reply.{Reply};
 ghost use Rattle.tal_tree.specs.declared.site.Site.{Site};
 ghost use Rattle.tal_tree.specs.declared.site.Who.TheVariants.{File, Terminal};
 ghost use Rattle.world_semantics.specs.checkpoint_image.specs.process_semantics.specs.declared.point.Point.TheVariants.{Await};

@@ -1,5 +1,5 @@
 ghost use Rattle.std.specs.Prelude.{◌≡◌, ℕ, ◌<◌, Bool, true, false, List, [], length, slice_get, Some, None};
-ghost use Rattle.gd_words.specs.Members.{IsAmong};
+ghost use Rattle.tal_tree.specs.gd_words.specs.Members.{IsAmong};
 ghost use Rattle.tal_tree.specs.declared.site.Site.{Site};
 ghost use Rattle.tal_tree.specs.declared.site.ProcessSpec.{ProcessSpec};
 ghost use Rattle.schedule.specs.declared.event.Event.{Event};

@@ -10,8 +10,10 @@
 pub mod guards;
 pub mod laws;
 
+pub use change_layout::{Asker, ChangeMessage, Receive};
 pub use laws::{
     a_handing_has_one_outcome, a_handing_is_computed, a_mark_is_computed, a_reload_is_computed,
     a_sent_checkpoint_fits, a_stop_is_computed, an_entry_is_computed,
     what_copies_send_names_their_process,
 };
+pub use world_semantics::{ImageMessage, Opener, Role, files_of};

@@ -48,7 +48,7 @@ use Rattle.tal_meaning.specs.Statements.{step_of}
 use Rattle.tal_reader.specs.Reads.{IsSyntaxOf, Reads}
 use Rattle.tal_faultless.proofs.Files.FileMeanings.{file_meaning}
 use Rattle.tal_faultless.proofs.Scopes.TextGlobals.{at_end}
-use Rattle.tal_laws.proofs.Everywhere.{Everywhere, among_append, everywhere_append, everywhere_one}
+use Rattle.deck_reader.specs.tal_laws.proofs.Everywhere.{Everywhere, among_append, everywhere_append, everywhere_one}
 use Rattle.tal_pieces.specs.declared.rank.ValueRank.TheVariants as value
 use Rattle.tal_pieces.proofs.Spelling.SpelledTokens.{tokens_spelled}
 use Rattle.tal_pieces.proofs.Words.LiteralWords.{AreFitting, MeaningFits, ScopeFits, scope_fits, with_fits}

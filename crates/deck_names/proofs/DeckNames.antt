@@ -15,15 +15,15 @@ use Rattle.tal_tree.specs.declared.site.Site.{Site}
 use Rattle.tal_tree.specs.declared.site.TerminalSpec.{TerminalSpec}
 use Rattle.tal_tree.specs.declared.site.Who.{Who}
 use Rattle.tal_tree.specs.declared.site.Who.TheVariants as who
-use Rattle.trace_print.specs.ActLine.{variable_in, variable_name, who_name}
-use Rattle.trace_print.specs.ShownLine.{process_name, terminal_name}
+use Rattle.told_reports.specs.trace_print.specs.ActLine.{variable_in, variable_name, who_name}
+use Rattle.told_reports.specs.trace_print.specs.ShownLine.{process_name, terminal_name}
 use Rattle.deck_lines.specs.Lines.{lines_of}
 use Rattle.deck_reader.proofs.DeckPrograms.{deck_programs}
 use Rattle.deck_reader.specs.Decks.{Decks, EachWith, IsProcessOf, IsTerminalOf}
 use Rattle.deck_reader.specs.declared.deck.Deck.{Deck}
 use Rattle.told_reports.proofs.Named.{cut-whole}
 use Rattle.told_reports.specs.NamesApart.{IsPlainName, TellsNamesApart}
-use Rattle.tal_laws.proofs.Uses.{at_place}
+use Rattle.deck_reader.specs.tal_laws.proofs.Uses.{at_place}
 use Rattle.deck_names.proofs.Openers.{HasFile, IsWhoOf, opener-of-site, openers-once}
 use Rattle.deck_names.proofs.Outlines.{AreNames, outline-names}
 use Rattle.deck_names.proofs.Places.{AreOnce, mate-at}

@@ -24,13 +24,13 @@ use Rattle.tal_rules.specs.Texts.{faults, files_by, headed_text}
 use Rattle.tal_meaning.specs.Programs.{items_with, tree_of}
 use Rattle.tal_reader.specs.Reads.{IsSyntaxOf, Reads}
 use Rattle.tal_faultless.proofs.Scopes.TextGlobals.{are_globals, at_end}
-use Rattle.tal_laws.proofs.Uses.{at_place}
+use Rattle.deck_reader.specs.tal_laws.proofs.Uses.{at_place}
 use Rattle.tal_pieces.proofs.Common.Entries.{Each}
 use Rattle.tal_pieces.proofs.Spelling.SpelledTokens.{tokens_spelled}
 use Rattle.tal_pieces.proofs.Words.SpelledDeclarations.{words_lines}
 use Rattle.tal_pieces.proofs.Words.SpelledSyntax.{AllSpelled}
 use Rattle.tal_pieces.proofs.Words.WordPrograms.{ItemSpells}
-use Rattle.trace_print.specs.ActLine.{variable_in}
+use Rattle.told_reports.specs.trace_print.specs.ActLine.{variable_in}
 use Rattle.deck_names.proofs.Files.{text-single}
 use Rattle.deck_names.proofs.Signs.{ident-whole}
 

@@ -129,7 +129,7 @@ found_with outline specs pair event target t p e =
     (event_misnamed outline.events.unknown)) t
     ∙ sym (ap₂ (λ a b. earlier (earlier a (Some target)) b) p e)
 
--- what is told of a name is neither a program's fault nor want of memory
+-- what is told of a name is neither a program's fault nor that memory ran out
 pub tells_name : (IsRight : DeckFault → Type 0) (misnamed : NameFault) → IsRight (name_fault misnamed)
     → Tells IsRight (name_fault misnamed)
 tells_name IsRight misnamed right = by misnamed.own right

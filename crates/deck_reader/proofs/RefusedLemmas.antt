@@ -118,7 +118,7 @@ refusal bytes (fault.NoMemory _) short h long memory = absurd (memory refl)
 refusal bytes (fault.Program number why) short h long memory = (short, h.1)
 refusal bytes f short h long memory = (short, h)
 
--- want of memory is told as no fault of a program
+-- that memory ran out is told as no fault of a program
 pub no_memory_told : (P : DeckFault → Type 0) (f : DeckFault) (number : ℕ) → Tells P f
     → f ≢ fault.Program number (tal.NoMemory no_memory)
 no_memory_told P (fault.Program n why) number h same = let reason : why ≡ tal.NoMemory no_memory = cc in h.0 reason

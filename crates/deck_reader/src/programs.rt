@@ -12,7 +12,7 @@ use crate::step::Breach;
 use gd_words::{List, Name};
 use name_table::NameTable;
 use std::alloc::Global;
-use tal_laws::tal_reader::read_program;
+use tal_laws::read_program;
 use tal_tree::{DeckFault, Kind, ProcessSpec, TalFault};
 
 /// Processes whose programs are read, and the first line of them that names what isn't there.

@@ -5,8 +5,7 @@ ghost use Rattle.mirror.specs.Mirror.{revived, state_of, written};
 ghost use Rattle.mirror.specs.Sectors.{blanks, is_written, stored_after};
 ghost use Rattle.mirror.specs.States.{failing_of, standing, states_copied, states_failed, states_of, states_revived};
 
-use mirror::gd_words::{NoMemory, Sector};
-use mirror::{DriveState, Drives, Failing, MemoryDrive, Stored};
+use mirror::{DriveState, Drives, Failing, MemoryDrive, NoMemory, Sector, Stored};
 use std::alloc::Global;
 use std::marker::Model;
 

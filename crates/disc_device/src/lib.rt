@@ -10,5 +10,4 @@ pub mod laws;
 
 pub use disc::Disc;
 pub use laws::{a_number_writes_once, another_number_writes_again, other_sectors_stay};
-pub use mirror;
-pub use mirror::Stored;
+pub use mirror::{DriveState, Failing, Stored};

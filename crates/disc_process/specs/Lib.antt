@@ -1,1 +1,2 @@
 pub mod Serving
+pub use Rattle.checkpoint_image

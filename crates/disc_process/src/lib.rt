@@ -11,4 +11,5 @@ mod phase;
 pub mod process;
 mod progress;
 
+pub use checkpoint_image::{Behaviour, Listed};
 pub use process::DiscProcess;

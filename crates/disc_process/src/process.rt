@@ -1,5 +1,5 @@
 ghost use Rattle.std.specs.Prelude.{◌≡◌, false};
-ghost use Rattle.tal_tree.specs.declared.site.Kind.TheVariants.{Disc};
+ghost use Rattle.process_semantics.specs.tal_tree.specs.declared.site.Kind.TheVariants.{Disc};
 ghost use Rattle.process_semantics.specs.Process.{start_of};
 ghost use Rattle.checkpoint_image.specs.Behaving.{last_write_of};
 

@@ -21,7 +21,7 @@ use Rattle.path_semantics.proofs.Walks.{leads-more, step-on, break-is-path}
 use Rattle.discipline.specs.declared.find.Found.{Found}
 use Rattle.discipline.specs.declared.stack.Position.{Position}
 use Rattle.discipline.specs.declared.walk.Walker.{Walker}
-use Rattle.reason_dues.specs.Amounts.{most_of, is_there, may_break_at, breaks_with}
+use Rattle.due_search.specs.reason_dues.specs.Amounts.{most_of, is_there, may_break_at, breaks_with}
 use Rattle.discipline.specs.Suspects.{IsKnown}
 use Rattle.discipline.specs.Walker.{rest_at, Tells, IsNext, IsAt, HasWalked, BreaksNext}
 use Rattle.discipline.proofs.Cut.{breaks-is}

@@ -10,7 +10,7 @@ use Rattle.path_semantics.specs.declared.dues.Dues.{Dues}
 use Rattle.path_semantics.specs.declared.reason.Reason.{Reason}
 use Rattle.path_semantics.specs.declared.reason.Reason.TheVariants.{Data, SyncBlock, Input, Depth}
 use Rattle.path_semantics.specs.Break.{asked_count, is_reached, may_break, is_enough, breaks_entry}
-use Rattle.reason_dues.specs.Amounts.{one_if, amount, depth_in, most_of, is_there, breaks_with}
+use Rattle.due_search.specs.reason_dues.specs.Amounts.{one_if, amount, depth_in, most_of, is_there, breaks_with}
 
 one-due : (b : Bool) → b ≡ nat_le 1 (one_if b)
 one-due true = refl

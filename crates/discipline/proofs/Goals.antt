@@ -5,11 +5,11 @@ use Rattle.tal_tree.specs.declared.program.Program.{Program}
 use Rattle.path_semantics.specs.declared.dues.Dues.{Dues}
 use Rattle.path_semantics.specs.Dues.{no_dues, with_changed, after_entry}
 use Rattle.path_semantics.specs.Place.{Place, Stand, successors}
-use Rattle.flow_paths.specs.declared.graph.Edge.{Edge}
-use Rattle.flow_paths.specs.declared.graph.Goal.{Goal}
-use Rattle.flow_paths.specs.declared.graph.Goal.TheVariants.{At}
-use Rattle.flow_paths.specs.Graph.{Node, edges_of}
-use Rattle.flow_paths.specs.Flow.{IsStand, AllArrive, IsFlow}
+use Rattle.due_search.specs.flow_paths.specs.declared.graph.Edge.{Edge}
+use Rattle.due_search.specs.flow_paths.specs.declared.graph.Goal.{Goal}
+use Rattle.due_search.specs.flow_paths.specs.declared.graph.Goal.TheVariants.{At}
+use Rattle.due_search.specs.flow_paths.specs.Graph.{Node, edges_of}
+use Rattle.due_search.specs.flow_paths.specs.Flow.{IsStand, AllArrive, IsFlow}
 
 arrives : (count : ℕ) (place : ℕ → Place) (dues : Dues) (edges : List Edge) (stands : List Stand) (edge : Edge) (j : ℕ)
     → AllArrive count place dues edges stands

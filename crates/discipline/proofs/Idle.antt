@@ -4,7 +4,7 @@ use Rattle.std.specs.Prelude.{IsTrue, nat_le}
 use Rattle.tal_tree.specs.declared.program.Program.{Program}
 use Rattle.process_semantics.specs.State.{Entry}
 use Rattle.path_semantics.specs.declared.reason.Reason.{Reason}
-use Rattle.reason_dues.specs.Amounts.{most_of, is_there, may_break_at, breaks_with}
+use Rattle.due_search.specs.reason_dues.specs.Amounts.{most_of, is_there, may_break_at, breaks_with}
 
 pub never : (b : Bool) → IsTrue b → b ≡ false → ⊥
 never b holds none = absurd (cc)

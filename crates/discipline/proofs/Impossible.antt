@@ -28,7 +28,7 @@ use Rattle.path_semantics.specs.Place.{Place, Stand, body_of, next_in, stand_at,
 use Rattle.path_semantics.specs.Place.{first_stand}
 use Rattle.path_semantics.proofs.Entries.{HoldsOf, HoldsFor, HoldsAt, entries-kept}
 use Rattle.path_semantics.proofs.Kept.{IsKept, one-mapped, kept-after, kept-led}
-use Rattle.reason_dues.specs.Amounts.{amount, most_of, may_break_at, breaks_with}
+use Rattle.due_search.specs.reason_dues.specs.Amounts.{amount, most_of, may_break_at, breaks_with}
 use Rattle.discipline.proofs.Cut.{breaks-is}
 use Rattle.discipline.proofs.Idle.{never, and-false, none-due}
 

@@ -11,14 +11,15 @@ use Rattle.process_semantics.specs.State.{Entry, Run, Test, Last}
 use Rattle.path_semantics.specs.declared.reason.Reason.{Reason}
 use Rattle.path_semantics.specs.Break.{breaks_at}
 use Rattle.path_semantics.specs.Dues.{changed_by}
-use Rattle.flow_paths.specs.declared.graph.Edge.{Edge}
-use Rattle.flow_paths.specs.declared.graph.Goal.TheVariants.{At}
-use Rattle.flow_paths.specs.Graph.{Node, IsWithin, edges_of}
-use Rattle.flow_paths.specs.Flow.{IsFlow}
-use Rattle.reason_dues.specs.declared.reasons.Reasons.{Reasons}
-use Rattle.reason_dues.specs.Amounts.{clears, adds, adds_changed, one_more, after_entry, after_changed, most_of}
-use Rattle.reason_dues.specs.Amounts.{cut_after, is_there, may_break_at, breaks_with}
-use Rattle.reason_dues.specs.Sets.{has_reason, IsNear, AreReasons, due_after}
+use Rattle.due_search.specs.flow_paths.specs.declared.graph.Edge.{Edge}
+use Rattle.due_search.specs.flow_paths.specs.declared.graph.Goal.TheVariants.{At}
+use Rattle.due_search.specs.flow_paths.specs.Graph.{Node, IsWithin, edges_of}
+use Rattle.due_search.specs.flow_paths.specs.Flow.{IsFlow}
+use Rattle.due_search.specs.reason_dues.specs.declared.reasons.Reasons.{Reasons}
+use Rattle.due_search.specs.reason_dues.specs.Amounts.{clears, adds, adds_changed, one_more, after_entry, after_changed}
+use Rattle.due_search.specs.reason_dues.specs.Amounts.{most_of}
+use Rattle.due_search.specs.reason_dues.specs.Amounts.{cut_after, is_there, may_break_at, breaks_with}
+use Rattle.due_search.specs.reason_dues.specs.Sets.{has_reason, IsNear, AreReasons, due_after}
 use Rattle.discipline.specs.Suspects.{Reaches, IsSettled, AreSettled, AreFoundAt, AreFoundBefore, AreSuspects}
 use Rattle.discipline.proofs.Goals.{goal-within}
 use Rattle.discipline.proofs.Idle.{never, none-due}

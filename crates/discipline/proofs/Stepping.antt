@@ -21,10 +21,10 @@ use Rattle.discipline.specs.declared.stack.Position.{Position}
 use Rattle.discipline.specs.declared.walker.Way.{Way}
 use Rattle.discipline.specs.declared.walker.Way.TheVariants.{Onward, Into, End}
 use Rattle.discipline.specs.declared.walker.Ways.{Ways}
-use Rattle.reason_dues.specs.Amounts.{amount, most_of, after_entry}
+use Rattle.due_search.specs.reason_dues.specs.Amounts.{amount, most_of, after_entry}
 use Rattle.discipline.specs.Walker.{rest_at, Tells, IsNext, LeadsBy, EachLeads, listed, AreWays, IsAt, IsSettled}
 use Rattle.discipline.specs.Walker.{HasGone, TellsNextIn}
-use Rattle.reason_dues.proofs.Cut.{cut-none, entry-cut}
+use Rattle.due_search.specs.reason_dues.proofs.Cut.{cut-none, entry-cut}
 use Rattle.discipline.proofs.Walking.{onward, entered, begins}
 
 module _ (program : Program) (ordered : IsOrdered program) (limits : IsWithinLimits program) where

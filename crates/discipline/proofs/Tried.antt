@@ -15,9 +15,9 @@ use Rattle.path_semantics.specs.declared.dues.Dues.{Dues}
 use Rattle.path_semantics.specs.Break.{Breaks, breaks_entry}
 use Rattle.path_semantics.specs.Place.{next_entry}
 use Rattle.process_semantics.specs.State.{Entry}
-use Rattle.flow_paths.specs.Flow.{IsFlow}
-use Rattle.flow_paths.specs.Graph.{Node}
-use Rattle.reason_dues.specs.Amounts.{is_there, may_break_at, most_of, depth_in}
+use Rattle.due_search.specs.flow_paths.specs.Flow.{IsFlow}
+use Rattle.due_search.specs.flow_paths.specs.Graph.{Node}
+use Rattle.due_search.specs.reason_dues.specs.Amounts.{is_there, may_break_at, most_of, depth_in}
 use Rattle.due_search.specs.declared.queue.Visit.{Visit}
 use Rattle.due_search.specs.declared.search.Aim.{Aim}
 use Rattle.due_search.specs.Ends.{counted, ends_next, IsEnd, IsFirstEnd, AreReached, HasFound}

@@ -10,14 +10,14 @@ use Rattle.path_semantics.specs.declared.reason.Reason.{Reason}
 use Rattle.path_semantics.specs.Place.{Place, Stand, next_in}
 use Rattle.path_semantics.specs.Path.{Leads}
 use Rattle.path_semantics.specs.Break.{breaks_entry, breaks_at}
-use Rattle.flow_paths.specs.declared.graph.Edge.{Edge}
-use Rattle.flow_paths.specs.declared.graph.Goal.TheVariants.{At}
-use Rattle.flow_paths.specs.Graph.{Node, edges_of}
-use Rattle.flow_paths.specs.Flow.{IsFlow}
-use Rattle.flow_paths.specs.Walk.{IsKept, IsMet}
-use Rattle.flow_paths.proofs.Along.{led}
-use Rattle.reason_dues.specs.Amounts.{amount, most_of, cut_after, breaks_with}
-use Rattle.reason_dues.proofs.Cut.{along-edge, cut-none}
+use Rattle.due_search.specs.flow_paths.specs.declared.graph.Edge.{Edge}
+use Rattle.due_search.specs.flow_paths.specs.declared.graph.Goal.TheVariants.{At}
+use Rattle.due_search.specs.flow_paths.specs.Graph.{Node, edges_of}
+use Rattle.due_search.specs.flow_paths.specs.Flow.{IsFlow}
+use Rattle.due_search.specs.flow_paths.specs.Walk.{IsKept, IsMet}
+use Rattle.due_search.specs.flow_paths.proofs.Along.{led}
+use Rattle.due_search.specs.reason_dues.specs.Amounts.{amount, most_of, cut_after, breaks_with}
+use Rattle.due_search.specs.reason_dues.proofs.Cut.{along-edge, cut-none}
 use Rattle.discipline.proofs.Cut.{breaks-is}
 
 module _ (program : Program) (nodes : List Node) (flow : IsFlow program nodes) (reason : Reason)

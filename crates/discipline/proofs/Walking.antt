@@ -30,11 +30,11 @@ use Rattle.path_semantics.specs.Told.{statements_in, HasDistinctNumbers}
 use Rattle.discipline.specs.declared.find.Found.{Found}
 use Rattle.discipline.specs.declared.stack.Position.{Position}
 use Rattle.discipline.specs.declared.walker.Way.TheVariants.{Onward, Into}
-use Rattle.reason_dues.specs.Amounts.{amount, most_of, after_changed}
+use Rattle.due_search.specs.reason_dues.specs.Amounts.{amount, most_of, after_changed}
 use Rattle.discipline.specs.Finding.{IsFoundAmong, IsFoundIn, IsFirstNumber}
 use Rattle.discipline.specs.Walker.{rest_at, Tells, IsNext, LeadsBy, IsAt, IsSettled, TellsNextIn, KeepsSettled}
-use Rattle.reason_dues.proofs.Amounts.{amount-changed}
-use Rattle.reason_dues.proofs.Cut.{changed-cut}
+use Rattle.due_search.specs.reason_dues.proofs.Amounts.{amount-changed}
+use Rattle.due_search.specs.reason_dues.proofs.Cut.{changed-cut}
 
 -- What comes next at a position
 

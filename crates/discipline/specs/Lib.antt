@@ -2,3 +2,8 @@ pub mod Finding
 pub mod Suspects
 pub mod Verdict
 pub mod Walker
+pub use Rattle.due_search
+pub use Rattle.due_search.specs.flow_paths
+pub use Rattle.path_semantics
+pub use Rattle.process_semantics
+pub use Rattle.due_search.specs.reason_dues

@@ -5,13 +5,13 @@ use Rattle.tal_tree.specs.declared.program.Program.{Program}
 use Rattle.path_semantics.specs.declared.reason.Reason.{Reason}
 use Rattle.path_semantics.specs.declared.reason.Reason.TheVariants.{Data, SyncBlock, Input, Depth}
 use Rattle.path_semantics.specs.Break.{Breaks}
-use Rattle.flow_paths.specs.declared.graph.Edge.{Edge}
-use Rattle.flow_paths.specs.declared.graph.Goal.TheVariants.{At}
-use Rattle.flow_paths.specs.Graph.{Node, edges_of}
-use Rattle.flow_paths.specs.Flow.{IsFlow}
-use Rattle.reason_dues.specs.declared.reasons.Reasons.{Reasons}
-use Rattle.reason_dues.specs.Amounts.{adds_changed, may_break_at, most_of}
-use Rattle.reason_dues.specs.Sets.{has_reason, IsNear, due_after}
+use Rattle.due_search.specs.flow_paths.specs.declared.graph.Edge.{Edge}
+use Rattle.due_search.specs.flow_paths.specs.declared.graph.Goal.TheVariants.{At}
+use Rattle.due_search.specs.flow_paths.specs.Graph.{Node, edges_of}
+use Rattle.due_search.specs.flow_paths.specs.Flow.{IsFlow}
+use Rattle.due_search.specs.reason_dues.specs.declared.reasons.Reasons.{Reasons}
+use Rattle.due_search.specs.reason_dues.specs.Amounts.{adds_changed, may_break_at, most_of}
+use Rattle.due_search.specs.reason_dues.specs.Sets.{has_reason, IsNear, due_after}
 
 -- a reason that can be tried: a depth is that of a file that is there
 abbrev pub IsKnown : Program → Reason → Type 0

@@ -21,7 +21,7 @@ use Rattle.discipline.specs.declared.walker.Way.{Way}
 use Rattle.discipline.specs.declared.walker.Way.TheVariants.{Onward, Into, End}
 use Rattle.discipline.specs.declared.walker.Ways.{Ways}
 use Rattle.discipline.specs.declared.walk.Walker.{Walker}
-use Rattle.reason_dues.specs.Amounts.{amount, most_of}
+use Rattle.due_search.specs.reason_dues.specs.Amounts.{amount, most_of}
 
 -- what remains in a procedure from a position on
 abbrev pub rest_at : Program → Position → Option (List Entry)

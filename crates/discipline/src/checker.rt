@@ -4,18 +4,16 @@ ghost use Rattle.tal_tree.specs.Ordered.{IsOrdered};
 ghost use Rattle.tal_tree.specs.Regular.{IsRegular};
 ghost use Rattle.path_semantics.specs.declared.reason.Reason.TheVariants.{Data, SyncBlock, Input, Depth};
 ghost use Rattle.path_semantics.specs.Bounds.{IsWithinBounds};
-ghost use Rattle.flow_paths.specs.Flow.{IsFlow};
-ghost use Rattle.reason_dues.specs.Sets.{IsNear};
+ghost use Rattle.due_search.specs.flow_paths.specs.Flow.{IsFlow};
+ghost use Rattle.due_search.specs.reason_dues.specs.Sets.{IsNear};
 ghost use Rattle.discipline.specs.Suspects.{IsKnown, HaveNodes, AreSuspects};
 ghost use Rattle.due_search.specs.Search.{IsClear};
 ghost use Rattle.discipline.specs.Verdict.{NoneBefore, IsVerdict, IsTried, AreTriedBefore};
 
 use crate::suspects::suspects;
-use due_search::{Aim, Search};
-use flow_paths::{Flow, FlowFault};
+use due_search::{Aim, Flow, FlowFault, Reasons, Search, most_of};
 use gd_words::NoMemory;
 use path_semantics::{Reason, RefusalFault};
-use reason_dues::{Reasons, most_of};
 use std::alloc::Global;
 use tal_tree::Program;
 

@@ -17,5 +17,7 @@ mod walk;
 mod walker;
 
 pub use checker::check;
+pub use due_search::{Aim, Flow, FlowFault, Numbers, Search, Visit, may_break_at};
 pub use laws::{accepted_is_ok, one_verdict};
+pub use path_semantics::{Reason, RefusalFault};
 pub use paths::{breaks, is_path};

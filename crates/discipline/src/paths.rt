@@ -3,13 +3,13 @@ ghost use Rattle.tal_tree.specs.Limits.{IsWithinLimits};
 ghost use Rattle.tal_tree.specs.Ordered.{IsOrdered};
 ghost use Rattle.path_semantics.specs.Break.{Breaks};
 ghost use Rattle.path_semantics.specs.Path.{IsPath};
-ghost use Rattle.reason_dues.specs.Amounts.{most_of, is_there};
+ghost use Rattle.due_search.specs.reason_dues.specs.Amounts.{most_of, is_there};
 ghost use Rattle.discipline.specs.Walker.{BreaksNext};
 
 use crate::walk::{Course, Walker};
 use crate::walker::next;
+use due_search::{may_break_at, most_of};
 use path_semantics::Reason;
-use reason_dues::{may_break_at, most_of};
 use tal_tree::Program;
 
 /// Whether a list of statement numbers is a path of the program. It takes no memory.

@@ -1,13 +1,12 @@
 ghost use Rattle.std.specs.Prelude.{◌≡◌, ◌<◌, ℕ, length, slice_get, Some, IfOk, IfSome};
 ghost use Rattle.std.specs.Bool.{OnTrue};
 ghost use Rattle.std.specs.Option.{option_copied};
-ghost use Rattle.flow_paths.specs.Graph.{IsWithin};
-ghost use Rattle.flow_paths.specs.declared.graph.Goal.TheVariants.{At};
+ghost use Rattle.due_search.specs.flow_paths.specs.Graph.{IsWithin};
+ghost use Rattle.due_search.specs.flow_paths.specs.declared.graph.Goal.TheVariants.{At};
 ghost use Rattle.discipline.specs.Suspects.{Reaches, IsSettled, AreSettled, AreFoundBefore, HaveNodes, AreSuspects};
 
-use flow_paths::{Edge, Flow, Goal, Node};
+use due_search::{Edge, Flow, Goal, Node, Reasons};
 use gd_words::NoMemory;
-use reason_dues::Reasons;
 use std::alloc::Global;
 
 /// How often sets are spread over a graph at most. Once suffices without loops, and twice with loops, however deep they

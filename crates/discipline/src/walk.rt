@@ -3,14 +3,14 @@ ghost use Rattle.tal_tree.specs.Limits.{IsWithinLimits};
 ghost use Rattle.tal_tree.specs.Ordered.{IsOrdered};
 ghost use Rattle.path_semantics.specs.Place.{body_of, first_stand};
 ghost use Rattle.process_semantics.specs.Rests.{next_number};
-ghost use Rattle.reason_dues.specs.Amounts.{most_of};
+ghost use Rattle.due_search.specs.reason_dues.specs.Amounts.{most_of};
 ghost use Rattle.discipline.specs.Walker.{IsAt, IsSettled, HasGone, TellsNextIn, IsStep, IsWalk};
 
 use crate::find::first_number;
 use crate::stack::{Position, Stack};
 use crate::walker::{Way, next, ways_at};
+use due_search::{after_entry, after_return};
 use path_semantics::Reason;
-use reason_dues::{after_entry, after_return};
 use tal_tree::Program;
 
 /// Where a path has come: the positions of the procedures in progress, and how much of a reason is due there.

@@ -6,8 +6,8 @@ use Rattle.tal_tree.specs.declared.site.Kind.{Kind}
 use Rattle.tal_tree.specs.declared.site.Kind.TheVariants as kind
 use Rattle.tal_tree.specs.declared.site.ProcessSpec.{ProcessSpec}
 use Rattle.tal_tree.specs.declared.site.Site.{Site}
-use Rattle.plain_semantics.specs.Openers.{files_of}
-use Rattle.path_semantics.specs.Accepted.{IsAccepted}
+use Rattle.checkpoint_laws.specs.plain_semantics.specs.Openers.{files_of}
+use Rattle.path_steps.specs.path_semantics.specs.Accepted.{IsAccepted}
 use Rattle.discipline_laws.specs.Disciplined.{IsDisciplined}
 use Rattle.discipline_laws.proofs.Quiet.{quiet, once, depth}
 use Rattle.discipline_laws.proofs.Resuming.{resume}

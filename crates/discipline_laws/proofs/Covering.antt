@@ -22,16 +22,18 @@ use Rattle.process_semantics.specs.State.{ProgramState, first_frames, start, wor
 use Rattle.process_semantics.specs.Steps.{inner}
 use Rattle.process_semantics.proofs.Points.{AtCall, inside, at_read, at_ask, at_await, at_reply, at_checkpoint}
 use Rattle.process_semantics.proofs.Points.{stands-at}
-use Rattle.plain_semantics.specs.Openers.{openers_of}
-use Rattle.whole_states.specs.Processes.{IsRegularKind}
-use Rattle.world_semantics.specs.Core.{Core, Deed, Went, Checkpointed, Took, Asked, Got, Answered, Advances, goes}
-use Rattle.world_semantics.specs.Core.{marks, takes, asks, gets, answers, acts}
-use Rattle.path_semantics.specs.Break.{asked_count}
-use Rattle.path_semantics.specs.Dues.{no_dues}
-use Rattle.path_semantics.specs.Path.{Steps, Leads}
-use Rattle.path_semantics.specs.Place.{Place, Stand, body_in, place_of, settled, stand_at, stands_after, first_stand}
-use Rattle.path_semantics.specs.declared.dues.Dues.{Dues}
-use Rattle.path_semantics.proofs.Walks.{leads-more}
+use Rattle.checkpoint_laws.specs.plain_semantics.specs.Openers.{openers_of}
+use Rattle.checkpoint_laws.specs.whole_states.specs.Processes.{IsRegularKind}
+use Rattle.checkpoint_laws.specs.world_semantics.specs.Core.{Core, Deed, Went, Checkpointed, Took, Asked, Got, Answered}
+use Rattle.checkpoint_laws.specs.world_semantics.specs.Core.{Advances, goes}
+use Rattle.checkpoint_laws.specs.world_semantics.specs.Core.{marks, takes, asks, gets, answers, acts}
+use Rattle.path_steps.specs.path_semantics.specs.Break.{asked_count}
+use Rattle.path_steps.specs.path_semantics.specs.Dues.{no_dues}
+use Rattle.path_steps.specs.path_semantics.specs.Path.{Steps, Leads}
+use Rattle.path_steps.specs.path_semantics.specs.Place.{Place, Stand, body_in, place_of, settled, stand_at}
+use Rattle.path_steps.specs.path_semantics.specs.Place.{stands_after, first_stand}
+use Rattle.path_steps.specs.path_semantics.specs.declared.dues.Dues.{Dues}
+use Rattle.path_steps.specs.path_semantics.proofs.Walks.{leads-more}
 use Rattle.path_steps.specs.Step.{stand_of, StaysOrGoesOn, FollowsPath, HasRoom}
 use Rattle.path_steps.proofs.Stepping.{inner-steps, took-steps, asked-steps, got-steps, answered-steps, marked-steps}
 use Rattle.path_steps.proofs.Stepping.{asked-room}

@@ -11,10 +11,12 @@ use Rattle.process_semantics.specs.Image.{listed_items}
 use Rattle.process_semantics.specs.Process as process
 use Rattle.process_semantics.specs.Process.{ProcessState, Runs, Serves}
 use Rattle.checkpoint_laws.specs.process_images.specs.Images.{Agrees}
-use Rattle.plain_semantics.specs.Openers.{openers_of}
-use Rattle.whole_states.specs.Processes.{IsRegularKind}
-use Rattle.world_semantics.specs.Core.{Core, Deed, Went, Checkpointed, Took, Asked, Got, Answered, Acted, Advances}
-use Rattle.world_semantics.specs.Core.{goes, marks, takes, asks, gets, answers, acts, after_passing, carried, put_in}
+use Rattle.checkpoint_laws.specs.plain_semantics.specs.Openers.{openers_of}
+use Rattle.checkpoint_laws.specs.whole_states.specs.Processes.{IsRegularKind}
+use Rattle.checkpoint_laws.specs.world_semantics.specs.Core.{Core, Deed, Went, Checkpointed, Took, Asked, Got, Answered}
+use Rattle.checkpoint_laws.specs.world_semantics.specs.Core.{Acted, Advances}
+use Rattle.checkpoint_laws.specs.world_semantics.specs.Core.{goes, marks, takes, asks, gets, answers, acts}
+use Rattle.checkpoint_laws.specs.world_semantics.specs.Core.{after_passing, carried, put_in}
 use Rattle.process_histories.specs.Bounds.{AreBounded}
 use Rattle.process_histories.specs.Histories.{HasDone, one_more, kind_of, unmirrored}
 use Rattle.process_histories.specs.Words.{requests_on}

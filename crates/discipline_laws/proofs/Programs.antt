@@ -5,7 +5,8 @@ use Rattle.tal_tree.specs.declared.site.Kind.TheVariants as kind
 use Rattle.process_semantics.specs.declared.point.Point.TheVariants as point
 use Rattle.process_semantics.specs.Process.{ProcessState, Runs, Serves}
 use Rattle.process_semantics.specs.State.{ProgramState}
-use Rattle.world_semantics.specs.Core.{Deed, Went, Checkpointed, Took, Asked, Got, Answered, Acted}
+use Rattle.checkpoint_laws.specs.world_semantics.specs.Core.{Deed, Went, Checkpointed, Took, Asked, Got, Answered}
+use Rattle.checkpoint_laws.specs.world_semantics.specs.Core.{Acted}
 use Rattle.process_histories.specs.Histories.{kind_of}
 use Rattle.process_histories.proofs.Deeds.{point_of}
 

@@ -17,10 +17,11 @@ use Rattle.process_semantics.specs.Calls.{file_in}
 use Rattle.process_semantics.specs.Process as process
 use Rattle.process_semantics.specs.Process.{Runs}
 use Rattle.process_semantics.proofs.Points.{in-next}
-use Rattle.world_semantics.specs.Core.{Core, Deed, Went, Checkpointed, Took, Asked, Got, Answered, Acted, goes, takes}
-use Rattle.world_semantics.specs.Core.{asks, gets, answers, acts}
-use Rattle.path_semantics.specs.Accepted.{IsAccepted}
-use Rattle.path_semantics.specs.declared.reason.Reason.TheVariants.{Input, Depth}
+use Rattle.checkpoint_laws.specs.world_semantics.specs.Core.{Core, Deed, Went, Checkpointed, Took, Asked, Got, Answered}
+use Rattle.checkpoint_laws.specs.world_semantics.specs.Core.{Acted, goes, takes}
+use Rattle.checkpoint_laws.specs.world_semantics.specs.Core.{asks, gets, answers, acts}
+use Rattle.path_steps.specs.path_semantics.specs.Accepted.{IsAccepted}
+use Rattle.path_steps.specs.path_semantics.specs.declared.reason.Reason.TheVariants.{Input, Depth}
 use Rattle.path_steps.proofs.Growing.{not-both}
 use Rattle.process_histories.specs.Histories.{HasDone, one_more}
 use Rattle.process_histories.specs.Words.{ask_on, requests_on, one_if}

@@ -32,16 +32,17 @@ use Rattle.process_semantics.specs.Calls.{asked_file, file_in}
 use Rattle.process_semantics.specs.Points.{point_of}
 use Rattle.checkpoint_laws.specs.process_images.specs.Images.{AgreeBut, Agrees, AreOfOne, all_files_of, asking_from}
 use Rattle.checkpoint_laws.specs.process_images.specs.Images.{asks_a_process}
-use Rattle.whole_states.specs.Processes.{IsRegularKind}
-use Rattle.whole_states.proofs.Frames.{IsRegularSomewhere, next-regular}
-use Rattle.whole_states.specs.Whole.{AreFrames, IsWhole}
+use Rattle.checkpoint_laws.specs.whole_states.specs.Processes.{IsRegularKind}
+use Rattle.checkpoint_laws.specs.whole_states.proofs.Frames.{IsRegularSomewhere, next-regular}
+use Rattle.checkpoint_laws.specs.whole_states.specs.Whole.{AreFrames, IsWhole}
 use Rattle.checkpoint_laws.proofs.Putting.{put-whole, put-everything}
-use Rattle.world_semantics.specs.Core.{Core, Deed, after_passing, carried, put_in, acts, answers, asks, carried_whole}
-use Rattle.world_semantics.specs.Core.{gets, goes, imaged_core, marks, takes}
-use Rattle.world_semantics.proofs.Lists.{some-same}
-use Rattle.path_semantics.specs.Accepted.{IsAccepted}
-use Rattle.path_semantics.specs.Break.{breaks_by}
-use Rattle.path_semantics.specs.declared.reason.Reason.TheVariants.{Data, SyncBlock}
+use Rattle.checkpoint_laws.specs.world_semantics.specs.Core.{Core, Deed, after_passing, carried, put_in, acts, answers}
+use Rattle.checkpoint_laws.specs.world_semantics.specs.Core.{asks, carried_whole}
+use Rattle.checkpoint_laws.specs.world_semantics.specs.Core.{gets, goes, imaged_core, marks, takes}
+use Rattle.checkpoint_laws.specs.world_semantics.proofs.Lists.{some-same}
+use Rattle.path_steps.specs.path_semantics.specs.Accepted.{IsAccepted}
+use Rattle.path_steps.specs.path_semantics.specs.Break.{breaks_by}
+use Rattle.path_steps.specs.path_semantics.specs.declared.reason.Reason.TheVariants.{Data, SyncBlock}
 use Rattle.process_histories.specs.Bounds.{AreBounded}
 use Rattle.process_histories.specs.Histories.{HasDone, kind_of, nothing_done, one_more, unmirrored}
 use Rattle.process_histories.specs.Words.{ask_on, requests_on}
@@ -52,7 +53,7 @@ use Rattle.process_histories.proofs.Steady.{IsSteady, done-steady}
 use Rattle.discipline_laws.specs.Disciplined.{AreUncheckpointed}
 use Rattle.discipline_laws.proofs.Covering.{none-more}
 use Rattle.discipline_laws.proofs.Standing.{IsCheckpointOf, checkpoint-of, IsSafe, runs, safe}
-use Rattle.plain_semantics.specs.Openers.{files_of}
+use Rattle.checkpoint_laws.specs.plain_semantics.specs.Openers.{files_of}
 
 pub bounded-since : (since before : List Deed) → AreBounded (since ++ before) → AreBounded before
 bounded-since [] before is = is

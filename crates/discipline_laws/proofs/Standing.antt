@@ -19,14 +19,14 @@ use Rattle.process_semantics.specs.Process.{Runs}
 use Rattle.process_semantics.specs.State.{ProgramState}
 use Rattle.process_semantics.proofs.Points.{AtCall, inside, at_read, at_ask, at_await, at_reply, at_checkpoint}
 use Rattle.process_semantics.proofs.Points.{StandsAt, stands-at}
-use Rattle.world_semantics.specs.Core.{Core, Deed}
-use Rattle.path_semantics.specs.Accepted.{IsAccepted}
-use Rattle.path_semantics.specs.Break.{asked_count, is_reached, sends, breaks_by, breaks_at}
-use Rattle.path_semantics.specs.Dues.{asked_by}
-use Rattle.path_semantics.specs.Place.{Place, settled}
-use Rattle.path_semantics.specs.declared.dues.Dues.{Dues}
-use Rattle.path_semantics.specs.declared.reason.Reason.{Reason}
-use Rattle.path_semantics.proofs.Walks.{accepted-unbroken}
+use Rattle.checkpoint_laws.specs.world_semantics.specs.Core.{Core, Deed}
+use Rattle.path_steps.specs.path_semantics.specs.Accepted.{IsAccepted}
+use Rattle.path_steps.specs.path_semantics.specs.Break.{asked_count, is_reached, sends, breaks_by, breaks_at}
+use Rattle.path_steps.specs.path_semantics.specs.Dues.{asked_by}
+use Rattle.path_steps.specs.path_semantics.specs.Place.{Place, settled}
+use Rattle.path_steps.specs.path_semantics.specs.declared.dues.Dues.{Dues}
+use Rattle.path_steps.specs.path_semantics.specs.declared.reason.Reason.{Reason}
+use Rattle.path_steps.specs.path_semantics.proofs.Walks.{accepted-unbroken}
 use Rattle.path_steps.specs.Step.{stand_of}
 use Rattle.path_steps.proofs.Points.{place-at}
 use Rattle.process_histories.specs.Histories.{HasDone, unmirrored}

@@ -6,11 +6,11 @@ use Rattle.tal_tree.specs.declared.site.ProcessSpec.{ProcessSpec}
 use Rattle.tal_tree.specs.declared.site.Site.{Site}
 use Rattle.process_semantics.specs.Process.{Runs}
 use Rattle.process_semantics.specs.State.{ProgramState, words_of}
-use Rattle.path_semantics.specs.Break.{asked_count}
-use Rattle.path_semantics.specs.Path.{Leads}
-use Rattle.path_semantics.specs.declared.dues.Dues.{Dues}
+use Rattle.path_steps.specs.path_semantics.specs.Break.{asked_count}
+use Rattle.path_steps.specs.path_semantics.specs.Path.{Leads}
+use Rattle.path_steps.specs.path_semantics.specs.declared.dues.Dues.{Dues}
 use Rattle.path_steps.specs.Step.{stand_of}
-use Rattle.world_semantics.specs.Core.{Core, Deed, Took}
+use Rattle.checkpoint_laws.specs.world_semantics.specs.Core.{Core, Deed, Took}
 use Rattle.process_histories.specs.Histories.{HasDone}
 use Rattle.process_histories.specs.Words.{requests_on, awaits_on, one_if}
 use Rattle.discipline_laws.specs.Disciplined.{AreUncheckpointed}

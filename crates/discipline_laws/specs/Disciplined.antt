@@ -7,8 +7,9 @@ use Rattle.tal_tree.specs.declared.site.ProcessSpec.{ProcessSpec}
 use Rattle.tal_tree.specs.declared.site.Site.{Site}
 use Rattle.process_semantics.specs.declared.point.Point.TheVariants.{AtCheckpoint}
 use Rattle.process_semantics.specs.Process.{point}
-use Rattle.plain_semantics.specs.Openers.{files_of}
-use Rattle.world_semantics.specs.Core.{Core, Deed, Went, Checkpointed, Took, Acted, after_passing, carried, put_in}
+use Rattle.checkpoint_laws.specs.plain_semantics.specs.Openers.{files_of}
+use Rattle.checkpoint_laws.specs.world_semantics.specs.Core.{Core, Deed, Went, Checkpointed, Took, Acted, after_passing}
+use Rattle.checkpoint_laws.specs.world_semantics.specs.Core.{carried, put_in}
 use Rattle.process_histories.specs.Bounds.{AreBounded}
 use Rattle.process_histories.specs.Histories.{HasDone}
 use Rattle.process_histories.specs.Words.{requests_on}

@@ -1,6 +1,7 @@
 ghost use Rattle.std.specs.Prelude.{◌≡◌, pos, [], ◌∷◌};
 ghost use Rattle.gd_words.specs.declared.device.DeviceCall.TheVariants.{Nothing};
-ghost use Rattle.world_semantics.specs.Core.{Went, Checkpointed, Took, Asked, Got, Answered, Acted};
+ghost use Rattle.checkpoint_laws.specs.world_semantics.specs.Core.{Went, Checkpointed, Took, Asked, Got, Answered};
+ghost use Rattle.checkpoint_laws.specs.world_semantics.specs.Core.{Acted};
 ghost use Rattle.discipline_laws.specs.Careless.{process_of, site_of, hasty, forgetful};
 ghost use Rattle.discipline_laws.specs.Disciplined.{AreUncheckpointed, AreInner, AreIdle, IsDisciplined};
 

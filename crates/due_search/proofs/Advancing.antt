@@ -4,7 +4,7 @@ use Rattle.std.proofs.Common.{slice_get, get_or, refl, ap, subst, sym, ◌∙◌
 use Rattle.std.specs.Option.{option_to_list}
 use Rattle.std.proofs.lemmas.Option.{slice_get_read}
 use Rattle.gd_words.specs.Members.{IsAmong}
-use Rattle.process_semantics.specs.State.{Entry}
+use Rattle.flow_paths.specs.process_semantics.specs.State.{Entry}
 use Rattle.flow_paths.specs.declared.graph.Edge.{Edge}
 use Rattle.flow_paths.specs.declared.graph.Goal.{Goal}
 use Rattle.flow_paths.specs.declared.graph.Goal.TheVariants.{At, Left, Ended}

@@ -6,13 +6,13 @@ use Rattle.std.specs.Prelude.{min, nat_le}
 use Rattle.std.specs.Option.{option_map}
 use Rattle.std.proofs.lemmas.List.{length-reverse}
 use Rattle.std.proofs.lemmas.Option.{slice_get_within}
-use Rattle.tal_tree.specs.declared.program.Program.{Program}
-use Rattle.process_semantics.specs.Rests.{entry_number}
-use Rattle.process_semantics.specs.State.{Entry}
-use Rattle.path_semantics.specs.declared.dues.Dues.{Dues}
-use Rattle.path_semantics.specs.Dues.{no_dues}
-use Rattle.path_semantics.specs.Place.{Place, Stand, next_in, next_entry}
-use Rattle.path_semantics.specs.Path.{Leads}
+use Rattle.flow_paths.specs.tal_tree.specs.declared.program.Program.{Program}
+use Rattle.flow_paths.specs.process_semantics.specs.Rests.{entry_number}
+use Rattle.flow_paths.specs.process_semantics.specs.State.{Entry}
+use Rattle.flow_paths.specs.path_semantics.specs.declared.dues.Dues.{Dues}
+use Rattle.flow_paths.specs.path_semantics.specs.Dues.{no_dues}
+use Rattle.flow_paths.specs.path_semantics.specs.Place.{Place, Stand, next_in, next_entry}
+use Rattle.flow_paths.specs.path_semantics.specs.Path.{Leads}
 use Rattle.flow_paths.specs.Flow.{IsFlow}
 use Rattle.flow_paths.specs.Graph.{Node}
 use Rattle.flow_paths.specs.Walk.{Goes, StandsAt}

@@ -2,7 +2,7 @@
 use Rattle.std.proofs.Common.{◌≡◌, ◌<◌, ℕ, suc, ◌+◌, ◌-◌, arith, List, [], ◌∷◌, ◌++◌, append_assoc, length, Option}
 use Rattle.std.proofs.Common.{Some, slice_get, get_or, refl, ap, subst, sym, ◌∙◌}
 use Rattle.std.proofs.lemmas.Option.{slice_get_read}
-use Rattle.process_semantics.specs.Rests.{entry_number}
+use Rattle.flow_paths.specs.process_semantics.specs.Rests.{entry_number}
 use Rattle.flow_paths.specs.Graph.{Node}
 use Rattle.due_search.specs.declared.queue.Visit.{Visit}
 use Rattle.due_search.specs.Search.{number_in, node_in, from_in, number_at, back, IsTrail}

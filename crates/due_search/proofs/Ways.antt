@@ -3,9 +3,9 @@ use Rattle.std.proofs.Common.{◌≡◌, ◌≤◌, ◌<◌, inl, inr, ℕ, zero
 use Rattle.std.proofs.Common.{Some, slice_get, reverse, refl, ap, subst, sym, ◌∙◌}
 use Rattle.std.proofs.lemmas.Grind.{reverse_onto}
 use Rattle.std.proofs.lemmas.Option.{slice_get_within}
-use Rattle.process_semantics.specs.Rests.{entry_number}
-use Rattle.path_semantics.specs.declared.dues.Dues.{Dues}
-use Rattle.path_semantics.specs.Dues.{no_dues, with_changed, after_entry}
+use Rattle.flow_paths.specs.process_semantics.specs.Rests.{entry_number}
+use Rattle.flow_paths.specs.path_semantics.specs.declared.dues.Dues.{Dues}
+use Rattle.flow_paths.specs.path_semantics.specs.Dues.{no_dues, with_changed, after_entry}
 use Rattle.flow_paths.specs.Graph.{Node}
 use Rattle.flow_paths.specs.Walk.{StepsTo, Goes}
 use Rattle.reason_dues.specs.Amounts.{cut_after}

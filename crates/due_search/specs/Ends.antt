@@ -1,13 +1,13 @@
 -- What a search finds: the nodes to which walks lead, and a shortest path that ends it.
 use Rattle.std.specs.Prelude.{◌≡◌, ◌≤◌, ◌<◌, ℕ, Bool, false, min, IsTrue, List, [], ◌∷◌, ◌++◌, length, slice_get}
 use Rattle.std.specs.Prelude.{Option, Some, None}
-use Rattle.tal_tree.specs.declared.program.Program.{Program}
-use Rattle.process_semantics.specs.Rests.{entry_number}
-use Rattle.process_semantics.specs.State.{Entry}
-use Rattle.path_semantics.specs.declared.dues.Dues.{Dues}
-use Rattle.path_semantics.specs.Dues.{no_dues}
-use Rattle.path_semantics.specs.Path.{Leads, number_at}
-use Rattle.path_semantics.specs.Place.{Stand, next_entry}
+use Rattle.flow_paths.specs.tal_tree.specs.declared.program.Program.{Program}
+use Rattle.flow_paths.specs.process_semantics.specs.Rests.{entry_number}
+use Rattle.flow_paths.specs.process_semantics.specs.State.{Entry}
+use Rattle.flow_paths.specs.path_semantics.specs.declared.dues.Dues.{Dues}
+use Rattle.flow_paths.specs.path_semantics.specs.Dues.{no_dues}
+use Rattle.flow_paths.specs.path_semantics.specs.Path.{Leads, number_at}
+use Rattle.flow_paths.specs.path_semantics.specs.Place.{Stand, next_entry}
 use Rattle.flow_paths.specs.Flow.{IsFlow}
 use Rattle.flow_paths.specs.Graph.{Node}
 use Rattle.flow_paths.specs.Walk.{Goes}

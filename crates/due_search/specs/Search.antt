@@ -2,9 +2,9 @@
 use Rattle.std.specs.Prelude.{◌≡◌, ◌≤◌, ◌<◌, ◌⊎◌, ℕ, zero, suc, ◌+◌, ◌*◌, Bool, true, false, ◌&&◌, nat_le, List, []}
 use Rattle.std.specs.Prelude.{◌∷◌, ◌++◌, length, min, count_by, slice_get, Option, Some, None}
 use Rattle.gd_words.specs.Members.{IsAmong}
-use Rattle.process_semantics.specs.Rests.{entry_number}
-use Rattle.process_semantics.specs.State.{Entry}
-use Rattle.path_semantics.specs.declared.reason.Reason.{Reason}
+use Rattle.flow_paths.specs.process_semantics.specs.Rests.{entry_number}
+use Rattle.flow_paths.specs.process_semantics.specs.State.{Entry}
+use Rattle.flow_paths.specs.path_semantics.specs.declared.reason.Reason.{Reason}
 use Rattle.flow_paths.specs.declared.graph.Edge.{Edge}
 use Rattle.flow_paths.specs.declared.graph.Goal.{Goal}
 use Rattle.flow_paths.specs.declared.graph.Goal.TheVariants.{At, Left, Ended}

@@ -9,5 +9,7 @@
 pub mod queue;
 pub mod search;
 
+pub use flow_paths::{Edge, Flow, FlowFault, Goal, Node};
 pub use queue::Visit;
+pub use reason_dues::{Numbers, Reasons, after_entry, after_return, may_break_at, most_of};
 pub use search::{Aim, Search};

@@ -1,16 +1,14 @@
 ghost use Rattle.std.specs.Prelude.{◌≡◌, ◌≤◌, ◌<◌, ◌+◌, ◌*◌, ℕ, length, reverse, slice_get, Some, IfOk, OnOk};
-ghost use Rattle.process_semantics.specs.Rests.{entry_number};
-ghost use Rattle.process_semantics.specs.SeenEntries.{entry_of};
+ghost use Rattle.flow_paths.specs.process_semantics.specs.Rests.{entry_number};
+ghost use Rattle.flow_paths.specs.process_semantics.specs.SeenEntries.{entry_of};
 ghost use Rattle.due_search.specs.declared.queue.Visit.{Visit};
 ghost use Rattle.due_search.specs.Ends.{AreNumbered, HasFound, HasStopped};
 ghost use Rattle.due_search.specs.Search.{first_visit, mark_of, ends_with, HasRoom, IsMarked, IsClear, Comes, ComesBy};
 ghost use Rattle.due_search.specs.Search.{visit_after, back, IsTrail, IsSearched, Advances};
 
 use crate::queue::Visit;
-use flow_paths::{Edge, Flow, Goal};
+use flow_paths::{Edge, Entry, Flow, Goal, Reason, entry_number};
 use gd_words::{List, NoMemory};
-use path_semantics::{Reason, entry_number};
-use process_semantics::Entry;
 use reason_dues::{after_entry, cut_changed, may_break_at};
 use std::alloc::Global;
 

@@ -3,7 +3,7 @@
 use Rattle.std.specs.Prelude.{ℕ, zero, suc, ◌+◌, ◌*◌, ◌%◌, ℤ, List, slice_get, Option, Some, None}
 use Rattle.std.specs.Option.{option_map}
 use Rattle.alive_regroup.specs.declared.set.ProcessorSet.{ProcessorSet}
-use Rattle.message_layout.specs.Reading.{bits_of}
+use Rattle.machine_views.specs.message_layout.specs.Reading.{bits_of}
 use Rattle.packet_words.specs.Telling.{number_at}
 use Rattle.plain_semantics.specs.Openers.{openers_of}
 use Rattle.tal_tree.specs.declared.site.Site.{Site}

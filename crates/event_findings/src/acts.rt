@@ -7,9 +7,7 @@ ghost use Rattle.event_findings.specs.Acts.{holds_back, keeps, kept_since, share
 use crate::noting::Holding;
 use crate::steps::is_acting;
 use gd_words::{List, NoMemory};
-use machine_views::site_machine::Machine;
-use machine_views::site_machine::node_copies::kept_acts::CopyShare;
-use machine_views::site_machine::process_copies::ProcessCopies;
+use machine_views::{CopyShare, Machine, ProcessCopies};
 use schedule::Event;
 use tal_tree::Act;
 use trace_lines::{ActName, Finding};

@@ -1,7 +1,7 @@
 ghost use Rattle.std.specs.Prelude.{◌≡◌};
 ghost use Rattle.event_findings.specs.Drives as spec;
 
-use machine_views::site_machine::Machine;
+use machine_views::Machine;
 use schedule::Event;
 use trace_lines::Finding;
 

@@ -23,7 +23,5 @@ pub mod telling;
 mod watches;
 
 pub use laws::what_is_found_is_told;
-pub use machine_views;
 pub use noting::{HandedOver, Holding, Noted, Queued, Ticking, note};
 pub use telling::{findings, shown_since};
-pub use trace_lines;

@@ -4,8 +4,7 @@ ghost use Rattle.event_findings.specs.Messages as spec;
 ghost use Rattle.event_findings.specs.Messages.{asker_in, checkpoint_in, long_at, name_of, silent_in, small_at};
 
 use alive_regroup::ProcessorSet;
-use machine_views::site_machine::Machine;
-use message_words::set_of;
+use machine_views::{Machine, set_of};
 use tal_tree::Who;
 use trace_lines::MessageName;
 

@@ -11,7 +11,7 @@ ghost use Rattle.machine_views.specs.site_machine.specs.packet_wires.specs.Play.
 use crate::messages::message_named;
 use gd_words::List;
 use link_control::Channel;
-use machine_views::site_machine::Machine;
+use machine_views::Machine;
 use packet_words::{Packet, PacketKind};
 use schedule::Event;
 use trace_lines::{Fate, Finding, MessageName, PacketSight, PacketSort};

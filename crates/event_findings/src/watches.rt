@@ -6,7 +6,7 @@ use crate::changes::put_any;
 use crate::noting::Ticking;
 use alive_regroup::{Neighbour, ProcessorSet, Watch};
 use gd_words::{List, NoMemory};
-use machine_views::site_machine::Machine;
+use machine_views::Machine;
 use schedule::Event;
 use trace_lines::Finding;
 

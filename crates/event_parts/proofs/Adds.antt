@@ -21,7 +21,7 @@ use Rattle.packet_wires.specs.Wires.{at_end_of, at_end, end_changed, watch_chang
 use Rattle.packet_wires.specs.Wires.{sends_all, posted, all_posted, bus_of_answer, heard_of, arrive_at, arrived}
 use Rattle.packet_wires.specs.Wires.{alive_at, tells_alive, reports, check_at, checks, tick_at, resends, ticked}
 use Rattle.packet_wires.specs.Wires.{down_at, cut_off, declares, loaded_again}
-use Rattle.event_parts.specs.Parts.{OnlyAdds, sent_before}
+use Rattle.event_parts.specs.Parts.{OnlyAdds, sent_earlier}
 
 -- What is put together
 
@@ -37,9 +37,9 @@ adds-then first second adds_first adds_second midst =
     let one : Midst = first (nothing_sent midst.nodes) in
     let two : Midst = second (nothing_sent one.nodes) in
     ap second (adds_first midst)
-    ∙ adds_second (sent_before midst.out one)
+    ∙ adds_second (sent_earlier midst.out one)
     ∙ ap (λ (out : List Outgoing). record two { out = out }) (append_assoc midst.out one.out two.out)
-    ∙ sym (ap (sent_before midst.out) (adds_second one))
+    ∙ sym (ap (sent_earlier midst.out) (adds_second one))
 
 pub adds-if : (test : Bool) (yes_part no_part : Midst → Midst) → OnlyAdds yes_part → OnlyAdds no_part
     → OnlyAdds (λ midst. if test then yes_part midst else no_part midst)
@@ -51,7 +51,7 @@ pub adds-at-node : (x : ℕ) (does : Node → Midst → Midst) → ((node : Node
 adds-at-node x does adds midst = by (slice_get midst.nodes x)
   where
     by : (found : Option Node) → at_node does found midst
-        ≡ sent_before midst.out (at_node does found (nothing_sent midst.nodes))
+        ≡ sent_earlier midst.out (at_node does found (nothing_sent midst.nodes))
     by None = adds-nothing midst
     by (Some node) = adds node midst
 

@@ -12,7 +12,7 @@ use Rattle.packet_wires.specs.world_semantics.specs.Running.{Done}
 use Rattle.packet_wires.specs.world_semantics.specs.World.{is_running}
 use Rattle.packet_wires.specs.Lines.{line_pulled}
 use Rattle.packet_wires.specs.Nodes.{Node, end_at}
-use Rattle.packet_wires.specs.Play.{Packeted, Underway, begun, deliver_acted, ended, handed_words, packet_at, play}
+use Rattle.packet_wires.specs.Play.{Packeted, Underway, underway, deliver_acted, ended, handed_words, packet_at, play}
 use Rattle.packet_wires.specs.Play.{is_current_at, pulls, pulls_its, received, reload_acted, repeat_acted}
 use Rattle.packet_wires.specs.Wires.{Wires, arrived, bus_named, loaded_again, nothing_sent, ticked, with_sent}
 use Rattle.packet_wires.specs.Wires.{without_packet}
@@ -30,25 +30,25 @@ pub delivers : (s : Packeted) (y : Bool) (k : ℕ) (packet : Packet) → packet_
 delivers s y k packet found runs current none =
     let name : BusName = bus_named y in
     let off : Wires = without_packet name k s.wires in
-    let after : Underway = record (begun s) { wires = arrived name packet (nothing_sent s.wires.nodes) } in
-    ap (λ (o : Option Packet). ended off (deliver_acted name (begun s) o)) found
+    let after : Underway = record (underway s) { wires = arrived name packet (nothing_sent s.wires.nodes) } in
+    ap (λ (o : Option Packet). ended off (deliver_acted name (underway s) o)) found
     ∙ ap (λ (b : Bool). ended off (Makes (if b && is_current_at packet
-    (end_at s.wires.nodes packet.receiver packet.sender) then received name packet (begun s) else begun s))) runs
-    ∙ ap (λ (b : Bool). ended off (Makes (if b then received name packet (begun s) else begun s))) current
+    (end_at s.wires.nodes packet.receiver packet.sender) then received name packet (underway s) else underway s))) runs
+    ∙ ap (λ (b : Bool). ended off (Makes (if b then received name packet (underway s) else underway s))) current
     ∙ ap (λ (w : Option (List ℤ)). ended off (Makes (handed_words packet.receiver w after))) none
     ∙ ap (λ (nodes : List Node). Makes (record s { wires = with_sent (arrived name packet (nothing_sent nodes)) off }))
     (sym (nodes-same name k s.wires))
 
 pub repeats : (s : Packeted) (y : Bool) (k : ℕ) (packet : Packet) → packet_at s (bus_named y) k ≡ Some packet
     → play s (Repeat y k) ≡ Makes (record s { wires = repeated (bus_named y) (Some packet) s.wires })
-repeats s y k packet found = ap (λ (o : Option Packet). ended s.wires (repeat_acted (bus_named y) (begun s) o)) found
+repeats s y k packet found = ap (λ (o : Option Packet). ended s.wires (repeat_acted (bus_named y) (underway s) o)) found
 
 pub ticks : (s : Packeted) (node : ℕ) → is_running s.world.stopped node ≡ true
     → option_and_then (line_pulled node) (slice_get (ticked s.site.processors node (nothing_sent s.wires.nodes)).nodes
     node) ≡ None
     → play s (Tick node) ≡ Makes (record s { wires = carried_out (ticked s.site.processors node) s.wires })
 ticks s node runs none =
-    let after : Underway = record (begun s) { wires = ticked s.site.processors node (nothing_sent s.wires.nodes) } in
+    let after : Underway = record (underway s) { wires = ticked s.site.processors node (nothing_sent s.wires.nodes) } in
     ap (λ (b : Bool). ended s.wires (if b then pulls_its node after else Skips)) runs
     ∙ ap (λ (line : Option ℕ). ended s.wires (pulls node after line)) none
 
@@ -57,4 +57,4 @@ pub reloads : (s : Packeted) (processor : ℕ) (done : Done) → reload_done s.s
       world = done.world;
       wires = carried_out (loaded_again s.site.processors processor) s.wires;
     })
-reloads s processor done is = ap (λ (o : Option Done). ended s.wires (reload_acted processor (begun s) o)) is
+reloads s processor done is = ap (λ (o : Option Done). ended s.wires (reload_acted processor (underway s) o)) is

@@ -6,7 +6,7 @@ use Rattle.std.specs.List.{filter}
 use Rattle.packet_words.specs.declared.bus_name.BusName.{BusName}
 use Rattle.packet_words.specs.declared.bus_name.BusName.TheVariants as bus
 use Rattle.packet_words.specs.declared.packet.Packet.{Packet}
-use Rattle.bus_model.specs.Packets.{sent}
+use Rattle.packet_wires.specs.bus_model.specs.Packets.{sent}
 use Rattle.packet_wires.specs.Nodes.{Node}
 use Rattle.packet_wires.specs.Wires.{Wires, Midst, Outgoing, all_put, for_each, is_bus, nothing_sent, packets_over}
 use Rattle.packet_wires.specs.Wires.{with_sent}

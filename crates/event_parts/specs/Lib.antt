@@ -1,2 +1,10 @@
 pub mod Parts
 pub mod Numbers
+pub use Rattle.packet_wires.specs.bus_model
+pub use Rattle.packet_wires.specs.change_layout
+pub use Rattle.packet_wires.specs.computed_changes
+pub use Rattle.packet_wires.specs.letters
+pub use Rattle.packet_wires.specs.machine_states
+pub use Rattle.packet_wires
+pub use Rattle.packet_wires.specs.plain_semantics
+pub use Rattle.packet_wires.specs.world_semantics

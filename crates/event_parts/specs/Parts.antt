@@ -14,12 +14,12 @@ abbrev pub carried_out : (Midst → Midst) → Wires → Wires
 carried_out part wires = with_sent (part (nothing_sent wires.nodes)) wires
 
 -- the same, after this was sent
-abbrev pub sent_before : List Outgoing → Midst → Midst
-sent_before out midst = record midst { out = out ++ midst.out }
+abbrev pub sent_earlier : List Outgoing → Midst → Midst
+sent_earlier out midst = record midst { out = out ++ midst.out }
 
 -- a part sees nothing of what was sent before it, and only adds to that
 abbrev pub OnlyAdds : (Midst → Midst) → Type 0
-OnlyAdds part = (midst : Midst) → part midst ≡ sent_before midst.out (part (nothing_sent midst.nodes))
+OnlyAdds part = (midst : Midst) → part midst ≡ sent_earlier midst.out (part (nothing_sent midst.nodes))
 
 -- what a node, where there is one, knows of the processors
 abbrev pub watch_at : List Node → ℕ → Option Watching

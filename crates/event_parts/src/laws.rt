@@ -13,7 +13,7 @@ ghost use Rattle.packet_wires.specs.Parcels.{Parcel};
 ghost use Rattle.packet_wires.specs.message_layout.specs.Messages.{NodeMessage};
 ghost use Rattle.packet_wires.specs.Lines.{line_pulled};
 ghost use Rattle.packet_wires.specs.Nodes.{end_at};
-ghost use Rattle.packet_wires.specs.Play.{Packeted, begun, is_current_at, over, packet_at, play};
+ghost use Rattle.packet_wires.specs.Play.{Packeted, underway, is_current_at, over, packet_at, play};
 ghost use Rattle.packet_wires.specs.Wires.{Midst, Wires, all_posted, arrived, at_end, bus_named, cut_off, declares};
 ghost use Rattle.packet_wires.specs.Wires.{goes_over, learns, loaded_again, nothing_sent, push_at, sends, ticked};
 ghost use Rattle.event_parts.specs.Numbers.{CanPush, HasNumbersAt};
@@ -23,7 +23,7 @@ ghost use Rattle.event_parts.specs.Parts.{OnlyAdds, carried_out, completed_by, d
 /// packet off.
 pub fn a_part_may_be_an_event()
     ensures { (s : Packeted) (part : Midst → Midst) (wires : Wires) → wires.nodes ≡ s.wires.nodes
-        → (over wires (record (begun s) { wires = part (begun s).wires })).wires ≡ carried_out part wires }
+        → (over wires (record (underway s) { wires = part (underway s).wires })).wires ≡ carried_out part wires }
 {}
 
 /// What an event makes of the wires where no message is whole with its packet, and where no line is pulled, and what a

@@ -6,3 +6,5 @@
 #![tactic(auto)]
 
 pub mod laws;
+
+pub use packet_wires::{Bus, ChangeMessage, Effect, ImageMessage};

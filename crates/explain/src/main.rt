@@ -1,11 +1,15 @@
 //! The program `explain`: the words of the command line, the file that they name or standard input, standard output,
-//! standard error for how far the search of `break` is, and the top call of `explain_runner`.
+//! and standard error for how far the search of `break` is. Its top call, `exit_number`, does all the work, over any
+//! source and sinks.
 //!
-//! Below stand `explain_runner`, whose `exit_number` does all the work, `explain_words` with the file's name, and
-//! `gd_io` with the ends.
+//! Below stand `explain_words`, which tells what the words ask for and the file's name, `explain_decks`, and `gd_io`
+//! with the ends.
 #![tactic(auto)]
 
-use explain_runner::exit_number;
+pub mod ending;
+mod entry;
+
+use crate::entry::exit_number;
 use explain_words::file_asked;
 use gd_io::{StdSink, StdSource};
 use gd_words::NoMemory;

@@ -4,10 +4,10 @@ use Rattle.break_text.specs.BreakText.{search_text}
 use Rattle.break_text.specs.break_runs.specs.Breaks.{IsSearch}
 use Rattle.break_text.specs.break_runs.specs.Meanwhile.{search_progress}
 use Rattle.break_text.specs.break_runs.specs.declared.found.Search.{Search}
-use Rattle.deck_reader.specs.declared.deck.Deck.{Deck}
+use Rattle.schedule_lengths.specs.deck_reader.specs.declared.deck.Deck.{Deck}
 use Rattle.explain_why.specs.Judged.{IsJudgedDeck}
 use Rattle.explain_why.specs.declared.judged.JudgedDeck.{JudgedDeck}
-use Rattle.verdicts.specs.Refused.{AreAccepted}
+use Rattle.accepted_decks.specs.verdicts.specs.Refused.{AreAccepted}
 
 abbrev pub accepted_text : List ℕ
 accepted_text = codes "no program is refused: no run of this deck breaks" ++ 10 ∷ []

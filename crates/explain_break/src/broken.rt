@@ -4,23 +4,21 @@ ghost use Rattle.break_text.specs.break_runs.specs.Breaks.{IsSearch};
 ghost use Rattle.break_text.specs.break_runs.specs.Meanwhile.{search_progress};
 ghost use Rattle.break_text.specs.break_runs.specs.break_progress.specs.Progress.{GoesOut, IsProgress};
 ghost use Rattle.break_text.specs.break_runs.specs.declared.found.Search.{Search};
-ghost use Rattle.deck_reader.specs.Decks.{Decks};
+ghost use Rattle.schedule_lengths.specs.deck_reader.specs.Decks.{Decks};
 ghost use Rattle.explain_break.specs.Broken.{IsBreakDeck, accepted_text};
 ghost use Rattle.player.specs.declared.stop.ProcessorStop.{ProcessorStop};
 ghost use Rattle.break_text.specs.schedule_runs.specs.pair_machine.specs.process_copies.specs.Starting.{IsStartable};
 ghost use Rattle.break_text.specs.schedule_runs.specs.Lengths.{AsksForFewEvents};
 
 use accepted_decks::an_accepted_deck_meets_the_premises;
-use break_text::break_runs::search_breaks;
-use break_text::put_search;
-use deck_reader::{Deck, a_deck_keeps_the_limits};
+use break_text::{put_search, search_breaks};
 use explain_why::{
     JudgedDeck, judged_deck, programs_of_a_deck_can_be_judged, unrefused_programs_are_accepted,
 };
 use gd_io::Sink;
 use gd_words::{List, NoMemory};
 use logs::Shared;
-use schedule_lengths::a_schedule_asks_for_few_events;
+use schedule_lengths::{Deck, a_deck_keeps_the_limits, a_schedule_asks_for_few_events};
 use std::alloc::Global;
 use text_pieces::put;
 

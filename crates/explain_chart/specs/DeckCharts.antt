@@ -6,7 +6,7 @@ use Rattle.charted_runs.specs.Charts.{Charts}
 use Rattle.charted_runs.specs.declared.charted.ChartFault.{ChartFault}
 use Rattle.charted_runs.specs.declared.charted.ChartFault.TheVariants as fault
 use Rattle.charted_runs.specs.declared.charted.Charted.{Charted}
-use Rattle.deck_reader.specs.declared.deck.Deck.{Deck}
+use Rattle.explain_why.specs.deck_reader.specs.declared.deck.Deck.{Deck}
 use Rattle.explain_chart.specs.declared.scope.Scope.{Scope}
 use Rattle.explain_why.specs.Judged.{IsJudgedDeck}
 use Rattle.explain_why.specs.declared.judged.JudgedDeck.{JudgedDeck}
@@ -17,7 +17,7 @@ use Rattle.svg_text.specs.Sheets.{drawing_text}
 use Rattle.tal_tree.specs.declared.site.Site.{Site}
 use Rattle.trace_lines.specs.declared.places.Places.{Places}
 use Rattle.traced_decks.specs.PlacesOf.{places_of}
-use Rattle.verdicts.specs.Refused.{AreAccepted}
+use Rattle.traced_decks.specs.verdicts.specs.Refused.{AreAccepted}
 
 abbrev pub layout_of : Site → Scope → Layout
 layout_of site scope = record {

@@ -1,6 +1,6 @@
 ghost use Rattle.std.specs.Prelude.{◌≡◌, ◌≤◌, length, IfOk};
 ghost use Rattle.chart_marks.specs.Chart.{drawing_of};
-ghost use Rattle.deck_reader.specs.Decks.{Decks};
+ghost use Rattle.explain_why.specs.deck_reader.specs.Decks.{Decks};
 ghost use Rattle.explain_chart.specs.DeckCharts as spec;
 ghost use Rattle.explain_chart.specs.DeckCharts.{ChartsSite, IsChartDeck, IsOfChart};
 ghost use Rattle.charted_runs.specs.packet_runs.specs.Runs.{course_on, packet_rules};
@@ -9,15 +9,14 @@ ghost use Rattle.charted_runs.specs.site_machine.specs.Needs.{IsReady};
 ghost use Rattle.charted_runs.specs.site_machine.specs.process_copies.specs.Starting.{IsStartable};
 ghost use Rattle.svg_text.specs.Sheets.{drawing_text};
 ghost use Rattle.traced_decks.specs.PlacesOf.{places_of};
-ghost use Rattle.verdicts.specs.Refused.{AreAccepted};
+ghost use Rattle.traced_decks.specs.verdicts.specs.Refused.{AreAccepted};
 
 use crate::scope::Scope;
 use chart_marks::{Chart, Layout};
-use charted_runs::traced_runs::sizes_of;
-use charted_runs::{ChartFault, chart_run};
-use deck_reader::Deck;
+use charted_runs::{ChartFault, chart_run, sizes_of};
 use explain_why::{
-    JudgedDeck, judged_deck, programs_of_a_deck_can_be_judged, unrefused_programs_are_accepted,
+    Deck, JudgedDeck, judged_deck, programs_of_a_deck_can_be_judged,
+    unrefused_programs_are_accepted,
 };
 use gd_words::{List, NoMemory};
 use logs::Shared;
@@ -27,8 +26,7 @@ use std::alloc::Global;
 use svg_text::put_drawing;
 use tal_tree::Site;
 use trace_lines::Places;
-use traced_decks::accepted_decks::an_accepted_deck_meets_the_premises;
-use traced_decks::places_of;
+use traced_decks::{an_accepted_deck_meets_the_premises, places_of};
 
 /// Where a program of the deck is refused, what is told of its programs. Else the deck is run, with a stop of a
 /// processor where one is given, and its events within the scope are drawn.

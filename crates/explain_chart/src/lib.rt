@@ -11,4 +11,4 @@ pub mod scope;
 pub use chart::chart_deck;
 pub use charted_runs::ChartFault;
 pub use scope::Scope;
-pub use traced_decks;
+pub use traced_decks::{Manner, Places, Span, TraceFault, places_of, trace_deck};

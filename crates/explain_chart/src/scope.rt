@@ -1,4 +1,4 @@
-use charted_runs::traced_runs::Span;
+use charted_runs::Span;
 
 /// What of a run is drawn: the events of a span, with alive packets or without.
 #[derive(Clone, Copy, PartialEq, Eq, Drop)]

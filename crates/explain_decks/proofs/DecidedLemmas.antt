@@ -92,7 +92,7 @@ fault_is_due telling bytes why (due.Refused found) refused is = (
   refl,
 )
 
--- what a program is refused for is told, where it isn't want of memory
+-- what a program is refused for is told, if it isn't that memory ran out
 of_text : (why : TalFault) → why ≢ tal.NoMemory no_memory → IsOfText why
 of_text (tal.NoMemory _) memory = absurd (memory refl)
 of_text _ memory = tt

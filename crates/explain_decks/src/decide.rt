@@ -12,12 +12,11 @@ use crate::due::{Due, RefusedDeck, TracedDeck};
 use crate::telling::Telling;
 use deck_reader::{Deck, read_deck};
 use explain_break::break_deck;
-use explain_chart::traced_decks::{Manner, places_of};
-use explain_chart::{ChartFault, chart_deck};
-use explain_left::explain_why::{
-    JudgedDeck, judged_deck, programs_of_a_deck_can_be_judged, unrefused_programs_are_accepted,
+use explain_chart::{ChartFault, Manner, chart_deck, places_of};
+use explain_left::{
+    JudgedDeck, judged_deck, left_deck, programs_of_a_deck_can_be_judged,
+    unrefused_programs_are_accepted,
 };
-use explain_left::left_deck;
 use fault_text::told_text;
 use gd_io::{Sink, Source, SourceFault, read_all};
 use gd_words::NoMemory;

@@ -1,6 +1,6 @@
 use deck_reader::Deck;
-use explain_chart::traced_decks::{Manner, Places};
-use explain_left::explain_why::JudgedDeck;
+use explain_chart::{Manner, Places};
+use explain_left::JudgedDeck;
 use gd_words::{List, NoMemory};
 use player::ProcessorStop;
 use tal_tree::DeckFault;

@@ -9,7 +9,7 @@ use crate::decide::due_of_source;
 use crate::due::{Due, RefusedDeck, TracedDeck};
 use crate::status::Status;
 use crate::telling::Telling;
-use explain_chart::traced_decks::{TraceFault, trace_deck};
+use explain_chart::{TraceFault, trace_deck};
 use fault_text::write_why;
 use gd_io::{Sink, Source, WriteFault, put_all};
 use std::alloc::Global;

@@ -14,7 +14,6 @@ pub mod status;
 pub mod telling;
 
 pub use entry::{tell, tell_number};
-pub use explain_chart::Scope;
-pub use explain_chart::traced_decks::{Manner, Span};
+pub use explain_chart::{Manner, Scope, Span};
 pub use status::Status;
 pub use telling::Telling;

@@ -1,5 +1,4 @@
-use explain_chart::Scope;
-use explain_chart::traced_decks::Manner;
+use explain_chart::{Manner, Scope};
 use player::ProcessorStop;
 
 /// What is to be told of a deck.

@@ -1,2 +1,3 @@
 pub mod Left
+pub mod LeftRuns
 pub use Rattle.explain_why

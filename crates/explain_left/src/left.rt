@@ -1,14 +1,14 @@
 ghost use Rattle.std.specs.Prelude.{◌≤◌, length, IfOk};
-ghost use Rattle.deck_reader.specs.Decks.{Decks};
-ghost use Rattle.verdicts.specs.Refused.{AreAccepted};
+ghost use Rattle.explain_why.specs.deck_reader.specs.Decks.{Decks};
+ghost use Rattle.accepted_decks.specs.verdicts.specs.Refused.{AreAccepted};
 ghost use Rattle.explain_left.specs.Left.{IsLeftDeck, IsOfRun};
 
-use deck_reader::Deck;
+use crate::run::left_after;
 use explain_why::{
-    JudgedDeck, judged_deck, programs_of_a_deck_can_be_judged, unrefused_programs_are_accepted,
+    Deck, JudgedDeck, judged_deck, programs_of_a_deck_can_be_judged,
+    unrefused_programs_are_accepted,
 };
 use gd_words::NoMemory;
-use left_runs::left_after;
 use player::ProcessorStop;
 use std::alloc::Global;
 

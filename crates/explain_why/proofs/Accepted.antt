@@ -10,7 +10,7 @@ use Rattle.tal_tree.specs.declared.program.Program.{Program}
 use Rattle.tal_tree.specs.declared.site.Kind.{Kind}
 use Rattle.tal_tree.specs.declared.site.Kind.TheVariants as kind
 use Rattle.tal_tree.specs.declared.site.ProcessSpec.{ProcessSpec}
-use Rattle.verdicts.specs.Refused.{AreAccepted, program_at, program_of}
+use Rattle.finding_text.specs.verdicts.specs.Refused.{AreAccepted, program_at, program_of}
 use Rattle.explain_why.specs.Judged.{are_refused, is_refused}
 
 neither : (first second : Bool) → (first || second) ≡ false → (first ≡ false) × (second ≡ false)

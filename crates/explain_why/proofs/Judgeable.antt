@@ -10,7 +10,7 @@ use Rattle.tal_tree.specs.declared.program.Program.{Program}
 use Rattle.tal_tree.specs.declared.site.Kind.{Kind}
 use Rattle.tal_tree.specs.declared.site.Kind.TheVariants as kind
 use Rattle.tal_tree.specs.declared.site.ProcessSpec.{ProcessSpec}
-use Rattle.verdicts.specs.Judgeable.{AreJudgeable, IsJudgeableKind}
+use Rattle.finding_text.specs.verdicts.specs.Judgeable.{AreJudgeable, IsJudgeableKind}
 
 -- a program that some text reads as
 abbrev pub Read : Program → Type 0

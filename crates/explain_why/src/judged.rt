@@ -1,9 +1,8 @@
 ghost use Rattle.std.specs.Prelude.{◌≡◌, ◌≤◌, length, IfOk};
 ghost use Rattle.explain_why.specs.Judged.{IsJudgedDeck, are_refused, is_refused, judged_text};
-ghost use Rattle.verdicts.specs.Judgeable.{AreJudgeable};
+ghost use Rattle.finding_text.specs.verdicts.specs.Judgeable.{AreJudgeable};
 
-use finding_text::pair_findings::{Finding, findings_of};
-use finding_text::put_pairs;
+use finding_text::{Finding, findings_of, put_pairs};
 use gd_words::{List, NoMemory};
 use std::alloc::Global;
 use tal_tree::ProcessSpec;

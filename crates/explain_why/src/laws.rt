@@ -2,8 +2,8 @@ ghost use Rattle.std.specs.Prelude.{◌≡◌, false, ℕ, List};
 ghost use Rattle.deck_reader.specs.Decks.{Decks};
 ghost use Rattle.deck_reader.specs.declared.deck.Deck.{Deck};
 ghost use Rattle.tal_tree.specs.declared.site.ProcessSpec.{ProcessSpec};
-ghost use Rattle.verdicts.specs.Judgeable.{AreJudgeable};
-ghost use Rattle.verdicts.specs.Refused.{AreAccepted};
+ghost use Rattle.finding_text.specs.verdicts.specs.Judgeable.{AreJudgeable};
+ghost use Rattle.finding_text.specs.verdicts.specs.Refused.{AreAccepted};
 ghost use Rattle.explain_why.specs.Judged.{IsJudgedDeck};
 ghost use Rattle.explain_why.specs.declared.judged.JudgedDeck.{JudgedDeck};
 

@@ -8,5 +8,6 @@
 pub mod judged;
 pub mod laws;
 
+pub use deck_reader::Deck;
 pub use judged::{JudgedDeck, judged_deck};
 pub use laws::{programs_of_a_deck_can_be_judged, unrefused_programs_are_accepted};

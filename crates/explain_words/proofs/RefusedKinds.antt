@@ -20,7 +20,7 @@ pub one-kind : (only : ErrorKind) (question : Option Question)
     → (one : ErrorKind) × IsAmong one (only ∷ []) × (question ≡ kind_question one) → question ≡ kind_question only
 one-kind only question asked = asked.2 ∙ ap kind_question (the-one asked.0 only asked.1)
 
--- a parse that is refused for a kind, which isn't want of memory
+-- a parse that is refused for a kind, and not since memory ran out
 refused-for : (words : List Text) (one : ErrorKind) (made : Parse)
     → (one ≡ kind.OutOfMemory) ⊎ IsAmong one (fault_of the_line words) → IsRefusedFor one made
     → one ≢ kind.OutOfMemory → IsParse words made

@@ -1,2 +1,3 @@
 pub mod Queue
 pub mod Takeover
+pub use Rattle.sync_ids

@@ -14,4 +14,5 @@ pub mod waiting;
 
 pub use awaiting::accepts;
 pub use laws::settling_repeats_all_kept_replies;
+pub use sync_ids::Receive;
 pub use waiting::{Arrival, Waiting};

@@ -1,7 +1,7 @@
 -- What the CHECKPOINTs of an accepted program send, as text. Our own wording.
 use Rattle.std.specs.Prelude.{ℕ, ◌+◌, List, [], ◌∷◌, ◌++◌, codes, flat_map}
-use Rattle.advice.specs.declared.answer.Advised.{Advised}
-use Rattle.statement_dues.specs.declared.checkpoints.NamedCheckpoint.{NamedCheckpoint}
+use Rattle.pair_findings.specs.advice.specs.declared.answer.Advised.{Advised}
+use Rattle.pair_findings.specs.statement_dues.specs.declared.checkpoints.NamedCheckpoint.{NamedCheckpoint}
 use Rattle.tal_tree.specs.declared.program.Program.{Program}
 use Rattle.pair_findings.specs.declared.finding.PairFinding.{PairFinding}
 use Rattle.pair_findings.specs.declared.finding.Remedy.{Remedy}

@@ -7,3 +7,4 @@ pub mod PairText
 pub mod Sentences
 pub mod Steps
 pub use Rattle.pair_findings
+pub use Rattle.pair_findings.specs.verdicts

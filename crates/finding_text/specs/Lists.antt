@@ -1,9 +1,9 @@
 -- What CHECKPOINTs name, and what they lack or don't need by an advice.
 use Rattle.std.specs.Prelude.{ℕ, if◌then◌else◌, List, [], ◌∷◌, ◌++◌, map}
 use Rattle.gd_words.specs.Members.{is_among}
-use Rattle.advice.specs.declared.answer.Advised.{Advised}
-use Rattle.advice.specs.Answer.{files_among, items_among}
-use Rattle.statement_dues.specs.declared.checkpoints.NamedCheckpoint.{NamedCheckpoint}
+use Rattle.pair_findings.specs.advice.specs.declared.answer.Advised.{Advised}
+use Rattle.pair_findings.specs.advice.specs.Answer.{files_among, items_among}
+use Rattle.pair_findings.specs.statement_dues.specs.declared.checkpoints.NamedCheckpoint.{NamedCheckpoint}
 use Rattle.finding_text.specs.declared.lists.Listed.{Listed}
 use Rattle.finding_text.specs.declared.lists.Listed.TheVariants as listed
 

@@ -8,11 +8,9 @@ ghost use Rattle.finding_text.specs.Lacking.{listed_text, unmended_text, whole_t
 use crate::lists::{Listed, all_listed, lacking};
 use crate::names::{put_file, put_listed};
 use crate::steps::line_among;
-use advice::{Advice, Advised};
 use gd_words::{List, NoMemory};
-use pair_findings::{PairFinding, Remedy};
+use pair_findings::{Advice, Advised, NamedCheckpoint, PairFinding, Remedy};
 use path_semantics::Reason;
-use statement_dues::NamedCheckpoint;
 use std::alloc::Global;
 use tal_tree::{FileUse, Program};
 use text_pieces::{put, put_number};

@@ -18,5 +18,5 @@ mod steps;
 
 pub use carried::put_place_line;
 pub use deck_place::pair_line;
-pub use pair_findings;
+pub use pair_findings::{Finding, findings_of};
 pub use pairs::put_pairs;

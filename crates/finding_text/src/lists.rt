@@ -1,12 +1,11 @@
 ghost use Rattle.std.specs.Prelude.{◌≡◌, ◌++◌, IfOk, OnOk};
-ghost use Rattle.advice.specs.Answer.{files_among, items_among};
+ghost use Rattle.pair_findings.specs.advice.specs.Answer.{files_among, items_among};
 ghost use Rattle.gd_words.specs.Members.{is_among};
 ghost use Rattle.finding_text.specs.Lists.{all_listed, files_of, items_of, lacking, needless};
 ghost use Rattle.finding_text.specs.Lists.{others_of_files, others_of_items};
 
-use advice::Advised;
 use gd_words::{List, NoMemory};
-use statement_dues::NamedCheckpoint;
+use pair_findings::{Advised, NamedCheckpoint};
 use std::alloc::Global;
 
 /// What a CHECKPOINT names: a global by its item's number, or a file by its number in the order of the OPENs.

@@ -13,7 +13,7 @@ use Rattle.tal_tree.specs.declared.program.Procedure.{Procedure}
 use Rattle.tal_tree.specs.declared.program.Program.{Program}
 use Rattle.tal_tree.specs.declared.statement.Statement.{Statement}
 use Rattle.tal_tree.specs.declared.statement.What.{What, What-F, out-What}
-use Rattle.process_semantics.specs.State.{Entry, runs_of}
+use Rattle.path_semantics.specs.process_semantics.specs.State.{Entry, runs_of}
 use Rattle.path_semantics.specs.Bounds.{size_from}
 use Rattle.path_semantics.specs.Bounds.{sizes as program_sizes}
 use Rattle.path_semantics.specs.Place.{body_in, body_of}

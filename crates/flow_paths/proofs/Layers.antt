@@ -8,7 +8,7 @@ use Rattle.tal_tree.specs.declared.statement.What.TheViews.{rolls-For, rolls-DoU
 use Rattle.tal_tree.specs.declared.statement.What.TheViews.{rolls-ReadUpdate, rolls-Reply, rolls-WriteRead}
 use Rattle.tal_tree.specs.declared.statement.What.TheViews.{rolls-Checkpoint, rolls-CheckMonitor, rolls-Open}
 use Rattle.tal_tree.specs.declared.statement.What.TheViews.{rolls-Stop}
-use Rattle.process_semantics.specs.State.{Entry, Run, Test, Last}
+use Rattle.path_semantics.specs.process_semantics.specs.State.{Entry, Run, Test, Last}
 use Rattle.path_semantics.specs.Dues.{global_of_spot}
 use Rattle.flow_paths.specs.declared.graph.Edge.{Edge}
 use Rattle.flow_paths.specs.Layout.{size_in, size_row, to_node, leaving, ending, with_targets, start_row, start_in}

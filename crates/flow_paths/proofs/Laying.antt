@@ -9,7 +9,7 @@ use Rattle.tal_tree.specs.declared.expression.Expr.{Expr}
 use Rattle.tal_tree.specs.declared.expression.Variable.{Variable}
 use Rattle.tal_tree.specs.declared.statement.Statement.{Statement}
 use Rattle.tal_tree.specs.declared.statement.What.{What, If, While, For, DoUntil}
-use Rattle.process_semantics.specs.State.{Run, Test, Last}
+use Rattle.path_semantics.specs.process_semantics.specs.State.{Run, Test, Last}
 use Rattle.flow_paths.specs.declared.graph.Edge.{Edge}
 use Rattle.flow_paths.specs.Graph.{Node}
 use Rattle.flow_paths.specs.Layout.{size_in, size_row, to_node, start_row, start_at, one_way, two_ways, lay_in, lay_row}

@@ -8,7 +8,7 @@ use Rattle.std.proofs.lemmas.Option.{slice_get-map}
 use Rattle.tal_tree.specs.declared.program.Program.{Program}
 use Rattle.tal_tree.specs.declared.statement.Statement.{Statement}
 use Rattle.tal_tree.specs.declared.statement.What.{out-What}
-use Rattle.process_semantics.specs.State.{Entry, Run}
+use Rattle.path_semantics.specs.process_semantics.specs.State.{Entry, Run}
 use Rattle.path_semantics.specs.declared.dues.Dues.{Dues}
 use Rattle.path_semantics.specs.Dues.{with_changed, after_entry, target_of}
 use Rattle.path_semantics.specs.Place.{Place, Stand, next_in, body_of, stand_at, stands_after}

@@ -9,8 +9,8 @@ use Rattle.tal_tree.specs.declared.program.Program.{Program}
 use Rattle.tal_tree.specs.declared.statement.Statement.{Statement}
 use Rattle.tal_tree.specs.declared.statement.What.{What, What-F, out-What}
 use Rattle.tal_tree.specs.Statements.{body_before}
-use Rattle.process_semantics.specs.State.{Entry, Run, Test, Last, runs_of}
-use Rattle.process_semantics.proofs.Rests.{behind-more}
+use Rattle.path_semantics.specs.process_semantics.specs.State.{Entry, Run, Test, Last, runs_of}
+use Rattle.path_semantics.specs.process_semantics.proofs.Rests.{behind-more}
 use Rattle.path_semantics.specs.declared.dues.Dues.{Dues}
 use Rattle.path_semantics.specs.Dues.{after_entry, after_statement, target_of, global_of_spot}
 use Rattle.path_semantics.specs.Place.{Place, body_of, ways_of, rounds_of, settled, stand_at}

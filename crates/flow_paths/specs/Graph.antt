@@ -2,7 +2,7 @@
 use Rattle.std.specs.Prelude.{◌≡◌, ◌<◌, ℕ, List, [], ◌∷◌, length, Option, Some}
 use Rattle.std.specs.Option.{option_to_list}
 use Rattle.gd_words.specs.Members.{IsAmong}
-use Rattle.process_semantics.specs.State.{Entry}
+use Rattle.path_semantics.specs.process_semantics.specs.State.{Entry}
 use Rattle.flow_paths.specs.declared.graph.Edge.{Edge}
 use Rattle.flow_paths.specs.declared.graph.Goal.{Goal}
 use Rattle.flow_paths.specs.declared.graph.Goal.TheVariants.{At, Left}

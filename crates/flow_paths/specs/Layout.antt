@@ -7,7 +7,7 @@ use Rattle.tal_tree.specs.declared.statement.What.{What, Assign, AssignCall, If'
 use Rattle.tal_tree.specs.declared.statement.What.{Return, ReadUpdate, Reply, WriteRead, Checkpoint, CheckMonitor}
 use Rattle.tal_tree.specs.declared.statement.What.{Open, Stop}
 use Rattle.tal_tree.specs.declared.statement.What.{Row_of-Statement, end_of-Statement, more_of-Statement}
-use Rattle.process_semantics.specs.State.{Entry, Run, Test, Last}
+use Rattle.path_semantics.specs.process_semantics.specs.State.{Entry, Run, Test, Last}
 use Rattle.path_semantics.specs.Dues.{global_of_spot}
 use Rattle.flow_paths.specs.declared.graph.Edge.{Edge}
 use Rattle.flow_paths.specs.declared.graph.Goal.{Goal}

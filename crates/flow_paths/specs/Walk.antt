@@ -1,7 +1,7 @@
 -- Walks along the edges of a graph, with what is due.
 use Rattle.std.specs.Prelude.{◌≡◌, ◌⊎◌, ◌<◌, ℕ, ◌+◌, List, [], ◌∷◌, length, slice_get, Some}
 use Rattle.gd_words.specs.Members.{IsAmong}
-use Rattle.process_semantics.specs.Rests.{entry_number}
+use Rattle.path_semantics.specs.process_semantics.specs.Rests.{entry_number}
 use Rattle.path_semantics.specs.declared.dues.Dues.{Dues}
 use Rattle.path_semantics.specs.Dues.{no_dues, with_changed, after_entry}
 use Rattle.path_semantics.specs.Place.{Stand, next_entry}

@@ -1,6 +1,6 @@
 ghost use Rattle.std.specs.Prelude.{◌≡◌, ◌<◌, ◌≤◌, ◌+◌, ℕ, [], IfOk};
 ghost use Rattle.std.specs.Option.{option_copied};
-ghost use Rattle.process_semantics.specs.SeenEntries.{entry_of};
+ghost use Rattle.path_semantics.specs.process_semantics.specs.SeenEntries.{entry_of};
 ghost use Rattle.path_semantics.specs.Dues.{global_of_spot};
 ghost use Rattle.flow_paths.specs.Graph.{IsWithin};
 ghost use Rattle.flow_paths.specs.Layout.{to_node, leaving, ending, with_targets, moved, one_way, two_ways};
@@ -8,7 +8,7 @@ ghost use Rattle.flow_paths.specs.Layout.{caller_from, moved_node};
 ghost use Rattle.flow_paths.specs.declared.graph.Goal.TheVariants.{At};
 
 use gd_words::{List, NoMemory};
-use process_semantics::Entry;
+use path_semantics::Entry;
 use std::alloc::Global;
 use std::marker::Model;
 use tal_tree::Spot;
@@ -118,7 +118,7 @@ pub struct Node<'a> {
 impl<'a> Model for Node<'a> {
     ghost use Rattle.std.specs.Coded.{codes};
     ghost use Rattle.tal_tree.specs.contracts.statement.Statement as statement;
-    ghost use Rattle.process_semantics.specs.SeenEntries.{entry_of};
+    ghost use Rattle.path_semantics.specs.process_semantics.specs.SeenEntries.{entry_of};
     ghost use Rattle.flow_paths.specs.Graph as graph;
 
     ghost Value = { graph.Node };

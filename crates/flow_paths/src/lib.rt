@@ -18,3 +18,4 @@ pub use fault::FlowFault;
 pub use flow::Flow;
 pub use graph::{Edge, Goal, Node};
 pub use laws::paths_are_walks;
+pub use path_semantics::{Entry, Reason, entry_number};

@@ -1,7 +1,6 @@
 ghost use Rattle.std.specs.Prelude.{◌≡◌, [], ◌∷◌, OnOk, OnErr};
 
-use gd_words::NoMemory;
-use logs::Log;
+use logs::{Log, NoMemory};
 use std::alloc::Global;
 use std::marker::Model;
 use std::snapshot::Snapshot;

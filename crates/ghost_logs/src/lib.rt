@@ -7,3 +7,4 @@
 pub mod ghost_log;
 
 pub use ghost_log::GhostLog;
+pub use logs::Log;

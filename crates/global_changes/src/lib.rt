@@ -7,4 +7,3 @@
 pub mod changes;
 
 pub use changes::{WordSet, words_set};
-pub use image_places;

@@ -5,8 +5,8 @@ ghost use Rattle.image_places.specs.Running.{Gives};
 ghost use Rattle.process_semantics.specs.Words.{count_in, words_in};
 
 use crate::running::{number_in, running_in, words_in};
-use process_semantics::gd_words::{List, NoMemory};
 use process_semantics::globals::width;
+use process_semantics::{List, NoMemory};
 use std::alloc::Global;
 use tal_tree::{Item, Program, Shape};
 

@@ -1,6 +1,6 @@
 -- Where a copy stands after the other one applied its checkpoint: before its act at the checkpoint.
 use Rattle.std.proofs.Common.{◌≡◌, ℕ, ◌+◌, Bool, true, false, nat_lt, List, ◌++◌, refl, arith}
-use Rattle.process_semantics.specs.declared.point.Point.{Point}
+use Rattle.world_semantics.specs.process_semantics.specs.declared.point.Point.{Point}
 use Rattle.tal_tree.specs.declared.act.Act.{Act}
 use Rattle.world_semantics.specs.Kept.{own_acts}
 use Rattle.world_semantics.specs.Shares.{Share, acts_at, covered_count, covered_where, covering_where}

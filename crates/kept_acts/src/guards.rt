@@ -1,6 +1,6 @@
 ghost use Rattle.std.specs.Prelude.{◌≡◌, ◌<◌, ◌≤◌, ℕ, ◌+◌, [], ◌∷◌, List};
-ghost use Rattle.process_semantics.specs.declared.point.Point.{Point};
-ghost use Rattle.process_semantics.specs.declared.point.Point.TheVariants.{Ask, AtCheckpoint};
+ghost use Rattle.world_semantics.specs.process_semantics.specs.declared.point.Point.{Point};
+ghost use Rattle.world_semantics.specs.process_semantics.specs.declared.point.Point.TheVariants.{Ask, AtCheckpoint};
 ghost use Rattle.tal_tree.specs.declared.act.Act.{Act};
 ghost use Rattle.tal_tree.specs.declared.act.Act.TheVariants.{Enter, Step, Take};
 ghost use Rattle.world_semantics.specs.Kept.{own_acts};

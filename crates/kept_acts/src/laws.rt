@@ -1,5 +1,5 @@
 ghost use Rattle.std.specs.Prelude.{◌≡◌, ℕ, ◌+◌, List, reverse};
-ghost use Rattle.process_semantics.specs.declared.point.Point.{Point};
+ghost use Rattle.world_semantics.specs.process_semantics.specs.declared.point.Point.{Point};
 ghost use Rattle.tal_tree.specs.declared.act.Act.{Act};
 ghost use Rattle.world_semantics.specs.declared.role.Role.{Role};
 ghost use Rattle.world_semantics.specs.Core.{Core};

@@ -15,3 +15,4 @@ pub mod share;
 
 pub use kept::KeptActs;
 pub use share::CopyShare;
+pub use world_semantics::Role;

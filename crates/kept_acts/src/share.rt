@@ -6,10 +6,10 @@ ghost use Rattle.world_semantics.specs.Shares.{share_without_held, share_after_p
 use crate::kept::KeptActs;
 use gd_words::NoMemory;
 use logs::Log;
-use process_semantics::Point;
 use std::alloc::Global;
 use std::marker::Model;
 use tal_tree::Act;
+use world_semantics::Point;
 
 /// What a copy has to do with the kept acts: its position, which is how many of its process's kept acts it has done,
 /// and the acts that it did beyond them and holds back.
@@ -120,7 +120,13 @@ impl CopyShare {
         if self.position < kept.length_of(process) {
             return match stands {
                 Point::AtCheckpoint => Ok(self.position + 1),
-                _ => Ok(self.position),
+                Point::Inner
+                | Point::Take
+                | Point::Ask
+                | Point::Await
+                | Point::Answer
+                | Point::Device
+                | Point::Ended => Ok(self.position),
             };
         }
         match stands {
@@ -131,7 +137,13 @@ impl CopyShare {
                 self.position = base - 1;
                 Ok(base)
             }
-            _ => {
+            Point::Inner
+            | Point::Take
+            | Point::Ask
+            | Point::Await
+            | Point::Answer
+            | Point::Device
+            | Point::Ended => {
                 kept.keep_all(&self.held)?;
                 self.held.clear();
                 let base = kept.length_of(process);

@@ -15,4 +15,4 @@ mod servers;
 pub use finding::{Left, ProcessLeft, Stand, TerminalLeft};
 pub use findings::left_of;
 pub use laws::what_is_left_is_one;
-pub use machine_views;
+pub use machine_views::view;

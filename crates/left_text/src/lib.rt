@@ -12,6 +12,5 @@ mod ring_ends;
 mod terminals;
 pub mod whole;
 
-pub use left_findings;
-pub use left_findings::machine_views;
+pub use left_findings::{Left, left_of, view};
 pub use whole::put_left;

@@ -8,7 +8,7 @@ use Rattle.gd_words.proofs.Among.{among-either}
 use Rattle.tal_tree.specs.declared.site.OpenerSpec.{OpenerSpec}
 use Rattle.tal_tree.specs.declared.site.Site.{Site}
 use Rattle.plain_semantics.specs.Openers.{openers_of}
-use Rattle.checkpoint_image.specs.declared.receive.ReceiveBlock.{ReceiveBlock}
+use Rattle.world_semantics.specs.checkpoint_image.specs.declared.receive.ReceiveBlock.{ReceiveBlock}
 use Rattle.world_semantics.specs.declared.role.Role.{Role}
 use Rattle.world_semantics.specs.declared.role.Role.TheVariants.{Acting, Watching, Blank, Gone}
 use Rattle.world_semantics.specs.declared.which.Which.{Which}
@@ -16,8 +16,10 @@ use Rattle.world_semantics.specs.declared.which.Which.TheVariants.{First, Second
 use Rattle.world_semantics.specs.Messages.{Message, Asking, Replying, Sending}
 use Rattle.world_semantics.specs.World.{Copy, Pair, Terminal, World, terminal_node, copy_of}
 use Rattle.world_semantics.proofs.Members.{among-filter, among-map}
-use Rattle.letters.specs.Again.{is_rerouted, rerouted, awaited_by, awaited_from, is_moved, kept_for, kept_from}
-use Rattle.letters.specs.Again.{if_acts_on, asks_again, tells_again, of_copies, of_terminals, terminals_ask, sent_again}
+use Rattle.awaited_requests.specs.letters.specs.Again.{is_rerouted, rerouted, awaited_by, awaited_from, is_moved}
+use Rattle.awaited_requests.specs.letters.specs.Again.{kept_for, kept_from}
+use Rattle.awaited_requests.specs.letters.specs.Again.{if_acts_on, asks_again, tells_again, of_copies, of_terminals}
+use Rattle.awaited_requests.specs.letters.specs.Again.{terminals_ask, sent_again}
 use Rattle.letter_laws.proofs.Given.{message-of}
 
 -- a message that is sent again: the request that a copy which acts awaits, or a terminal does; or a reply that such a

@@ -12,7 +12,7 @@ use Rattle.process_semantics.specs.Process as process
 use Rattle.plain_semantics.specs.declared.slot.Opener.{Opener}
 use Rattle.plain_semantics.specs.Machine.{next_request}
 use Rattle.plain_semantics.specs.Openers.{opener_of}
-use Rattle.disc_device.specs.Sectors.{Stored}
+use Rattle.world_semantics.specs.disc_device.specs.Sectors.{Stored}
 use Rattle.world_semantics.specs.declared.role.Role.TheVariants.{Acting}
 use Rattle.world_semantics.specs.declared.which.Which.{Which}
 use Rattle.world_semantics.specs.declared.which.Which.TheVariants.{First, Second}
@@ -23,16 +23,17 @@ use Rattle.world_semantics.specs.Passes.{Passes, by_send, by_pass_again, by_pass
 use Rattle.world_semantics.specs.Passes.{by_apply, by_acknowledge}
 use Rattle.world_semantics.specs.Rules.{Change, by_own, by_checkpoint, by_request, by_early_request, by_enter, by_print}
 use Rattle.world_semantics.specs.Rules.{by_stop, by_mark, by_reload, stopped_copy, stopped_pair, taker}
-use Rattle.world_semantics.specs.Rules.{pair_after_down, pair_at_down, renewals_ended, entered_request, begun, reloaded_by}
+use Rattle.world_semantics.specs.Rules.{pair_after_down, pair_at_down, renewals_ended, entered_request, begun}
+use Rattle.world_semantics.specs.Rules.{reloaded_by}
 use Rattle.world_semantics.specs.World.{Copy, Pair, Terminal, World, boot, copy_of, receives, with_copy}
 use Rattle.world_semantics.proofs.Becoming.{was-role}
 use Rattle.world_semantics.proofs.Growing.{causes-grow}
 use Rattle.world_semantics.proofs.Lists.{set-all, map-all, grown-none, grown-one}
 use Rattle.world_semantics.proofs.Roles.{taker-is, reload-all}
-use Rattle.process_histories.proofs.Steady.{calm-away, marked-calm, done-steady}
+use Rattle.awaited_requests.specs.process_histories.proofs.Steady.{calm-away, marked-calm, done-steady}
 use Rattle.awaited_requests.specs.plain_histories.specs.Agreeing.{AreRegular}
 use Rattle.awaited_requests.specs.takeover_laws.proofs.Kept.{IsGood}
-use Rattle.letters.specs.Again.{awaited_by, entered_last, awaited_from}
+use Rattle.awaited_requests.specs.letters.specs.Again.{awaited_by, entered_last, awaited_from}
 use Rattle.letter_laws.specs.Known.{WatchersAreCalm, AwaitedWereSent}
 use Rattle.letter_laws.proofs.Awaited.{awaited-last, acting-done, own-awaited}
 use Rattle.letter_laws.proofs.Calm.{begins-resting}

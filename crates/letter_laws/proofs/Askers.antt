@@ -11,8 +11,8 @@ use Rattle.process_semantics.specs.Process as process
 use Rattle.plain_semantics.specs.Machine.{next_request}
 use Rattle.plain_semantics.specs.declared.slot.Opener.{Opener}
 use Rattle.plain_semantics.specs.Openers.{openers_of, opener_of}
-use Rattle.checkpoint_image.specs.Receive.{repeated, all_repeated}
-use Rattle.disc_device.specs.Sectors.{Stored}
+use Rattle.world_semantics.specs.checkpoint_image.specs.Receive.{repeated, all_repeated}
+use Rattle.world_semantics.specs.disc_device.specs.Sectors.{Stored}
 use Rattle.world_semantics.specs.declared.role.Role.TheVariants.{Acting}
 use Rattle.world_semantics.specs.declared.which.Which.{Which}
 use Rattle.world_semantics.specs.declared.which.Which.TheVariants.{First, Second}
@@ -32,7 +32,7 @@ use Rattle.world_semantics.proofs.Members.{among-map, among-flat_map}
 use Rattle.awaited_requests.specs.plain_histories.specs.Agreeing.{AreRegular}
 use Rattle.awaited_requests.specs.plain_histories.proofs.Openers.{opener-one}
 use Rattle.awaited_requests.specs.takeover_laws.proofs.Kept.{IsGood}
-use Rattle.letters.specs.Again.{entered_last}
+use Rattle.awaited_requests.specs.letters.specs.Again.{entered_last}
 use Rattle.letter_laws.specs.Known.{HasAsker}
 use Rattle.letter_laws.proofs.Again.{IsAgain, by_copy, by_terminal, by_keeping}
 use Rattle.letter_laws.proofs.Asked.{awaited-odd}

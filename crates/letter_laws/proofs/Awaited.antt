@@ -20,16 +20,17 @@ use Rattle.world_semantics.specs.Messages.{Message, Cause}
 use Rattle.world_semantics.specs.Own.{Around, Causes, by_inner, by_take, by_ask, by_answer, by_device, by_write}
 use Rattle.world_semantics.specs.Own.{by_reply, request_to, asked_on}
 use Rattle.world_semantics.specs.World.{Pair, World, copy_of}
-use Rattle.process_histories.specs.Histories.{HasDone, one_more}
-use Rattle.process_histories.specs.Words.{requests_on}
-use Rattle.process_histories.proofs.Counts.{if-same}
-use Rattle.process_histories.proofs.Steady.{IsSteady, calm-away, inner-calm, took-calm, asked-same, got-calm}
-use Rattle.process_histories.proofs.Steady.{answered-calm, device-calm, done-steady}
+use Rattle.awaited_requests.specs.process_histories.specs.Histories.{HasDone, one_more}
+use Rattle.awaited_requests.specs.process_histories.specs.Words.{requests_on}
+use Rattle.awaited_requests.specs.process_histories.proofs.Counts.{if-same}
+use Rattle.awaited_requests.specs.process_histories.proofs.Steady.{IsSteady, calm-away, inner-calm, took-calm}
+use Rattle.awaited_requests.specs.process_histories.proofs.Steady.{asked-same, got-calm}
+use Rattle.awaited_requests.specs.process_histories.proofs.Steady.{answered-calm, device-calm, done-steady}
 use Rattle.awaited_requests.specs.plain_histories.specs.Agreeing.{AreRegular}
 use Rattle.awaited_requests.specs.takeover_laws.proofs.Backed.{next-is}
 use Rattle.awaited_requests.specs.takeover_laws.proofs.Kept.{IsGood}
 use Rattle.awaited_requests.proofs.Leads.{copy-takes}
-use Rattle.letters.specs.Again.{awaited_at, awaited_by}
+use Rattle.awaited_requests.specs.letters.specs.Again.{awaited_at, awaited_by}
 use Rattle.letter_laws.proofs.Given.{only}
 
 -- Which request a process awaits

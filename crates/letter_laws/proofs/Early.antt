@@ -7,7 +7,7 @@ use Rattle.gd_words.specs.declared.message.Request.{Request}
 use Rattle.tal_tree.specs.declared.act.Act.{Act}
 use Rattle.tal_tree.specs.declared.site.OpenerSpec.{OpenerSpec}
 use Rattle.tal_tree.specs.declared.site.Site.{Site}
-use Rattle.checkpoint_image.specs.declared.message.ImageMessage.{ImageMessage}
+use Rattle.world_semantics.specs.checkpoint_image.specs.declared.message.ImageMessage.{ImageMessage}
 use Rattle.world_semantics.specs.declared.role.Role.TheVariants.{Acting}
 use Rattle.world_semantics.specs.declared.which.Which.{Which}
 use Rattle.world_semantics.specs.Core.{Core, Deed, Advances, goes, marks, takes, asks, gets, answers, acts, next_on}
@@ -78,8 +78,8 @@ module _ {site : Site} {w : World} {number : ℕ} {pair : Pair} {sent : List Ima
   becomes-waiting (becoming.is_blank processor here era) receiving request among = absurd among
   becomes-waiting (becoming.renews processor there) receiving request among = inl among
 
-  -- at the reload of a processor one that watches or is blank afterwards is in it, and nothing waits there, or it did or
-  -- was so before
+  -- at the reload of a processor one that watches or is blank afterwards is in it, and nothing waits there, or it did
+  -- or was so before
   pub becomes-reloaded : {cause : Cause} {after : Copy} (x : ℕ) → Becomes site w number pair sent k cause after
       → cause ≡ Reloading x → receives after.role ≡ true
       → ((after.processor ≡ x) × (after.waiting ≡ []))
@@ -144,7 +144,8 @@ becomes-acting (becoming.is_told taken acting was among era same) role no_stop n
 becomes-acting becoming.is_freed role no_stop no_reload = (role, λ file. omega arith)
 becomes-acting becoming.needs_less role no_stop no_reload = (role, λ file. omega arith)
 becomes-acting (becoming.hears request acting) role no_stop no_reload = (role, λ file. omega arith)
-becomes-acting (becoming.hears_early request receiving) role no_stop no_reload = absurd (acting-gets-none _ role receiving)
+becomes-acting (becoming.hears_early request receiving) role no_stop no_reload =
+    absurd (acting-gets-none _ role receiving)
 becomes-acting (becoming.stops processor) role no_stop no_reload = absurd (no_stop processor refl)
 becomes-acting (becoming.takes_over node processor taking) role no_stop no_reload =
     absurd (not-both role taking.watching)

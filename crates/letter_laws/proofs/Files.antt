@@ -8,10 +8,10 @@ use Rattle.tal_tree.specs.declared.site.Site.{Site}
 use Rattle.process_semantics.specs.Image.{listed_files}
 use Rattle.process_semantics.specs.Process.{ProcessState, Runs, Serves}
 use Rattle.plain_semantics.specs.Openers.{files_of}
-use Rattle.whole_states.proofs.Named.{frames-listed, file-there}
-use Rattle.checkpoint_image.specs.declared.message.FileNumber.{FileNumber}
-use Rattle.checkpoint_image.specs.declared.message.ImageMessage.{ImageMessage}
-use Rattle.disc_device.specs.Sectors.{Stored}
+use Rattle.world_semantics.specs.whole_states.proofs.Named.{frames-listed, file-there}
+use Rattle.world_semantics.specs.checkpoint_image.specs.declared.message.FileNumber.{FileNumber}
+use Rattle.world_semantics.specs.checkpoint_image.specs.declared.message.ImageMessage.{ImageMessage}
+use Rattle.world_semantics.specs.disc_device.specs.Sectors.{Stored}
 use Rattle.world_semantics.specs.declared.role.Role.TheVariants.{Acting}
 use Rattle.world_semantics.specs.declared.which.Which.{Which}
 use Rattle.world_semantics.specs.declared.which.Which.TheVariants.{First, Second}
@@ -30,9 +30,9 @@ use Rattle.world_semantics.proofs.Members.{among-map}
 use Rattle.world_semantics.proofs.Roles.{reload-all}
 use Rattle.world_semantics.specs.process_images.specs.Images.{all_files_of}
 use Rattle.world_semantics.specs.process_images.proofs.Everything.{whole-listed}
-use Rattle.process_histories.specs.Histories.{kind_of, unmirrored}
-use Rattle.process_histories.proofs.OneKind.{done-kind, same-files}
-use Rattle.process_histories.proofs.Steady.{IsSteady, done-steady}
+use Rattle.awaited_requests.specs.process_histories.specs.Histories.{kind_of, unmirrored}
+use Rattle.awaited_requests.specs.process_histories.proofs.OneKind.{done-kind, same-files}
+use Rattle.awaited_requests.specs.process_histories.proofs.Steady.{IsSteady, done-steady}
 use Rattle.awaited_requests.specs.plain_histories.specs.Agreeing.{AreRegular}
 use Rattle.awaited_requests.specs.takeover_laws.proofs.Kept.{IsGood}
 use Rattle.letter_laws.specs.Known.{CheckpointsNameFiles}

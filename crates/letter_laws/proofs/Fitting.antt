@@ -11,9 +11,9 @@ use Rattle.computed_changes.proofs.Fitting.{sent-fits}
 use Rattle.awaited_requests.specs.takeover_laws.specs.Fit.{IsFit}
 use Rattle.awaited_requests.specs.takeover_laws.specs.Invariant.{Invariant}
 use Rattle.awaited_requests.specs.takeover_laws.proofs.Kept.{run-keeps}
-use Rattle.letters.proofs.Worlds.{played-run}
-use Rattle.letters.specs.Posts.{Post, HasPlayed}
-use Rattle.letters.specs.Routes.{Letter}
+use Rattle.awaited_requests.specs.letters.proofs.Worlds.{played-run}
+use Rattle.awaited_requests.specs.letters.specs.Posts.{Post, HasPlayed}
+use Rattle.awaited_requests.specs.letters.specs.Routes.{Letter}
 use Rattle.letter_laws.specs.Known.{CheckpointsNameFiles}
 use Rattle.letter_laws.proofs.Honest.{played-honest}
 use Rattle.letter_laws.proofs.Reached.{IsReached}

@@ -8,7 +8,7 @@ use Rattle.world_semantics.specs.Messages.{Message, Sending, sent_at}
 use Rattle.world_semantics.specs.World.{World}
 use Rattle.world_semantics.proofs.Lists.{some-same}
 use Rattle.world_semantics.proofs.Members.{among-map}
-use Rattle.letters.specs.Routes.{Letter, receiver_of, letter_of, letters_of}
+use Rattle.awaited_requests.specs.letters.specs.Routes.{Letter, receiver_of, letter_of, letters_of}
 
 -- where a member of what a list gives comes from
 record IsGiven {A B : Type 0} (f : A → Option B) (xs : List A) (y : B) : Type 0 where

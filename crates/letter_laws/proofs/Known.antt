@@ -28,15 +28,20 @@ use Rattle.awaited_requests.specs.takeover_laws.proofs.Changing.{acts_by}
 use Rattle.awaited_requests.specs.takeover_laws.proofs.Kept.{IsGood, change-good}
 use Rattle.awaited_requests.specs.Seats.{IsSeated, AreSeated}
 use Rattle.awaited_requests.proofs.Seats.{becomes-getting, placed-seats}
-use Rattle.letters.proofs.Owed.{taken-there, rest-there}
-use Rattle.letters.specs.Again.{sent_again}
-use Rattle.letters.specs.Posts.{Post, post_at_boot, with_letters, after_change, without_those_between, post_after_down}
-use Rattle.letters.specs.Posts.{NotesLetters, no_mark, one_mark, PlaysEvent, plays_run, plays_no_run, plays_enter}
-use Rattle.letters.specs.Posts.{plays_no_enter, plays_nothing, plays_hand, plays_drop, plays_again, plays_mark}
-use Rattle.letters.specs.Posts.{plays_loss, plays_repeat, plays_no_tick, plays_tick, plays_tick_stop, plays_fail}
-use Rattle.letters.specs.Posts.{plays_no_fail, plays_reload, plays_no_reload, plays_drive, after_reloading}
-use Rattle.letters.specs.Posts.{is_from_or_to}
-use Rattle.letters.specs.Routes.{Letter, route_of, receiver_of, letters_of}
+use Rattle.awaited_requests.specs.letters.proofs.Owed.{taken-there, rest-there}
+use Rattle.awaited_requests.specs.letters.specs.Again.{sent_again}
+use Rattle.awaited_requests.specs.letters.specs.Posts.{Post, post_at_boot, with_letters, after_change}
+use Rattle.awaited_requests.specs.letters.specs.Posts.{without_those_between, post_after_down}
+use Rattle.awaited_requests.specs.letters.specs.Posts.{NotesLetters, no_mark, one_mark, PlaysEvent, plays_run}
+use Rattle.awaited_requests.specs.letters.specs.Posts.{plays_no_run, plays_enter}
+use Rattle.awaited_requests.specs.letters.specs.Posts.{plays_no_enter, plays_nothing, plays_hand, plays_drop}
+use Rattle.awaited_requests.specs.letters.specs.Posts.{plays_again, plays_mark}
+use Rattle.awaited_requests.specs.letters.specs.Posts.{plays_loss, plays_repeat, plays_no_tick, plays_tick}
+use Rattle.awaited_requests.specs.letters.specs.Posts.{plays_tick_stop, plays_fail}
+use Rattle.awaited_requests.specs.letters.specs.Posts.{plays_no_fail, plays_reload, plays_no_reload, plays_drive}
+use Rattle.awaited_requests.specs.letters.specs.Posts.{after_reloading}
+use Rattle.awaited_requests.specs.letters.specs.Posts.{is_from_or_to}
+use Rattle.awaited_requests.specs.letters.specs.Routes.{Letter, route_of, receiver_of, letters_of}
 use Rattle.letter_laws.specs.Known.{HasAsker, IsEarly, AreEarly, IsKnown}
 use Rattle.letter_laws.proofs.Again.{again-is}
 use Rattle.letter_laws.proofs.Askers.{change-asker, again-asker}

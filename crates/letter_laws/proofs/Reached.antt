@@ -15,7 +15,7 @@ use Rattle.world_semantics.proofs.Lists.{some-same, set-there}
 use Rattle.computed_changes.specs.Stopped.{stop_if, stop_where}
 use Rattle.computed_changes.proofs.Causes.{IsOfCopies, own-causes, passes-causes}
 use Rattle.computed_changes.proofs.Stopped.{stop-only}
-use Rattle.letters.proofs.Worlds.{leads-on}
+use Rattle.awaited_requests.specs.letters.proofs.Worlds.{leads-on}
 
 -- a processor that stops ran before, and nothing is sent
 pub record HasStopped (w next : World) (processor : ℕ) (sendings : List Sending) : Type 0 where

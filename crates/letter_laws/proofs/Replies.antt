@@ -10,15 +10,15 @@ use Rattle.tal_tree.specs.declared.site.OpenerSpec.{OpenerSpec}
 use Rattle.tal_tree.specs.declared.site.ProcessSpec.{ProcessSpec}
 use Rattle.tal_tree.specs.declared.site.Site.{Site}
 use Rattle.plain_semantics.specs.Openers.{openers_of}
-use Rattle.checkpoint_image.specs.declared.receive.OpenerBlock.{OpenerBlock}
-use Rattle.checkpoint_image.specs.Receive.{holds, answered}
+use Rattle.world_semantics.specs.checkpoint_image.specs.declared.receive.OpenerBlock.{OpenerBlock}
+use Rattle.world_semantics.specs.checkpoint_image.specs.Receive.{holds, answered}
 use Rattle.world_semantics.specs.Core.{Core, Deed}
 use Rattle.world_semantics.proofs.KeptReplies.{KeptSent}
-use Rattle.process_histories.specs.Histories.{HasDone}
-use Rattle.process_histories.specs.Words.{answered_to, taken_from, one_if}
-use Rattle.process_histories.proofs.Counts.{taken-count, taken-number}
-use Rattle.process_histories.proofs.Kept.{kept-last}
-use Rattle.letters.specs.Again.{numbered, kept_in, kept_for}
+use Rattle.awaited_requests.specs.process_histories.specs.Histories.{HasDone}
+use Rattle.awaited_requests.specs.process_histories.specs.Words.{answered_to, taken_from, one_if}
+use Rattle.awaited_requests.specs.process_histories.proofs.Counts.{taken-count, taken-number}
+use Rattle.awaited_requests.specs.process_histories.proofs.Kept.{kept-last}
+use Rattle.awaited_requests.specs.letters.specs.Again.{numbered, kept_in, kept_for}
 
 -- which of the words a numbered reply has
 record IsNumbered (number place first : ℕ) (kept : List (List ℤ)) (reply : Reply) : Type 0 where

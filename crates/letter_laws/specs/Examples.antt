@@ -1,12 +1,12 @@
 -- Worked examples: a site of one disc whose terminal awaits a reply, as it is and as it can't be.
 use Rattle.std.specs.Prelude.{true, false, [], ◌∷◌, None}
-use Rattle.checkpoint_image.specs.declared.message.ImageMessage.{ImageMessage}
+use Rattle.world_semantics.specs.checkpoint_image.specs.declared.message.ImageMessage.{ImageMessage}
 use Rattle.world_semantics.specs.declared.role.Role.TheVariants.{Acting}
 use Rattle.world_semantics.specs.declared.which.Which.TheVariants.{Second}
 use Rattle.world_semantics.specs.Rules.{blank_copy}
 use Rattle.world_semantics.specs.World.{World, boot}
-use Rattle.letters.specs.Posts.{Post}
-use Rattle.process_histories.specs.Served.{disc_site}
+use Rattle.awaited_requests.specs.letters.specs.Posts.{Post}
+use Rattle.awaited_requests.specs.process_histories.specs.Served.{disc_site}
 use Rattle.awaited_requests.specs.Examples.{disc_pair, entered, first_request, letter_to}
 
 -- the terminal's request was sent

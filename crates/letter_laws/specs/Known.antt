@@ -10,8 +10,8 @@ use Rattle.process_semantics.specs.declared.point.Point.TheVariants as point
 use Rattle.process_semantics.specs.Process as process
 use Rattle.plain_semantics.specs.Machine.{next_request}
 use Rattle.plain_semantics.specs.Openers.{files_of, opener_of}
-use Rattle.checkpoint_image.specs.declared.message.FileNumber.{FileNumber}
-use Rattle.checkpoint_image.specs.declared.message.ImageMessage.{ImageMessage}
+use Rattle.world_semantics.specs.checkpoint_image.specs.declared.message.FileNumber.{FileNumber}
+use Rattle.world_semantics.specs.checkpoint_image.specs.declared.message.ImageMessage.{ImageMessage}
 use Rattle.world_semantics.specs.declared.role.Role.TheVariants.{Acting}
 use Rattle.world_semantics.specs.declared.which.Which.{Which}
 use Rattle.world_semantics.specs.Core.{next_on}
@@ -19,9 +19,9 @@ use Rattle.world_semantics.specs.Follows.{IsRun}
 use Rattle.world_semantics.specs.Messages.{Asking}
 use Rattle.world_semantics.specs.World.{Pair, Terminal, World, copy_of, other_of, receives}
 use Rattle.computed_changes.specs.Laws.{IsSent}
-use Rattle.letters.specs.Again.{awaited_by, awaited_from}
-use Rattle.letters.specs.Posts.{Post}
-use Rattle.letters.specs.Routes.{Letter}
+use Rattle.awaited_requests.specs.letters.specs.Again.{awaited_by, awaited_from}
+use Rattle.awaited_requests.specs.letters.specs.Posts.{Post}
+use Rattle.awaited_requests.specs.letters.specs.Routes.{Letter}
 
 -- Those who await
 

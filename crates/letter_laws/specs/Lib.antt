@@ -2,3 +2,8 @@ pub mod Examples
 pub mod Known
 pub use Rattle.awaited_requests
 pub use Rattle.awaited_requests.specs.takeover_laws
+pub use Rattle.computed_changes.specs.change_layout
+pub use Rattle.computed_changes
+pub use Rattle.awaited_requests.specs.letters
+pub use Rattle.awaited_requests.specs.plain_histories
+pub use Rattle.awaited_requests.specs.process_histories

@@ -4,7 +4,7 @@ ghost use Rattle.gd_words.specs.declared.message.Request.{Request};
 ghost use Rattle.tal_tree.specs.declared.site.Site.{Site};
 ghost use Rattle.tal_tree.specs.declared.site.Who.TheVariants.{File};
 ghost use Rattle.plain_semantics.specs.Openers.{opener_of};
-ghost use Rattle.process_histories.specs.Served.{disc_site};
+ghost use Rattle.awaited_requests.specs.process_histories.specs.Served.{disc_site};
 ghost use Rattle.world_semantics.specs.World.{World, boot};
 ghost use Rattle.awaited_requests.specs.Examples.{entered, entered_with, letter_to};
 ghost use Rattle.letter_laws.specs.Examples.{entered_and_sent, another_sent, entered_too_much, sent_to_second};

@@ -5,8 +5,8 @@ ghost use Rattle.tal_tree.specs.declared.site.Site.{Site};
 ghost use Rattle.schedule.specs.declared.event.Event.{Event};
 ghost use Rattle.computed_changes.specs.Laws.{IsSent, FitsWhereItComes};
 ghost use Rattle.awaited_requests.specs.takeover_laws.specs.Fit.{IsFit};
-ghost use Rattle.letters.specs.Posts.{Post, HasPlayed};
-ghost use Rattle.letters.specs.Routes.{Letter};
+ghost use Rattle.awaited_requests.specs.letters.specs.Posts.{Post, HasPlayed};
+ghost use Rattle.awaited_requests.specs.letters.specs.Routes.{Letter};
 
 /// Of a fit site each letter that was sent and may come carries a message that was sent in the world: a request or a
 /// reply among those of the world, and a checkpoint, or that it was taken, among those of the process that it names. So

@@ -9,9 +9,9 @@ use Rattle.checkpoint_image.specs.Layout.{IsOpener, IsWithinLayout}
 use Rattle.checkpoint_image.specs.Receive.{answered, is_place}
 use Rattle.checkpoint_image.specs.declared.message.ImageMessage.{ImageMessage}
 use Rattle.checkpoint_image.specs.declared.receive.OpenerBlock.{OpenerBlock}
-use Rattle.sync_ids.specs.Changes.{change_at, changes_from, is_untouched}
-use Rattle.sync_ids.specs.declared.change.OpenerChange.{OpenerChange}
-use Rattle.sync_ids.proofs.Lists.{last-shorter}
+use Rattle.change_layout.specs.sync_ids.specs.Changes.{change_at, changes_from, is_untouched}
+use Rattle.change_layout.specs.sync_ids.specs.declared.change.OpenerChange.{OpenerChange}
+use Rattle.change_layout.specs.sync_ids.proofs.Lists.{last-shorter}
 
 -- few openers, of each of which few replies are kept
 pub record HasFewKept (message : ImageMessage) : Type 0 where

@@ -31,17 +31,17 @@ use Rattle.world_semantics.specs.Core.{Core, Deed, next_on, carried_by, files_fo
 use Rattle.world_semantics.specs.Follows.{IsRun}
 use Rattle.world_semantics.specs.Messages.{Checkpointing, Taking}
 use Rattle.world_semantics.specs.World.{Pair, World}
-use Rattle.process_histories.specs.Histories.{HasDone, kind_of, unmirrored}
-use Rattle.process_histories.specs.Words.{answered_to, take_from, ask_on}
-use Rattle.process_histories.proofs.Counts.{taken-number, next-number}
-use Rattle.process_histories.proofs.OneKind.{done-kind, openers-same, same-pair}
-use Rattle.process_histories.proofs.Kept.{kept-last}
-use Rattle.process_histories.proofs.Whole.{done-whole}
+use Rattle.letter_laws.specs.process_histories.specs.Histories.{HasDone, kind_of, unmirrored}
+use Rattle.letter_laws.specs.process_histories.specs.Words.{answered_to, take_from, ask_on}
+use Rattle.letter_laws.specs.process_histories.proofs.Counts.{taken-number, next-number}
+use Rattle.letter_laws.specs.process_histories.proofs.OneKind.{done-kind, openers-same, same-pair}
+use Rattle.letter_laws.specs.process_histories.proofs.Kept.{kept-last}
+use Rattle.letter_laws.specs.process_histories.proofs.Whole.{done-whole}
 use Rattle.world_semantics.specs.Core.{goes, marks, takes, asks, gets, answers, acts}
 use Rattle.world_semantics.proofs.Lists.{some-same, mapped}
-use Rattle.process_histories.specs.Histories.{nothing_done, one_more}
+use Rattle.letter_laws.specs.process_histories.specs.Histories.{nothing_done, one_more}
 use Rattle.letters_layout.proofs.Replies.{done-answers}
-use Rattle.computed_changes.specs.Laws.{IsSent}
+use Rattle.letter_laws.specs.computed_changes.specs.Laws.{IsSent}
 use Rattle.letter_laws.specs.takeover_laws.specs.Fit.{IsFit}
 use Rattle.letter_laws.specs.takeover_laws.proofs.Kept.{run-keeps}
 use Rattle.change_layout.specs.Changing.{change_of}

@@ -5,11 +5,11 @@ use Rattle.tal_tree.specs.declared.site.Site.{Site}
 use Rattle.schedule.specs.declared.event.Event.{Event}
 use Rattle.letter_laws.specs.awaited_requests.specs.Seats.{IsLaidOut}
 use Rattle.world_semantics.specs.Messages.{Message, Asking, Replying, Checkpointing, Taking}
-use Rattle.computed_changes.specs.Laws.{IsSent}
+use Rattle.letter_laws.specs.computed_changes.specs.Laws.{IsSent}
 use Rattle.letter_laws.specs.takeover_laws.specs.Fit.{IsFit}
-use Rattle.letters.specs.Posts.{Post, HasPlayed}
-use Rattle.letters.specs.Routes.{Letter}
-use Rattle.letters.proofs.Worlds.{played-run}
+use Rattle.letter_laws.specs.letters.specs.Posts.{Post, HasPlayed}
+use Rattle.letter_laws.specs.letters.specs.Routes.{Letter}
+use Rattle.letter_laws.specs.letters.proofs.Worlds.{played-run}
 use Rattle.letter_laws.proofs.Honest.{played-honest}
 use Rattle.message_layout.specs.Messages.{Carrying}
 use Rattle.letters_layout.specs.Fitting.{IsSmall}

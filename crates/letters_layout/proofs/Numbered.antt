@@ -30,10 +30,10 @@ use Rattle.world_semantics.proofs.Beginning.{all-begin}
 use Rattle.world_semantics.proofs.Lists.{set-all, map-all}
 use Rattle.world_semantics.proofs.Roles.{reload-all, roles-begin}
 use Rattle.world_semantics.proofs.Steady.{seats-begin, steady-begins}
-use Rattle.process_histories.specs.Bounds.{AreShort}
-use Rattle.process_histories.specs.Histories.{HasDone}
-use Rattle.plain_histories.specs.Ledgers.{Ledger}
-use Rattle.plain_histories.proofs.Counted.{IsShortLedger, booked-short}
+use Rattle.letter_laws.specs.process_histories.specs.Bounds.{AreShort}
+use Rattle.letter_laws.specs.process_histories.specs.Histories.{HasDone}
+use Rattle.letter_laws.specs.plain_histories.specs.Ledgers.{Ledger}
+use Rattle.letter_laws.specs.plain_histories.proofs.Counted.{IsShortLedger, booked-short}
 use Rattle.letter_laws.specs.takeover_laws.specs.Fit.{IsFit}
 use Rattle.letter_laws.specs.takeover_laws.specs.Invariant.{Invariant, Stage, IsLead, is_level, is_applied, is_behind}
 use Rattle.letter_laws.specs.takeover_laws.specs.Invariant.{IsOther, is_blank, is_lost, has_renewed}

@@ -32,14 +32,15 @@ use Rattle.world_semantics.specs.Core.{Core, Deed, goes, marks, takes, asks, get
 use Rattle.world_semantics.specs.Follows.{IsRun}
 use Rattle.world_semantics.specs.Messages.{Replying}
 use Rattle.world_semantics.specs.World.{World}
-use Rattle.process_histories.specs.Bounds.{AreBounded}
-use Rattle.process_histories.specs.Histories.{HasDone, nothing_done, one_more}
-use Rattle.process_histories.specs.Words.{answered_to, answer_to}
-use Rattle.process_histories.proofs.Whole.{done-whole, bounded-before}
+use Rattle.letter_laws.specs.process_histories.specs.Bounds.{AreBounded}
+use Rattle.letter_laws.specs.process_histories.specs.Histories.{HasDone, nothing_done, one_more}
+use Rattle.letter_laws.specs.process_histories.specs.Words.{answered_to, answer_to}
+use Rattle.letter_laws.specs.process_histories.proofs.Whole.{done-whole, bounded-before}
 use Rattle.whole_states.specs.Processes.{IsRegularKind}
-use Rattle.plain_histories.specs.Booking.{AreBooked, none_booked, deed_booked, entry_booked, reply_booked}
-use Rattle.plain_histories.specs.Ledgers.{Ledger}
-use Rattle.plain_histories.proofs.Counted.{booked-short}
+use Rattle.letter_laws.specs.plain_histories.specs.Booking.{AreBooked, none_booked, deed_booked, entry_booked}
+use Rattle.letter_laws.specs.plain_histories.specs.Booking.{reply_booked}
+use Rattle.letter_laws.specs.plain_histories.specs.Ledgers.{Ledger}
+use Rattle.letter_laws.specs.plain_histories.proofs.Counted.{booked-short}
 use Rattle.letter_laws.specs.takeover_laws.specs.Fit.{IsFit}
 use Rattle.letter_laws.specs.takeover_laws.specs.Invariant.{Invariant}
 use Rattle.letter_laws.specs.takeover_laws.proofs.Kept.{run-keeps}

@@ -21,18 +21,19 @@ use Rattle.std.specs.List.{filter_map, cons_option}
 use Rattle.std.proofs.lemmas.Bool.Decides.{eqb_tells}
 use Rattle.world_semantics.specs.World.{World}
 use Rattle.world_semantics.specs.Follows.{IsRun}
-use Rattle.process_histories.specs.Words.{ask_on}
-use Rattle.plain_histories.specs.Booking.{AreBooked, none_booked, deed_booked, entry_booked, reply_booked}
-use Rattle.plain_histories.proofs.Changed.{changed-same, changed-other}
-use Rattle.computed_changes.proofs.Placed.{who_at, opener-placed}
+use Rattle.letter_laws.specs.process_histories.specs.Words.{ask_on}
+use Rattle.letter_laws.specs.plain_histories.specs.Booking.{AreBooked, none_booked, deed_booked, entry_booked}
+use Rattle.letter_laws.specs.plain_histories.specs.Booking.{reply_booked}
+use Rattle.letter_laws.specs.plain_histories.proofs.Changed.{changed-same, changed-other}
+use Rattle.letter_laws.specs.computed_changes.proofs.Placed.{who_at, opener-placed}
 use Rattle.letter_laws.specs.takeover_laws.specs.Fit.{IsFit}
 use Rattle.letter_laws.specs.takeover_laws.specs.Invariant.{Invariant, IsAsked}
 use Rattle.letter_laws.specs.takeover_laws.proofs.Kept.{run-keeps}
-use Rattle.letters.proofs.Worlds.{played-run}
-use Rattle.letters.specs.Posts.{Post, HasPlayed}
-use Rattle.plain_histories.specs.Ledgers.{Ledger, with_entered, requests_of}
-use Rattle.plain_histories.specs.Slots.{IsEntry, is_newest, is_older}
-use Rattle.plain_histories.proofs.Counted.{booked-short}
+use Rattle.letter_laws.specs.letters.proofs.Worlds.{played-run}
+use Rattle.letter_laws.specs.letters.specs.Posts.{Post, HasPlayed}
+use Rattle.letter_laws.specs.plain_histories.specs.Ledgers.{Ledger, with_entered, requests_of}
+use Rattle.letter_laws.specs.plain_histories.specs.Slots.{IsEntry, is_newest, is_older}
+use Rattle.letter_laws.specs.plain_histories.proofs.Counted.{booked-short}
 use Rattle.world_semantics.specs.Messages.{Asking}
 use Rattle.message_layout.specs.Messages.{Carrying}
 use Rattle.letters_layout.specs.Fitting.{IsSmall}

@@ -11,11 +11,11 @@ use Rattle.tal_tree.specs.declared.site.Site.{Site}
 use Rattle.schedule.specs.declared.event.Event.{Event}
 use Rattle.plain_semantics.specs.Openers.{openers_of}
 use Rattle.plain_semantics.specs.Machine.{next_request}
-use Rattle.letters.specs.Posts.{Post, HasPlayed}
-use Rattle.letters.specs.Routes.{Letter}
+use Rattle.letter_laws.specs.letters.specs.Posts.{Post, HasPlayed}
+use Rattle.letter_laws.specs.letters.specs.Routes.{Letter}
 use Rattle.change_layout.specs.Changing.{change_of}
 use Rattle.checkpoint_image.specs.declared.message.ImageMessage.{ImageMessage}
-use Rattle.computed_changes.specs.Laws.{IsSent}
+use Rattle.letter_laws.specs.computed_changes.specs.Laws.{IsSent}
 use Rattle.world_semantics.specs.Messages.{Checkpointing}
 use Rattle.message_layout.specs.Messages.{Carrying, Changing}
 use Rattle.message_layout.specs.Layout.{Fits}

@@ -1,6 +1,6 @@
 ghost use Rattle.std.specs.Prelude.{◌≡◌, ◌<◌, ◌↔◌, IsTrue, List as Items, length, IfOk, OnOk, OnErr, Some, None};
 ghost use Rattle.std.specs.Prelude.{if◌then◌else◌};
-ghost use Rattle.gd_words.specs.Ranges.{HasNext};
+ghost use Rattle.packet_words.specs.gd_words.specs.Ranges.{HasNext};
 ghost use Rattle.packet_words.specs.declared.packet.PacketKind.TheVariants as kind;
 ghost use Rattle.link_control.specs.Ends.{End, new_end, after_push, sent_by_push, after_packet, sent_by_packet};
 ghost use Rattle.link_control.specs.Ends.{handed_by_packet, after_tick, sent_by_tick, after_down, alive_of, is_empty};
@@ -10,8 +10,7 @@ ghost use Rattle.link_control.specs.Ends.{incarnation_after};
 ghost use Rattle.link_control.specs.Ends.{is_current, is_of, is_own, next_end};
 
 use crate::sender::Sender;
-use gd_words::{List, NoMemory};
-use packet_words::{BusName, Incarnation, Joiner, Packet, PacketKind, Piece};
+use packet_words::{BusName, Incarnation, Joiner, List, NoMemory, Packet, PacketKind, Piece};
 use std::alloc::Global;
 use std::marker::Model;
 

@@ -1,11 +1,10 @@
 ghost use Rattle.std.specs.Prelude.{◌≡◌, ◌<◌, ◌≤◌, ◌+◌, true, length, slice_get, OnOk, OnErr};
 ghost use Rattle.std.specs.Option.{option_copied};
-ghost use Rattle.gd_words.specs.Ranges.{HasNext};
+ghost use Rattle.packet_words.specs.gd_words.specs.Ranges.{HasNext};
 ghost use Rattle.link_control.specs.Ends.{Sending, idle_after, begun, is_idle, after_push_of, is_ended_by};
 ghost use Rattle.link_control.specs.Ends.{after_acknowledgement, is_sent_again, after_tick_of, piece_of, moved_on};
 
-use gd_words::{List, NoMemory};
-use packet_words::{BusName, Piece, cut};
+use packet_words::{BusName, List, NoMemory, Piece, cut};
 use std::alloc::Global;
 use std::collections::VecDeque;
 use std::marker::Model;

@@ -8,7 +8,7 @@ use Rattle.tal_syntax.specs.Nesting.{nest_text}
 use Rattle.tal_syntax.specs.Expected.{AllAtMost}
 use Rattle.tal_rules.specs.Texts.{faults}
 use Rattle.tal_meaning.specs.Programs.{tree_of}
-use Rattle.tal_reader.specs.Reads.{Reads}
+use Rattle.deck_reader.specs.tal_reader.specs.Reads.{Reads}
 use Rattle.accepted_sites.proofs.Readings.{all-low}
 use Rattle.load_deck.specs.LoadText.{line, program_head, program_middle}
 use Rattle.load_laws.specs.LoadDeck.{bank_program}

@@ -7,4 +7,5 @@
 
 pub mod laws;
 
+pub use code_room::read_program;
 pub use laws::what_is_read_can_be_loaded;

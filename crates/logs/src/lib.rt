@@ -9,5 +9,6 @@
 pub mod log;
 pub mod shared;
 
+pub use gd_words::{NoMemory, Reply, Request};
 pub use log::Log;
 pub use shared::Shared;

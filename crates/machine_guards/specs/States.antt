@@ -74,8 +74,8 @@ standing first sent second other_sent pair = record pair {
 abbrev pub having_sent : Pair → Pair
 having_sent pair = record pair { first = record pair.first { sent = true } }
 
-abbrev pub waiting_at_mark : MachineState → MachineState
-waiting_at_mark s = record s { world = record s.world { processes = map having_sent s.world.processes } }
+abbrev pub awaiting_taking : MachineState → MachineState
+awaiting_taking s = record s { world = record s.world { processes = map having_sent s.world.processes } }
 
 -- a world in which these processors have stopped, and these nodes have marked processor 1
 abbrev pub marking : List Bool → List ℕ → World → World

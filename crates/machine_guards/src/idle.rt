@@ -5,8 +5,8 @@ ghost use Rattle.world_semantics.specs.Messages.{Message};
 ghost use Rattle.world_semantics.specs.World.{Pair, World};
 ghost use Rattle.message_wires.specs.Examples.{end_of};
 ghost use Rattle.message_wires.specs.Idle.{all_noted, has_marked_all, is_idle, none_enters, none_owed, none_runs};
-ghost use Rattle.message_wires.specs.Idle.{none_waits};
-ghost use Rattle.machine_guards.specs.States.{between, discs_at_boot, marking, nothing_owed, standing, waiting_at_mark};
+ghost use Rattle.message_wires.specs.Idle.{none_awaits_taking};
+ghost use Rattle.machine_guards.specs.States.{awaiting_taking, between, discs_at_boot, marking, nothing_owed, standing};
 
 /// A terminal can enter that has a request left and awaits no reply, whichever it is; and a process can run to which a
 /// request came.
@@ -23,14 +23,16 @@ pub fn who_can_go_on_is_told()
 {}
 
 /// A copy waits for what it has sent to be taken that acts, whichever of the two and of whichever process it is.
-pub fn who_waits_at_a_mark_is_told()
-    ensures first { (pair other : Pair) → none_waits (standing Acting true Watching false pair ∷ other ∷ []) ≡ false }
-    ensures second { (pair other : Pair) → none_waits (standing Gone true Acting true pair ∷ other ∷ []) ≡ false }
-    ensures later { (pair : Pair) → none_waits
+pub fn who_awaits_taking_is_told()
+    ensures first { (pair other : Pair) → none_awaits_taking
+        (standing Acting true Watching false pair ∷ other ∷ []) ≡ false }
+    ensures second { (pair other : Pair) → none_awaits_taking
+        (standing Gone true Acting true pair ∷ other ∷ []) ≡ false }
+    ensures later { (pair : Pair) → none_awaits_taking
         (standing Acting false Watching true pair ∷ standing Acting true Watching true pair ∷ []) ≡ false }
-    ensures none { (pair : Pair) → none_waits
+    ensures none { (pair : Pair) → none_awaits_taking
         (standing Acting false Watching true pair ∷ standing Gone true Acting false pair ∷ []) ≡ true }
-    ensures blank { (pair : Pair) → none_waits (standing Blank true Acting false pair ∷ []) ≡ true }
+    ensures blank { (pair : Pair) → none_awaits_taking (standing Blank true Acting false pair ∷ []) ≡ true }
 {}
 
 /// What is owed counts between nodes that run: not to or from a processor that has stopped, and to a node from itself.
@@ -61,7 +63,7 @@ pub fn a_state_is_idle_where_nothing_is_left()
     ensures idle { is_idle (nothing_owed (end_of discs_at_boot (Enter 0 ∷ Enter 1 ∷ []))) ≡ true }
     ensures entry { is_idle discs_at_boot ≡ false }
     ensures run { is_idle (nothing_owed (end_of discs_at_boot (Enter 0 ∷ Enter 1 ∷ Deliver false 0 ∷ []))) ≡ false }
-    ensures wait { is_idle (waiting_at_mark (nothing_owed (end_of discs_at_boot (Enter 0 ∷ Enter 1 ∷ [])))) ≡ false }
+    ensures wait { is_idle (awaiting_taking (nothing_owed (end_of discs_at_boot (Enter 0 ∷ Enter 1 ∷ [])))) ≡ false }
     ensures owed { is_idle (end_of discs_at_boot (Enter 0 ∷ Enter 1 ∷ [])) ≡ false }
     ensures mark { is_idle (nothing_owed (end_of discs_at_boot (Enter 0 ∷ Enter 1 ∷ Fail 0 ∷ []))) ≡ false }
 {}

@@ -4,8 +4,8 @@ ghost use Rattle.schedule.specs.declared.event.Event.TheVariants.{Deliver, Lose,
 ghost use Rattle.computed_changes.specs.Handed.{handed_done};
 ghost use Rattle.world_semantics.specs.Running.{Done};
 ghost use Rattle.letters.specs.Routes.{Letter};
-ghost use Rattle.message_wires.specs.Play.{MachineState, after_done, comes_in, play};
-ghost use Rattle.message_wires.specs.Wires.{Sent, Wires, has_room, is_present, wires_after_post, put_on};
+ghost use Rattle.message_wires.specs.Play.{MachineState, after_done, is_admitted, play};
+ghost use Rattle.message_wires.specs.Wires.{Sent, Wires, has_room, is_current, wires_after_post, put_on};
 ghost use Rattle.message_wires.specs.Wires.{without_number};
 ghost use Rattle.machine_guards.specs.States.{with_bus, with_owed};
 
@@ -17,9 +17,9 @@ pub fn a_packet_is_that_at_its_position()
         → play (with_bus (a ∷ b ∷ c ∷ []) s) (Lose false 1) ≡ Makes (with_bus (a ∷ c ∷ []) s) }
     ensures repeated { (s : MachineState) (a b c : Sent)
         → play (with_bus (a ∷ b ∷ c ∷ []) s) (Repeat false 1) ≡ Makes (with_bus (a ∷ b ∷ c ∷ b ∷ []) s) }
-    ensures dropped { (s : MachineState) (a b c : Sent) → comes_in s b.letter ≡ false
+    ensures dropped { (s : MachineState) (a b c : Sent) → is_admitted s b.letter ≡ false
         → play (with_bus (a ∷ b ∷ c ∷ []) s) (Deliver false 1) ≡ Makes (with_bus (a ∷ c ∷ []) s) }
-    ensures old { (s : MachineState) (a b c : Sent) → is_present s.wires.before b ≡ false
+    ensures old { (s : MachineState) (a b c : Sent) → is_current s.wires.before b ≡ false
         → play (with_bus (a ∷ b ∷ c ∷ []) s) (Deliver false 1) ≡ Makes (with_bus (a ∷ c ∷ []) s) }
     ensures behind { (s : MachineState) (a b c : Sent) → play (with_bus (a ∷ b ∷ c ∷ []) s) (Lose false 3) ≡ Skips }
     ensures other_bus { (s : MachineState) (a b c : Sent) → play (with_bus (a ∷ b ∷ c ∷ []) s) (Lose true 1) ≡ Skips }
@@ -28,13 +28,13 @@ pub fn a_packet_is_that_at_its_position()
 /// What comes in and isn't old is handed over at its receiver and owed no more, whether it changes anything there or
 /// not.
 pub fn what_comes_in_is_handed_over()
-    ensures changed { (s : MachineState) (a b c : Sent) (done : Done) → is_present s.wires.before b ≡ true
-        → comes_in s b.letter ≡ true
+    ensures changed { (s : MachineState) (a b c : Sent) (done : Done) → is_current s.wires.before b ≡ true
+        → is_admitted s b.letter ≡ true
         → handed_done s.site b.letter.receiver b.letter.message s.world ≡ Some done
         → play (with_bus (a ∷ b ∷ c ∷ []) s) (Deliver false 1)
         ≡ Makes (after_done (with_owed (without_number b.number s.wires.owed) (with_bus (a ∷ c ∷ []) s)) done) }
-    ensures unchanged { (s : MachineState) (a b c : Sent) → is_present s.wires.before b ≡ true
-        → comes_in s b.letter ≡ true
+    ensures unchanged { (s : MachineState) (a b c : Sent) → is_current s.wires.before b ≡ true
+        → is_admitted s b.letter ≡ true
         → handed_done s.site b.letter.receiver b.letter.message s.world ≡ None
         → play (with_bus (a ∷ b ∷ c ∷ []) s) (Deliver false 1)
         ≡ Makes (with_owed (without_number b.number s.wires.owed) (with_bus (a ∷ c ∷ []) s)) }

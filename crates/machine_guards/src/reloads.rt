@@ -6,16 +6,16 @@ ghost use Rattle.world_semantics.specs.Messages.{Message};
 ghost use Rattle.world_semantics.specs.Running.{Done};
 ghost use Rattle.message_wires.specs.Examples.{asks, buses_from, end_of};
 ghost use Rattle.message_wires.specs.Play.{MachineState, play};
-ghost use Rattle.message_wires.specs.Wires.{Wires, is_present, wires_after_reload};
+ghost use Rattle.message_wires.specs.Wires.{Wires, is_current, wires_after_reload};
 ghost use Rattle.machine_guards.specs.States.{between, discs_at_boot, loaded_after, numbered, owing, with_bus};
 
 /// A letter is old that was sent before its sender or its receiver was loaded last. The node of the terminals is never
 /// loaded again.
 pub fn what_is_older_than_a_load_is_told()
-    ensures sender { (message : Message) → is_present (3 ∷ 0 ∷ []) (numbered 2 0 1 message) ≡ false }
-    ensures receiver { (message : Message) → is_present (3 ∷ 0 ∷ []) (numbered 2 16 0 message) ≡ false }
-    ensures first { (message : Message) → is_present (3 ∷ 0 ∷ []) (numbered 3 0 16 message) ≡ true }
-    ensures others { (message : Message) → is_present (3 ∷ 0 ∷ []) (numbered 2 1 16 message) ≡ true }
+    ensures sender { (message : Message) → is_current (3 ∷ 0 ∷ []) (numbered 2 0 1 message) ≡ false }
+    ensures receiver { (message : Message) → is_current (3 ∷ 0 ∷ []) (numbered 2 16 0 message) ≡ false }
+    ensures first { (message : Message) → is_current (3 ∷ 0 ∷ []) (numbered 3 0 16 message) ≡ true }
+    ensures others { (message : Message) → is_current (3 ∷ 0 ∷ []) (numbered 2 1 16 message) ≡ true }
 {}
 
 /// A reload forgets what is owed from the processor and to it, by itself too, and nothing else. All letters that were
@@ -30,9 +30,9 @@ pub fn a_reload_forgets_what_is_owed()
           owed = between 0 2 message ∷ between 16 0 message ∷ [];
           before = 0 ∷ 9 ∷ 0 ∷ [];
         } }
-    ensures old { (message : Message) → is_present (wires_after_reload 1 (owing [])).before (numbered 8 1 0 message)
+    ensures old { (message : Message) → is_current (wires_after_reload 1 (owing [])).before (numbered 8 1 0 message)
         ≡ false }
-    ensures young { (message : Message) → is_present (wires_after_reload 1 (owing [])).before (numbered 9 1 0 message)
+    ensures young { (message : Message) → is_current (wires_after_reload 1 (owing [])).before (numbered 9 1 0 message)
         ≡ true }
     ensures bus { (processor : ℕ) (wires : Wires) → (wires_after_reload processor wires).bus ≡ wires.bus }
 {}

@@ -8,3 +8,4 @@
 pub mod effect;
 
 pub use effect::Effect;
+pub use world_semantics::NoMemory;

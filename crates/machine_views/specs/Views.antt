@@ -57,14 +57,14 @@ marks_in marks = each_number (marks_by marks) 0 (terminal_node + 1)
 
 -- Copies
 
-abbrev pub awaited_at : Core → Point → Option Awaited
-awaited_at core Await =
+abbrev pub awaited_view_at : Core → Point → Option Awaited
+awaited_view_at core Await =
     Some (record { file = asked_file core.state; number = next_on core (asked_file core.state) - 1 })
-awaited_at core _ = None
+awaited_view_at core _ = None
 
 -- the request whose reply is awaited: the last one that was asked on its file
-abbrev pub awaited_by : Core → Option Awaited
-awaited_by core = awaited_at core (point core.state)
+abbrev pub awaited_view : Core → Option Awaited
+awaited_view core = awaited_view_at core (point core.state)
 
 -- a process's image with everything that it may list
 abbrev pub image_of_everything : ProcessState → List ℤ
@@ -84,7 +84,7 @@ copy_view process copy = record {
   number = copy.number;
   sent = copy.sent;
   renewal = copy.renewal;
-  awaited = awaited_by copy.core;
+  awaited = awaited_view copy.core;
   point = point copy.core.state;
   next = next_number_of copy.core.state;
   state = image_of_everything copy.core.state;

@@ -1,19 +1,14 @@
 ghost use Rattle.std.specs.Prelude.{◌≡◌, ◌++◌, option_to_list, slice_get, IfOk, OnOk};
 ghost use Rattle.site_machine.specs.world_copies.specs.Seen.{pairs_in};
 ghost use Rattle.machine_views.specs.Seen.{AreNumbered};
-ghost use Rattle.machine_views.specs.Views.{awaited_by, copy_view, copy_views, each_at, file_number};
+ghost use Rattle.machine_views.specs.Views.{awaited_view, copy_view, copy_views, each_at, file_number};
 
 use crate::process::image_of_everything;
 use crate::views::{Awaited, CopyView};
 use checkpoint_image::FileNumber;
-use file_calls::Waiting;
 use gd_words::{List, NoMemory, Request};
 use process_semantics::Point;
-use sendings::copy_request;
-use site_machine::node_copies::NodeCopy;
-use site_machine::process_control::CopyControl;
-use site_machine::process_copies::ProcessCopies;
-use site_machine::processes::Process;
+use site_machine::{CopyControl, NodeCopy, Process, ProcessCopies, Waiting, copy_request};
 use std::alloc::Global;
 use world_semantics::Which;
 
@@ -78,7 +73,7 @@ fn view_of(alloc: Global, process: u8, copy: &NodeCopy) -> Result<CopyView, NoMe
 
 /// The request whose reply a copy awaits.
 fn awaited(control: &CopyControl<Process>) -> Option<Awaited>
-    ensures { result ≡ awaited_by control.now.core }
+    ensures { result ≡ awaited_view control.now.core }
 {
     match control.point() {
         Point::Await => {

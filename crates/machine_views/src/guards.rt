@@ -3,7 +3,7 @@ ghost use Rattle.std.specs.Prelude.{◌≡◌, true, false, [], ◌∷◌, map, 
 ghost use Rattle.process_semantics.specs.declared.point.Point.TheVariants.{Await};
 ghost use Rattle.world_semantics.specs.declared.role.Role.TheVariants.{Acting, Watching};
 ghost use Rattle.machine_views.specs.Examples.{fourth_next, sector, sevens, standing, told, turned_pair, written_pair};
-ghost use Rattle.machine_views.specs.Views.{awaited_at, copy_views, each_at, marks_in, sector_views, stopped_in};
+ghost use Rattle.machine_views.specs.Views.{awaited_view_at, copy_views, each_at, marks_in, sector_views, stopped_in};
 
 /// The processors 1 and 3 have stopped, and the marks are told by their nodes and then by their processors.
 pub fn stops_and_marks_are_in_order()
@@ -20,7 +20,7 @@ pub fn copies_are_in_order()
 
 /// The reply that is awaited is that of the number before the next one.
 pub fn the_last_request_is_awaited()
-    ensures { awaited_at fourth_next Await ≡ Some (record { file = 0; number = 3 }) }
+    ensures { awaited_view_at fourth_next Await ≡ Some (record { file = 0; number = 3 }) }
 {}
 
 /// Sectors are told with the number of the process in its place.

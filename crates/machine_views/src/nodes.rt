@@ -3,9 +3,7 @@ ghost use Rattle.machine_views.specs.Views.{mark_of, marks_by, marks_in, stopped
 
 use crate::views::{DownView, TerminalView};
 use gd_words::{List, NoMemory};
-use site_machine::Machine;
-use site_machine::node_copies::Downs;
-use site_machine::world_copies::Terminal;
+use site_machine::{Downs, Machine, Terminal};
 use std::alloc::Global;
 
 /// How many processors a site can have, and how many nodes: the terminals are on a node of their own.

@@ -4,7 +4,7 @@ ghost use Rattle.machine_views.specs.Views.{image_of_everything};
 
 use checkpoint_image::Behaviour;
 use gd_words::{List, NoMemory};
-use site_machine::processes::Process;
+use site_machine::Process;
 use std::alloc::Global;
 
 /// The image of a process with everything that it may list.

@@ -5,7 +5,7 @@ ghost use Rattle.machine_views.specs.Views.{each_at, sector_views};
 
 use crate::views::SectorView;
 use gd_words::{List, NoMemory};
-use site_machine::process_copies::ProcessCopies;
+use site_machine::ProcessCopies;
 use std::alloc::Global;
 
 /// The sectors of all discs.

@@ -1,9 +1,9 @@
 -- What is written is read back.
 use Rattle.std.proofs.Common.{◌≡◌, Bool, false, if◌then◌else◌, Some, None, ap, sym, ◌∙◌}
 use Rattle.std.specs.Option.{option_map, option_and_then}
-use Rattle.tal_tree.specs.declared.site.Site.{Site}
-use Rattle.checkpoint_image.proofs.Readers.{number-reads}
-use Rattle.checkpoint_image.proofs.Messages.{read-again}
+use Rattle.change_layout.specs.tal_tree.specs.declared.site.Site.{Site}
+use Rattle.world_semantics.specs.checkpoint_image.proofs.Readers.{number-reads}
+use Rattle.world_semantics.specs.checkpoint_image.proofs.Messages.{read-again}
 use Rattle.world_semantics.specs.Messages.{Message, Asking, Replying, Checkpointing, Taking}
 use Rattle.change_layout.proofs.Messages as changes
 use Rattle.message_layout.specs.Messages.{NodeMessage, Carrying, Changing, Reporting, Declaring, is_known}

@@ -2,11 +2,11 @@
 use Rattle.std.proofs.Common.{◌≡◌, ℕ, zero, suc, ℤ, pos, negsuc, Bool, true, false, if◌then◌else◌, List, [], ◌∷◌}
 use Rattle.std.proofs.Common.{Option, Some, None, refl, ap, subst}
 use Rattle.std.specs.Option.{option_map, option_and_then}
-use Rattle.tal_tree.specs.declared.site.Site.{Site}
-use Rattle.checkpoint_image.specs.process_semantics.specs.Words.{whole}
-use Rattle.checkpoint_image.specs.Reading.{number_in, message_in}
-use Rattle.checkpoint_image.proofs.Readers.{number-reads}
-use Rattle.checkpoint_image.proofs.Messages.{read-exact}
+use Rattle.change_layout.specs.tal_tree.specs.declared.site.Site.{Site}
+use Rattle.world_semantics.specs.checkpoint_image.specs.process_semantics.specs.Words.{whole}
+use Rattle.world_semantics.specs.checkpoint_image.specs.Reading.{number_in, message_in}
+use Rattle.world_semantics.specs.checkpoint_image.proofs.Readers.{number-reads}
+use Rattle.world_semantics.specs.checkpoint_image.proofs.Messages.{read-exact}
 use Rattle.world_semantics.specs.Messages.{Asking, Replying, Checkpointing, Taking}
 use Rattle.change_layout.proofs.Messages as changes
 use Rattle.change_layout.specs.Reading as changes_in

@@ -1,10 +1,12 @@
 -- Each part of a message is read as it is written, and only so.
 use Rattle.std.proofs.Common.{◌≤◌, ◌<◌, ◌^◌, ◌≡◌, ℕ, ℤ, pos, List, [], ◌∷◌, ◌++◌, length, Some, None, refl, ap, sym}
 use Rattle.std.proofs.Common.{subst, ◌∙◌, append-nil}
-use Rattle.checkpoint_image.specs.process_semantics.specs.Words.{Front, whole, words_in, long, counted}
-use Rattle.checkpoint_image.specs.Reading.{reply_in, longs_in}
-use Rattle.checkpoint_image.proofs.Readers.{WasWritten, IsReader, number-reads, words-reads, sized-reads, both-reads}
-use Rattle.checkpoint_image.proofs.Patterns.{pair-reads}
+use Rattle.world_semantics.specs.checkpoint_image.specs.process_semantics.specs.Words.{Front, whole, words_in, long}
+use Rattle.world_semantics.specs.checkpoint_image.specs.process_semantics.specs.Words.{counted}
+use Rattle.world_semantics.specs.checkpoint_image.specs.Reading.{reply_in, longs_in}
+use Rattle.world_semantics.specs.checkpoint_image.proofs.Readers.{WasWritten, IsReader, number-reads, words-reads}
+use Rattle.world_semantics.specs.checkpoint_image.proofs.Readers.{sized-reads, both-reads}
+use Rattle.world_semantics.specs.checkpoint_image.proofs.Patterns.{pair-reads}
 use Rattle.message_layout.specs.Layout.{request_words, reply_words, taken_words, report_words}
 use Rattle.message_layout.specs.Reading.{address_in, body_in, request_in, answer_in, taken_in, report_in}
 use Rattle.message_layout.proofs.Sets.{set-reads}

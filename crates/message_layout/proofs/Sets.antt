@@ -6,10 +6,10 @@ use Rattle.std.proofs.lemmas.Int.{of_z-to_z, to_z-of_z, SFits-int_wrap}
 use Rattle.std.specs.Int.{w16, cast_signed, cast_unsigned}
 use Rattle.std.specs.Prelude.{FitsSigned, negsuc}
 use Rattle.alive_regroup.specs.declared.set.ProcessorSet.{ProcessorSet}
-use Rattle.gd_words.specs.Arithmetic.{wrap}
-use Rattle.checkpoint_image.specs.Reading.{is_word}
-use Rattle.checkpoint_image.proofs.Patterns.{pattern-is}
-use Rattle.checkpoint_image.proofs.Readers.{WasWritten, IsReader}
+use Rattle.change_layout.specs.gd_words.specs.Arithmetic.{wrap}
+use Rattle.world_semantics.specs.checkpoint_image.specs.Reading.{is_word}
+use Rattle.world_semantics.specs.checkpoint_image.proofs.Patterns.{pattern-is}
+use Rattle.world_semantics.specs.checkpoint_image.proofs.Readers.{WasWritten, IsReader}
 use Rattle.message_layout.specs.Layout.{mask_of, mask_word}
 use Rattle.message_layout.specs.Reading.{bits_of, set_told, set_in}
 

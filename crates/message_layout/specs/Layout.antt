@@ -3,13 +3,13 @@
 use Rattle.std.specs.Prelude.{◌≡◌, ◌<◌, ◌≤◌, ◌^◌, ◌+◌, ◌*◌, ℕ, ℤ, pos, Bool, true, List, [], ◌∷◌, ◌++◌, length}
 use Rattle.std.specs.Prelude.{if◌then◌else◌}
 use Rattle.std.specs.Int.{w16, cast_signed}
-use Rattle.tal_tree.specs.declared.site.Site.{Site}
-use Rattle.gd_words.specs.declared.message.Request.{Request}
-use Rattle.gd_words.specs.declared.message.Reply.{Reply}
-use Rattle.checkpoint_image.specs.process_semantics.specs.Words.{long, counted}
+use Rattle.change_layout.specs.tal_tree.specs.declared.site.Site.{Site}
+use Rattle.change_layout.specs.gd_words.specs.declared.message.Request.{Request}
+use Rattle.change_layout.specs.gd_words.specs.declared.message.Reply.{Reply}
+use Rattle.world_semantics.specs.checkpoint_image.specs.process_semantics.specs.Words.{long, counted}
 use Rattle.alive_regroup.specs.declared.set.ProcessorSet.{ProcessorSet}
-use Rattle.checkpoint_image.specs.declared.message.TakenMessage.{TakenMessage}
-use Rattle.checkpoint_image.specs.Layout.{message_words, IsWithinLayout}
+use Rattle.world_semantics.specs.checkpoint_image.specs.declared.message.TakenMessage.{TakenMessage}
+use Rattle.world_semantics.specs.checkpoint_image.specs.Layout.{message_words, IsWithinLayout}
 use Rattle.world_semantics.specs.Messages.{Message, Asking, Replying, Checkpointing, Taking}
 use Rattle.change_layout.specs.Layout as changes
 use Rattle.message_layout.specs.Messages.{NodeMessage, Carrying, Changing, Reporting, Declaring, is_known}

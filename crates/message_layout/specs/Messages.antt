@@ -3,7 +3,7 @@
 -- so is the form of a checkpoint that carries what changed.
 use Rattle.std.specs.Prelude.{ℕ, ◌&&◌, not, nat_lt, Bool, length, drop}
 use Rattle.std.specs.List.{list_all}
-use Rattle.tal_tree.specs.declared.site.Site.{Site}
+use Rattle.change_layout.specs.tal_tree.specs.declared.site.Site.{Site}
 use Rattle.world_semantics.specs.plain_semantics.specs.Openers.{openers_of}
 use Rattle.alive_regroup.specs.declared.set.ProcessorSet.{ProcessorSet}
 use Rattle.change_layout.specs.declared.message.ChangeMessage.{ChangeMessage}

@@ -4,13 +4,14 @@ use Rattle.std.specs.Option.{option_map, option_and_then}
 use Rattle.std.specs.Int.{w16, cast_unsigned}
 use Rattle.std.specs.Prelude.{ℕ, zero, suc, ◌/◌, ◌%◌, ◌==◌, ℤ, pos, negsuc, Bool, if◌then◌else◌, List, [], ◌∷◌, Option}
 use Rattle.std.specs.Prelude.{Some, None}
-use Rattle.tal_tree.specs.declared.site.Site.{Site}
-use Rattle.gd_words.specs.declared.message.Request.{Request}
-use Rattle.gd_words.specs.declared.message.Reply.{Reply}
-use Rattle.checkpoint_image.specs.process_semantics.specs.Words.{Front, whole}
+use Rattle.change_layout.specs.tal_tree.specs.declared.site.Site.{Site}
+use Rattle.change_layout.specs.gd_words.specs.declared.message.Request.{Request}
+use Rattle.change_layout.specs.gd_words.specs.declared.message.Reply.{Reply}
+use Rattle.world_semantics.specs.checkpoint_image.specs.process_semantics.specs.Words.{Front, whole}
 use Rattle.alive_regroup.specs.declared.set.ProcessorSet.{ProcessorSet}
-use Rattle.checkpoint_image.specs.declared.message.TakenMessage.{TakenMessage}
-use Rattle.checkpoint_image.specs.Reading.{is_word, number_in, both_in, pair_in, longs_in, reply_in, message_in}
+use Rattle.world_semantics.specs.checkpoint_image.specs.declared.message.TakenMessage.{TakenMessage}
+use Rattle.world_semantics.specs.checkpoint_image.specs.Reading.{is_word, number_in, both_in, pair_in, longs_in}
+use Rattle.world_semantics.specs.checkpoint_image.specs.Reading.{reply_in, message_in}
 use Rattle.world_semantics.specs.Messages.{Asking, Replying, Checkpointing, Taking}
 use Rattle.change_layout.specs.Reading as changes
 use Rattle.message_layout.specs.Messages.{NodeMessage, Carrying, Changing, Reporting, Declaring, is_known}

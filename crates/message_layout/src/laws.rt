@@ -1,6 +1,6 @@
 //! Laws of the layout.
 ghost use Rattle.std.specs.Prelude.{◌≡◌, ℤ, List, Some, None, false};
-ghost use Rattle.tal_tree.specs.declared.site.Site.{Site};
+ghost use Rattle.change_layout.specs.tal_tree.specs.declared.site.Site.{Site};
 ghost use Rattle.message_layout.specs.Layout.{words_of, Fits, IsWithin};
 ghost use Rattle.message_layout.specs.Messages.{NodeMessage, is_known};
 ghost use Rattle.message_layout.specs.Reading.{node_message_in, understood};

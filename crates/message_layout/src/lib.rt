@@ -7,3 +7,5 @@
 #![tactic(auto)]
 
 pub mod laws;
+
+pub use change_layout::ChangeMessage;

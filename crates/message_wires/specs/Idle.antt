@@ -25,18 +25,19 @@ abbrev pub none_runs : Site → World → Bool
 none_runs site w = all_from (λ number. is_none (run_done site number w)) 0 (length w.processes)
 
 -- whether a copy of this role acts and waits for what it has sent to be taken
-abbrev pub waits_as : Role → Bool → Bool
-waits_as Acting sent = sent
-waits_as Watching sent = false
-waits_as Blank sent = false
-waits_as Gone sent = false
+abbrev pub awaits_taking_as : Role → Bool → Bool
+awaits_taking_as Acting sent = sent
+awaits_taking_as Watching sent = false
+awaits_taking_as Blank sent = false
+awaits_taking_as Gone sent = false
 
-abbrev pub waits_at_mark : Copy → Bool
-waits_at_mark copy = waits_as copy.role copy.sent
+abbrev pub awaits_taking : Copy → Bool
+awaits_taking copy = awaits_taking_as copy.role copy.sent
 
--- no copy that acts does
-abbrev pub none_waits : List Pair → Bool
-none_waits processes = list_all (λ pair. not (waits_at_mark pair.first) && not (waits_at_mark pair.second)) processes
+-- none of the copies does
+abbrev pub none_awaits_taking : List Pair → Bool
+none_awaits_taking processes =
+    list_all (λ pair. not (awaits_taking pair.first) && not (awaits_taking pair.second)) processes
 
 -- nothing is owed between nodes that run
 abbrev pub none_owed : List Bool → List Sent → Bool
@@ -63,5 +64,5 @@ all_noted w = all_from (λ node. has_marked_all w node) 0 (length w.stopped) && 
 abbrev pub is_idle : MachineState → Bool
 is_idle s =
     none_enters s.site s.world
-    && (none_runs s.site s.world && (none_waits s.world.processes
+    && (none_runs s.site s.world && (none_awaits_taking s.world.processes
     && (none_owed s.world.stopped s.wires.owed && all_noted s.world)))

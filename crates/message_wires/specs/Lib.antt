@@ -9,3 +9,7 @@ pub use Rattle.letters
 pub use Rattle.machine_states
 pub use Rattle.computed_changes.specs.world_semantics
 pub use Rattle.computed_changes.specs.checkpoint_image
+pub use Rattle.computed_changes.specs.change_layout
+pub use Rattle.tal_tree.specs.gd_words
+pub use Rattle.computed_changes.specs.plain_semantics
+pub use Rattle.tal_tree

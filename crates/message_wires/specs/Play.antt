@@ -16,7 +16,7 @@ use Rattle.letters.specs.Again.{sent_again}
 use Rattle.machine_states.specs.Drives.{drives_at_boot}
 use Rattle.machine_states.specs.States.{State, Played, Makes, Skips, Would, SecondStop, drive_played}
 use Rattle.message_wires.specs.Wires.{Sent, Wires, wires_at_boot, wires_after_posts, paid, paid_between, without_packet}
-use Rattle.message_wires.specs.Wires.{repeated_packet, wires_again, is_present, wires_after_reload}
+use Rattle.message_wires.specs.Wires.{repeated_packet, wires_again, is_current, wires_after_reload}
 
 -- a state of the machine over whole messages
 abbrev pub MachineState : Type 0
@@ -55,14 +55,14 @@ state_after_handing packet s =
     after_any (record s { wires = paid packet.number s.wires })
     (handed_done s.site packet.letter.receiver packet.letter.message s.world)
 
--- whether a letter comes in at its receiver, if it isn't old: that runs, and hasn't marked the sender
-abbrev pub comes_in : MachineState → Letter → Bool
-comes_in s letter =
+-- whether the receiver of a letter admits it, if it isn't old: it runs, and hasn't marked the sender
+abbrev pub is_admitted : MachineState → Letter → Bool
+is_admitted s letter =
     is_running s.world.stopped letter.receiver && not (has_noted s.world.marks letter.receiver letter.sender)
 
 abbrev pub state_after_receiving : Sent → MachineState → MachineState
 state_after_receiving packet s =
-    if is_present s.wires.before packet && comes_in s packet.letter then state_after_handing packet s else s
+    if is_current s.wires.before packet && is_admitted s packet.letter then state_after_handing packet s else s
 
 -- a packet is taken off the bus, and what it carries comes in or is dropped
 abbrev pub deliver_played : ℕ → MachineState → Option Sent → Played Wires

@@ -48,13 +48,13 @@ wires_after_posts [] wires = wires
 wires_after_posts (letter ∷ letters) wires = wires_after_posts letters (wires_after_post letter wires)
 
 -- whether a letter is of this sending
-abbrev pub is_of : ℕ → Sent → Bool
-is_of number one = one.number == number
+abbrev pub is_sending : ℕ → Sent → Bool
+is_sending number one = one.number == number
 
 -- a letter is owed no more
 abbrev pub without_number : ℕ → List Sent → List Sent
 without_number number [] = []
-without_number number (one ∷ rest) = if is_of number one then rest else one ∷ without_number number rest
+without_number number (one ∷ rest) = if is_sending number one then rest else one ∷ without_number number rest
 
 abbrev pub paid : ℕ → Wires → Wires
 paid number wires = record wires { owed = without_number number wires.owed }
@@ -65,14 +65,14 @@ paid_between one other wires =
     record wires { owed = filter (λ sent. not (is_between one other sent.letter)) wires.owed }
 
 -- how many letters were sent before a node was loaded last
-abbrev pub sent_before : List ℕ → ℕ → ℕ
-sent_before before node = unwrap_or (slice_get before node) 0
+abbrev pub count_before : List ℕ → ℕ → ℕ
+count_before before node = unwrap_or (slice_get before node) 0
 
 -- whether a letter was sent since its sender and its receiver were loaded last
-abbrev pub is_present : List ℕ → Sent → Bool
-is_present before one =
-    nat_le (sent_before before one.letter.sender) one.number
-    && nat_le (sent_before before one.letter.receiver) one.number
+abbrev pub is_current : List ℕ → Sent → Bool
+is_current before one =
+    nat_le (count_before before one.letter.sender) one.number
+    && nat_le (count_before before one.letter.receiver) one.number
 
 -- a processor is loaded again: what is from it or to it is owed no more, and what of that is on the bus counts as old
 abbrev pub wires_after_reload : ℕ → Wires → Wires
@@ -92,7 +92,7 @@ repeated_packet packet wires = record wires { bus = put_on packet wires.bus }
 
 -- whether a packet of a sending is on the bus
 abbrev pub is_on : List Sent → ℕ → Bool
-is_on bus number = list_any (is_of number) bus
+is_on bus number = list_any (is_sending number) bus
 
 -- whether a letter that is owed is put on the bus again at a tick of a node: the node sent it, its receiver runs, and
 -- no packet of it is on the bus

@@ -7,3 +7,6 @@
 #![tactic(auto)]
 
 pub mod examples;
+
+pub use computed_changes::{ChangeMessage, ImageMessage, Opener, files_of};
+pub use machine_states::Effect;

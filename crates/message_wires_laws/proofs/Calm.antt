@@ -8,10 +8,10 @@ use Rattle.world_semantics.specs.Running.{Done, run_done}
 use Rattle.world_semantics.specs.World.{is_running, is_whole}
 use Rattle.computed_changes.specs.Entered.{enter_done}
 use Rattle.computed_changes.specs.Stopped.{reload_done}
-use Rattle.machine_states.specs.States.{Played, Makes, Skips, Would, SecondStop, DiscLoss}
-use Rattle.machine_states.proofs.Turning.{drive-cases}
-use Rattle.message_wires.specs.Wires.{Sent, Wires, is_present, paid, without_packet}
-use Rattle.message_wires.specs.Play.{MachineState, made_by, after_any, state_after_handing, comes_in, deliver_played}
+use Rattle.message_wires.specs.machine_states.specs.States.{Played, Makes, Skips, Would, SecondStop, DiscLoss}
+use Rattle.message_wires.specs.machine_states.proofs.Turning.{drive-cases}
+use Rattle.message_wires.specs.Wires.{Sent, Wires, is_current, paid, without_packet}
+use Rattle.message_wires.specs.Play.{MachineState, made_by, after_any, state_after_handing, is_admitted, deliver_played}
 use Rattle.message_wires.specs.Play.{lose_played, repeat_played, notes_from, state_after_tick, tick_played, packet_at}
 use Rattle.message_wires.specs.Play.{play, reload_played}
 use Rattle.message_wires_laws.proofs.Whole.{StaysWhole, enter-whole, handed-whole, none-noted, none-reloaded, run-whole}
@@ -31,7 +31,7 @@ module _ (s : MachineState) where
   deliver-whole : (k : ℕ) (packet : Option Sent) → KeepsWhole s (deliver_played k s packet)
   deliver-whole k None = tt
   deliver-whole k (Some packet) =
-      by (is_present s.wires.before packet && comes_in (record s { wires = without_packet k s.wires }) packet.letter)
+      by (is_current s.wires.before packet && is_admitted (record s { wires = without_packet k s.wires }) packet.letter)
     where
       any : (done : Option Done) → StaysWhole s.world done
           → KeepsWhole s (Makes (after_any (record s { wires = paid packet.number (without_packet k s.wires) }) done))

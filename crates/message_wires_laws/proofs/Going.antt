@@ -19,17 +19,17 @@ use Rattle.computed_changes.specs.Entered.{enter_done}
 use Rattle.computed_changes.specs.Stopped.{down_done, stop_if, reload_if, reload_counted, reload_where}
 use Rattle.computed_changes.specs.Stopped.{reload_done}
 use Rattle.letters.specs.Idle.{OneStops}
-use Rattle.machine_states.specs.States.{Played, Makes, Skips, Would, SecondStop, DiscLoss, Harm}
-use Rattle.message_wires.specs.Wires.{Sent, Wires, is_present, paid, paid_between, without_packet, wires_after_post}
+use Rattle.message_wires.specs.machine_states.specs.States.{Played, Makes, Skips, Would, SecondStop, DiscLoss, Harm}
+use Rattle.message_wires.specs.Wires.{Sent, Wires, is_current, paid, paid_between, without_packet, wires_after_post}
 use Rattle.message_wires.specs.Wires.{wires_after_posts}
 use Rattle.letters.specs.Again.{sent_again}
 use Rattle.letters.specs.Routes.{Letter, letters_of}
-use Rattle.message_wires.specs.Play.{MachineState, made_by, after_any, state_after_handing, comes_in, reload_played}
+use Rattle.message_wires.specs.Play.{MachineState, made_by, after_any, state_after_handing, is_admitted, reload_played}
 use Rattle.message_wires.specs.Play.{deliver_played, lose_played, repeat_played, has_stopped, fail_played, noted_by}
 use Rattle.message_wires.specs.Play.{notes_from, state_after_tick, stop_played, tick_played, packet_at, play}
 use Rattle.message_wires.specs.Runs.{IsPlayed, played_none, played_more, skipped}
 use Rattle.message_wires_laws.proofs.Stopping.{StopsNone, run-none, enter-none, handed-none, mark-none}
-use Rattle.machine_states.proofs.Turning.{drive-cases}
+use Rattle.message_wires.specs.machine_states.proofs.Turning.{drive-cases}
 
 -- what is sent leaves when processors were loaded
 posts-before : (letters : List Letter) (wires : Wires) → (wires_after_posts letters wires).before ≡ wires.before
@@ -59,7 +59,7 @@ made-goes s (Some done) none =
 deliver-goes : (k : ℕ) (s : MachineState) (packet : Option Sent) → Goes s (deliver_played k s packet)
 deliver-goes k s None = skips
 deliver-goes k s (Some packet) =
-    by (is_present s.wires.before packet && comes_in (record s { wires = without_packet k s.wires }) packet.letter)
+    by (is_current s.wires.before packet && is_admitted (record s { wires = without_packet k s.wires }) packet.letter)
   where
     any : (done : Option Done) → StopsNone s.world done
         → Goes s (Makes (after_any (record s { wires = paid packet.number (without_packet k s.wires) }) done))

@@ -25,7 +25,8 @@ use Rattle.computed_changes.proofs.Entered.{enter-may, enter-only}
 use Rattle.computed_changes.proofs.Outcomes.{idle-where}
 use Rattle.letters.specs.Idle.{IsIdle}
 use Rattle.letters.specs.Routes.{Letter}
-use Rattle.message_wires.specs.Idle.{all_from, none_enters, none_runs, waits_as, waits_at_mark, none_waits, none_owed}
+use Rattle.message_wires.specs.Idle.{all_from, none_enters, none_runs, awaits_taking_as, awaits_taking, none_owed}
+use Rattle.message_wires.specs.Idle.{none_awaits_taking}
 use Rattle.message_wires.specs.Idle.{has_marked_if, has_marked_all, all_noted, is_idle}
 use Rattle.message_wires.specs.Play.{MachineState}
 use Rattle.message_wires.specs.Runs.{letters_in, post_of}
@@ -79,7 +80,7 @@ none-anywhere xs computed outside all k = by (slice_get xs k) refl
 
 -- Copies, letters and marks
 
-acting-rests : (role : Role) (sent : Bool) → role ≡ Acting → not (waits_as role sent) ≡ true → sent ≡ false
+acting-rests : (role : Role) (sent : Bool) → role ≡ Acting → not (awaits_taking_as role sent) ≡ true → sent ≡ false
 acting-rests Acting true acts rests = absurd (cc)
 acting-rests Acting false acts rests = refl
 acting-rests Watching sent acts rests = absurd (cc)
@@ -87,14 +88,14 @@ acting-rests Blank sent acts rests = absurd (cc)
 acting-rests Gone sent acts rests = absurd (cc)
 
 copy-rests : (k : Which) (pair : Pair) → (copy_of k pair).role ≡ Acting
-    → (not (waits_at_mark pair.first) && not (waits_at_mark pair.second)) ≡ true
+    → (not (awaits_taking pair.first) && not (awaits_taking pair.second)) ≡ true
     → (copy_of k pair).sent ≡ false
 copy-rests First pair acts rest =
-    acting-rests pair.first.role pair.first.sent acts (both-true (not (waits_at_mark pair.first)) _ rest).0
+    acting-rests pair.first.role pair.first.sent acts (both-true (not (awaits_taking pair.first)) _ rest).0
 copy-rests Second pair acts rest =
-    acting-rests pair.second.role pair.second.sent acts (both-true (not (waits_at_mark pair.first)) _ rest).1
+    acting-rests pair.second.role pair.second.sent acts (both-true (not (awaits_taking pair.first)) _ rest).1
 
-rests-acting : (role : Role) (sent : Bool) → (role ≡ Acting → sent ≡ false) → not (waits_as role sent) ≡ true
+rests-acting : (role : Role) (sent : Bool) → (role ≡ Acting → sent ≡ false) → not (awaits_taking_as role sent) ≡ true
 rests-acting Acting sent rests = ap not (rests refl)
 rests-acting Watching sent rests = refl
 rests-acting Blank sent rests = refl
@@ -177,7 +178,7 @@ module _ (s : MachineState) (sent : List Letter) where
   idle-post idle =
       let enters = both-true (none_enters s.site s.world) _ idle in
       let runs = both-true (none_runs s.site s.world) _ enters.1 in
-      let waits = both-true (none_waits s.world.processes) _ runs.1 in
+      let waits = both-true (none_awaits_taking s.world.processes) _ runs.1 in
       let rest = both-true (none_owed s.world.stopped s.wires.owed) _ waits.1 in
       record {
         enters = λ terminal. idle-where s.site s.world (Entering terminal) (enter_done s.site terminal s.world)

@@ -6,7 +6,7 @@ use Rattle.std.proofs.lemmas.Option.{slice_get_within}
 use Rattle.schedule.specs.declared.event.Event.TheVariants.{Tick}
 use Rattle.world_semantics.specs.World.{is_running, has_noted}
 use Rattle.computed_changes.specs.Stopped.{may_note, world_at_down, marked_where, mark_where, down_done}
-use Rattle.machine_states.specs.States.{Played, Makes, Skips, Would}
+use Rattle.message_wires.specs.machine_states.specs.States.{Played, Makes, Skips, Would}
 use Rattle.message_wires.specs.Wires.{Wires}
 use Rattle.message_wires.specs.Play.{MachineState, noted_by, notes_from, state_after_tick, play}
 use Rattle.message_wires_laws.proofs.Going.{marks-none}

@@ -30,10 +30,10 @@ use Rattle.letters.specs.Posts.{plays_enter, plays_no_enter, plays_nothing, play
 use Rattle.letters.specs.Posts.{plays_loss, plays_repeat, plays_no_tick, plays_tick, plays_fail, plays_no_fail}
 use Rattle.letters.specs.Posts.{plays_reload, plays_no_reload, plays_drive, NotesLetters, no_mark, one_mark, IsTaken}
 use Rattle.letters.specs.Posts.{is_from_or_to, without_those_of}
-use Rattle.machine_states.specs.States.{Played, Makes, Skips, Would}
-use Rattle.message_wires.specs.Wires.{Sent, Wires, is_present, without_number, paid, paid_between, without_packet}
+use Rattle.message_wires.specs.machine_states.specs.States.{Played, Makes, Skips, Would}
+use Rattle.message_wires.specs.Wires.{Sent, Wires, is_current, without_number, paid, paid_between, without_packet}
 use Rattle.message_wires.specs.Wires.{repeated_packet}
-use Rattle.message_wires.specs.Play.{MachineState, after_done, made_by, after_any, state_after_handing, comes_in}
+use Rattle.message_wires.specs.Play.{MachineState, after_done, made_by, after_any, state_after_handing, is_admitted}
 use Rattle.message_wires.specs.Play.{deliver_played, lose_played, repeat_played, fail_played, stop_played, after_noted}
 use Rattle.message_wires.specs.Play.{noted_by, notes_from, state_after_tick, packet_at, play, reload_played}
 use Rattle.message_wires.specs.Runs.{letters_in, post_of}
@@ -42,7 +42,7 @@ use Rattle.message_wires_laws.proofs.Tidy.{without-tidy, repeated-tidy, again-ti
 use Rattle.message_wires_laws.proofs.Tidy.{pays, again-on, between-on, other-letters, paid-on, posted-among}
 use Rattle.message_wires_laws.proofs.Tidy.{reloaded-on, reloaded-tidy, repeated-on, without-on}
 use Rattle.message_wires_laws.proofs.Posting.{Carries, posted-on, posted-between}
-use Rattle.machine_states.proofs.Turning.{drive-cases}
+use Rattle.message_wires.specs.machine_states.proofs.Turning.{drive-cases}
 use Rattle.schedule.specs.declared.event.DriveEvent.{DriveEvent}
 
 -- what an event makes of a state is carried as well
@@ -258,11 +258,11 @@ module _ (events : List Event) (s : MachineState) (sent : List Letter) (carried 
           hand-changes done e (letters_in s.wires.owed) (ap letters_in same)
           (λ change. plays_again packet.letter before change)
 
-    receive-on : (test : Bool) → (is_present s.wires.before packet && comes_in s packet.letter) ≡ test
+    receive-on : (test : Bool) → (is_current s.wires.before packet && is_admitted s packet.letter) ≡ test
         → Carries (events ++ Deliver y k ∷ []) (if test then state_after_handing packet
         (record s { wires = without_packet k s.wires }) else record s { wires = without_packet k s.wires })
     receive-on true e =
-        let both = both-true (is_present s.wires.before packet) _ e in
+        let both = both-true (is_current s.wires.before packet) _ e in
         hand-on (carried.tidy.known packet (inl on) both.0)
         (both-true (is_running s.world.stopped packet.letter.receiver) _ both.1).0
         (pays packet.number s.wires.owed) _ refl
@@ -277,7 +277,7 @@ module _ (events : List Event) (s : MachineState) (sent : List Letter) (carried 
           → GoesOn (events ++ Deliver y k ∷ []) s sent (deliver_played k s packet)
       by None e = skips (Deliver y k) plays_nothing
       by (Some packet) e =
-          receive-on y k packet (on-bus y k packet e) (is_present s.wires.before packet && comes_in s packet.letter)
+          receive-on y k packet (on-bus y k packet e) (is_current s.wires.before packet && is_admitted s packet.letter)
           refl
 
 -- Ticks

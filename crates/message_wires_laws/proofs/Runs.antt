@@ -17,7 +17,7 @@ use Rattle.letter_laws.proofs.Fitting.{letter-fits}
 use Rattle.letter_laws.proofs.Honest.{played-honest}
 use Rattle.message_wires.specs.Play.{MachineState, machine_at_boot, play}
 use Rattle.message_wires.specs.Runs.{IsPlayed, played_none, played_more, skipped, post_of}
-use Rattle.message_wires.specs.Wires.{Sent, is_present, sent_before}
+use Rattle.message_wires.specs.Wires.{Sent, is_current, count_before}
 use Rattle.message_wires_laws.specs.Carried.{IsOn, IsCarried}
 use Rattle.message_wires_laws.proofs.Going.{played-before, played-site}
 use Rattle.message_wires_laws.proofs.Playing.{GoesOn, plays-on}
@@ -36,7 +36,7 @@ module _ (events : List Event) (few : length events < 4294967296) (s : MachineSt
       (λ next sendings change. run-only s.world next letter.receiver letter.message sendings
       (played-run carried.played) apart fitting change) e
 
-none-loaded : (processors node : ℕ) → sent_before (replicate processors 0) node ≡ 0
+none-loaded : (processors node : ℕ) → count_before (replicate processors 0) node ≡ 0
 none-loaded zero node = refl
 none-loaded (suc processors) zero = refl
 none-loaded (suc processors) (suc node) = none-loaded processors node
@@ -91,7 +91,7 @@ module _ (site : Site) (fit : IsFit site) (apart : HasCopiesApart site) where
       (played : IsPlayed site events s) where
     -- letters that may come, of which those on the bus are some that aren't old
     pub played-letters : (sent : List Letter) × posts.HasPlayed site events (post_of s sent)
-        × ((packet : Sent) → IsAmong packet s.wires.bus → is_present s.wires.before packet ≡ true
+        × ((packet : Sent) → IsAmong packet s.wires.bus → is_current s.wires.before packet ≡ true
         → IsAmong packet.letter sent)
     played-letters =
         let all = played-carried few played in (

@@ -6,8 +6,8 @@ use Rattle.std.proofs.lemmas.List.Folds.{list_any-append}
 use Rattle.gd_words.specs.Members.{IsAmong}
 use Rattle.schedule.specs.declared.event.Event.TheVariants.{Tick}
 use Rattle.world_semantics.specs.World.{is_running}
-use Rattle.machine_states.specs.States.{Played, Makes, Skips, Would}
-use Rattle.message_wires.specs.Wires.{Sent, Wires, has_room, put_on, is_of, is_on, is_due, put_again}
+use Rattle.message_wires.specs.machine_states.specs.States.{Played, Makes, Skips, Would}
+use Rattle.message_wires.specs.Wires.{Sent, Wires, has_room, put_on, is_sending, is_on, is_due, put_again}
 use Rattle.message_wires.specs.Play.{MachineState, notes_from, state_after_tick, play}
 
 -- a packet of a sending is on a bus, or that is full
@@ -21,7 +21,8 @@ put-stays packet bus number on = by (has_room bus) refl on
     by : (room : Bool) → has_room bus ≡ room → IsOnUnlessFull bus number
         → IsOnUnlessFull (if room then bus ++ packet ∷ [] else bus) number
     by true e (inl is) =
-        inl (list_any-append (is_of number) bus (packet ∷ []) ∙ ap (λ b. b || list_any (is_of number) (packet ∷ [])) is)
+        inl (list_any-append (is_sending number) bus (packet ∷ [])
+        ∙ ap (λ b. b || list_any (is_sending number) (packet ∷ [])) is)
     by true e (inr full) = absurd (cc)
     by false e on = on
 
@@ -33,8 +34,8 @@ put-there packet bus = by (has_room bus) refl
     last false = ap (λ b. b || false) (eq-eqb packet.number packet.number refl)
 
     by : (room : Bool) → has_room bus ≡ room → IsOnUnlessFull (if room then bus ++ packet ∷ [] else bus) packet.number
-    by true e = inl (list_any-append (is_of packet.number) bus (packet ∷ [])
-        ∙ last (list_any (is_of packet.number) bus))
+    by true e = inl (list_any-append (is_sending packet.number) bus (packet ∷ [])
+        ∙ last (list_any (is_sending packet.number) bus))
     by false e = inr e
 
 again-stays : (stopped : List Bool) (node : ℕ) (owed bus : List Sent) (number : ℕ) → IsOnUnlessFull bus number

@@ -12,9 +12,9 @@ use Rattle.world_semantics.proofs.Roles.{both-true}
 use Rattle.letters.specs.Routes.{Letter}
 use Rattle.letters.specs.Posts.{IsTaken, is_from_or_to, takes_first, takes_later, without_those_of}
 use Rattle.letters.proofs.Owed.{filter-among}
-use Rattle.message_wires.specs.Wires.{Sent, Wires, has_room, put_on, wires_after_post, wires_after_posts, is_of}
+use Rattle.message_wires.specs.Wires.{Sent, Wires, has_room, put_on, wires_after_post, wires_after_posts, is_sending}
 use Rattle.message_wires.specs.Wires.{without_number, paid, paid_between, without_packet, repeated_packet, is_due}
-use Rattle.message_wires.specs.Wires.{put_again, wires_again, is_present, sent_before, wires_after_reload}
+use Rattle.message_wires.specs.Wires.{put_again, wires_again, is_current, count_before, wires_after_reload}
 use Rattle.message_wires.specs.Runs.{letters_in}
 use Rattle.message_wires_laws.specs.Carried.{IsOn, AreTidy}
 
@@ -27,9 +27,9 @@ fewer-tidy {sent = sent} same loads from tidy = record {
   alike = λ one other on there e. tidy.alike one other (from one on) (from other there) e;
   loaded = λ node.
       (let was = tidy.loaded node in
-      let before = ap (λ b. sent_before b node) loads in
+      let before = ap (λ b. count_before b node) loads in
       omega (arith, was, before, same));
-  known = λ one on present. tidy.known one (from one on) (ap (λ b. is_present b one) (sym loads) ∙ present);
+  known = λ one on present. tidy.known one (from one on) (ap (λ b. is_current b one) (sym loads) ∙ present);
 }
 
 -- more letters were sent
@@ -113,7 +113,7 @@ again-tidy stopped node {wires = wires} tidy = fewer-tidy refl refl (again-on st
 among-without : (number : ℕ) (owed : List Sent) (one : Sent) → IsAmong one (without_number number owed)
     → IsAmong one owed
 among-without number [] one among = absurd among
-among-without number (first ∷ rest) one among = by (is_of number first) (among-without number rest one) among
+among-without number (first ∷ rest) one among = by (is_sending number first) (among-without number rest one) among
   where
     by : (test : Bool) → (IsAmong one (without_number number rest) → IsAmong one rest)
         → IsAmong one (if test then rest else first ∷ without_number number rest) → IsAmong one (first ∷ rest)
@@ -146,9 +146,9 @@ pub data Pays (number : ℕ) (owed : List Sent) : Type 0 where
 
 pub pays : (number : ℕ) (owed : List Sent) → Pays number owed
 pays number [] = was_paid refl
-pays number (first ∷ rest) = by (is_of number first) refl (pays number rest)
+pays number (first ∷ rest) = by (is_sending number first) refl (pays number rest)
   where
-    later : is_of number first ≡ false → Pays number rest → Pays number (first ∷ rest)
+    later : is_sending number first ≡ false → Pays number rest → Pays number (first ∷ rest)
     later e (was_owed one among same taken) =
         let whole : first ∷ without_number number rest ≡ without_number number (first ∷ rest) = rw e refl in
         was_owed one (inr among) same
@@ -156,7 +156,7 @@ pays number (first ∷ rest) = by (is_of number first) refl (pays number rest)
         (takes_later taken))
     later e (was_paid same) = was_paid (rw e (ap (λ (xs : List Sent). first ∷ xs) same))
 
-    by : (test : Bool) → is_of number first ≡ test → Pays number rest → Pays number (first ∷ rest)
+    by : (test : Bool) → is_sending number first ≡ test → Pays number rest → Pays number (first ∷ rest)
     by true e rest_pays =
         let whole : rest ≡ without_number number (first ∷ rest) = rw e refl in
         was_owed first (inl refl) (eqb-true first.number number e)
@@ -182,8 +182,8 @@ other-letters test (first ∷ rest) = by (test first.letter) refl (other-letters
 
 -- that a processor was loaded now changes what is noted of that one alone
 set-before : (before : List ℕ) (processor count node : ℕ)
-    → (sent_before (slice_set before processor count) node ≡ count)
-    ⊎ (sent_before (slice_set before processor count) node ≡ sent_before before node)
+    → (count_before (slice_set before processor count) node ≡ count)
+    ⊎ (count_before (slice_set before processor count) node ≡ count_before before node)
 set-before [] processor count node = inr refl
 set-before (x ∷ before) zero count zero = inl refl
 set-before (x ∷ before) zero count (suc node) = inr refl
@@ -191,7 +191,7 @@ set-before (x ∷ before) (suc processor) count zero = inr refl
 set-before (x ∷ before) (suc processor) count (suc node) = set-before before processor count node
 
 set-here : (before : List ℕ) (processor count : ℕ) → processor < length before
-    → sent_before (slice_set before processor count) processor ≡ count
+    → count_before (slice_set before processor count) processor ≡ count
 set-here [] processor count low = absurd (omega (arith, low))
 set-here (x ∷ before) zero count low = refl
 set-here (x ∷ before) (suc processor) count low = set-here before processor count (omega (arith, low))
@@ -210,11 +210,11 @@ module _ (processor : ℕ) (wires : Wires) (low : processor < length wires.befor
 
   -- a letter that isn't old after the processor was loaded is of other nodes
   of-others : (node number : ℕ) → number < wires.count
-      → sent_before (slice_set wires.before processor wires.count) node ≤ number
+      → count_before (slice_set wires.before processor wires.count) node ≤ number
       → (node == processor) ≡ true → ⊥
   of-others node number given young here =
       let last = set-here wires.before processor wires.count low in
-      let same = ap (sent_before (slice_set wires.before processor wires.count)) (eqb-true node processor here) in
+      let same = ap (count_before (slice_set wires.before processor wires.count)) (eqb-true node processor here) in
       omega (arith, given, young, last, same)
 
   pub reloaded-tidy : {sent : List Letter} → AreTidy wires sent
@@ -230,17 +230,17 @@ module _ (processor : ℕ) (wires : Wires) (low : processor < length wires.befor
     known = λ one on present. known one (reloaded-on processor wires one on) present;
   }
     where
-      rises : (node number : ℕ) → sent_before (slice_set wires.before processor wires.count) node ≤ number
-          → number < wires.count → nat_le (sent_before wires.before node) number ≡ true
+      rises : (node number : ℕ) → count_before (slice_set wires.before processor wires.count) node ≤ number
+          → number < wires.count → nat_le (count_before wires.before node) number ≡ true
       rises node number young given = le-leb _ _
           (elim (set-before wires.before processor wires.count node)
           [ inl now ↦ absurd (omega (arith, now, young, given)) | inr before ↦ omega (arith, before, young) ])
 
-      known : (one : Sent) → IsOn one wires → is_present (slice_set wires.before processor wires.count) one ≡ true
+      known : (one : Sent) → IsOn one wires → is_current (slice_set wires.before processor wires.count) one ≡ true
           → IsAmong one.letter (without_those_of processor sent)
       known one on present =
           let given = tidy.given one on in
-          let both = both-true (nat_le (sent_before (slice_set wires.before processor wires.count) one.letter.sender)
+          let both = both-true (nat_le (count_before (slice_set wires.before processor wires.count) one.letter.sender)
           one.number) _ present in
           let sends = leb-true _ _ both.0 in
           let receives = leb-true _ _ both.1 in

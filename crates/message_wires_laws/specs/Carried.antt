@@ -5,7 +5,7 @@ use Rattle.schedule.specs.declared.event.Event.{Event}
 use Rattle.computed_changes.specs.Laws.{IsSent}
 use Rattle.letters.specs.Routes.{Letter}
 use Rattle.letters.specs.Posts.{HasPlayed}
-use Rattle.message_wires.specs.Wires.{Sent, Wires, is_present, sent_before}
+use Rattle.message_wires.specs.Wires.{Sent, Wires, is_current, count_before}
 use Rattle.message_wires.specs.Play.{MachineState}
 use Rattle.message_wires.specs.Runs.{post_of}
 
@@ -19,8 +19,8 @@ pub record AreTidy (wires : Wires) (sent : List Letter) : Type 0 where
   pub given : (one : Sent) → IsOn one wires → one.number < wires.count
   pub alike : (one other : Sent) → IsOn one wires → IsOn other wires → one.number ≡ other.number
       → one.letter ≡ other.letter
-  pub loaded : (node : ℕ) → sent_before wires.before node ≤ wires.count
-  pub known : (one : Sent) → IsOn one wires → is_present wires.before one ≡ true → IsAmong one.letter sent
+  pub loaded : (node : ℕ) → count_before wires.before node ≤ wires.count
+  pub known : (one : Sent) → IsOn one wires → is_current wires.before one ≡ true → IsAmong one.letter sent
 
 -- events lead to the post of a state, with these letters that may come, and its wires are tidy. All that is on them,
 -- old letters too, carries what was sent

@@ -11,11 +11,11 @@ ghost use Rattle.letter_laws.specs.takeover_laws.specs.Fit.{IsFit};
 ghost use Rattle.letters.specs.Idle.{IsIdle, OneStops};
 ghost use Rattle.letters.specs.Posts.{HasPlayed};
 ghost use Rattle.letters.specs.Routes.{Letter};
-ghost use Rattle.machine_states.specs.States.{Makes};
+ghost use Rattle.message_wires.specs.machine_states.specs.States.{Makes};
 ghost use Rattle.message_wires.specs.Idle.{is_idle};
 ghost use Rattle.message_wires.specs.Play.{MachineState, play};
 ghost use Rattle.message_wires.specs.Runs.{IsPlayed, post_of};
-ghost use Rattle.message_wires.specs.Wires.{Sent, has_room, is_on, is_present};
+ghost use Rattle.message_wires.specs.Wires.{Sent, has_room, is_on, is_current};
 ghost use Rattle.message_wires_laws.specs.Carried.{IsOn};
 
 /// What is played of a fit site, each of whose processes has its copies in two processors, is what its events do to a
@@ -26,7 +26,7 @@ pub fn what_is_played_follows()
     ensures letters { (site : Site) (events : List Event) (s : MachineState) → IsFit site → HasCopiesApart site
         → length events < 4294967296 → IsPlayed site events s
         → (sent : List Letter) × HasPlayed site events (post_of s sent)
-        × ((packet : Sent) → IsAmong packet s.wires.bus → is_present s.wires.before packet ≡ true
+        × ((packet : Sent) → IsAmong packet s.wires.bus → is_current s.wires.before packet ≡ true
         → IsAmong packet.letter sent) }
     ensures run { (site : Site) (events : List Event) (s : MachineState) → IsFit site → HasCopiesApart site
         → length events < 4294967296 → IsPlayed site events s
@@ -37,7 +37,7 @@ pub fn what_is_played_follows()
 {}
 
 /// Whatever is played, no second processor stops while one has stopped: it would have to be loaded again before.
-pub fn a_second_processor_never_stops()
+pub fn at_most_one_processor_has_stopped()
     ensures { (site : Site) (events : List Event) (s : MachineState) → IsPlayed site events s → OneStops s.world }
 {}
 

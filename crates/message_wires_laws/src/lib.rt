@@ -9,6 +9,6 @@
 pub mod laws;
 
 pub use laws::{
-    a_second_processor_never_stops, a_whole_world_stays_whole, an_idle_state_is_idle,
+    a_whole_world_stays_whole, an_idle_state_is_idle, at_most_one_processor_has_stopped,
     what_has_stopped_is_marked, what_is_owed_is_put_again, what_is_played_follows,
 };

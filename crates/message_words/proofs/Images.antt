@@ -2,10 +2,10 @@
 use Rattle.std.proofs.Common.{◌≡◌, ℤ, List, Option, Some, None, Result, Ok, Err, refl, ap, sym, ◌∙◌}
 use Rattle.std.specs.Option.{IfSome, IfNone}
 use Rattle.std.specs.Prelude.{IfOk, ◌≢◌}
-use Rattle.checkpoint_image.specs.declared.message.ImageMessage.{ImageMessage}
-use Rattle.checkpoint_image.specs.Layout.{IsWithinLayout, message_words}
-use Rattle.checkpoint_image.specs.Reading.{message_in}
-use Rattle.checkpoint_image.proofs.Messages.{read-again, read-exact}
+use Rattle.message_layout.specs.checkpoint_image.specs.declared.message.ImageMessage.{ImageMessage}
+use Rattle.message_layout.specs.checkpoint_image.specs.Layout.{IsWithinLayout, message_words}
+use Rattle.message_layout.specs.checkpoint_image.specs.Reading.{message_in}
+use Rattle.message_layout.specs.checkpoint_image.proofs.Messages.{read-again, read-exact}
 
 module _ (words : List ℤ) where
   none-read : ((message : ImageMessage) → IsWithinLayout message → message_words message ≢ words)

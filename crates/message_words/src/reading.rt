@@ -1,9 +1,9 @@
 ghost use Rattle.std.specs.Prelude.{◌≡◌, ◌∷◌, pos, IfOk};
 ghost use Rattle.std.specs.Option.{option_map};
-ghost use Rattle.process_semantics.specs.Words.{whole};
-ghost use Rattle.checkpoint_image.specs.Reading.{message_in, number_in};
+ghost use Rattle.message_layout.specs.process_semantics.specs.Words.{whole};
+ghost use Rattle.message_layout.specs.checkpoint_image.specs.Reading.{message_in, number_in};
 ghost use Rattle.message_layout.specs.world_semantics.specs.Messages.{Asking, Checkpointing, Replying, Taking};
-ghost use Rattle.change_layout.specs.Reading as changes;
+ghost use Rattle.message_layout.specs.change_layout.specs.Reading as changes;
 ghost use Rattle.message_layout.specs.Messages.{Carrying, Changing, Declaring, Reporting};
 ghost use Rattle.message_layout.specs.Reading.{answer_in, message_of_kind, node_message_in, report_in, request_in};
 ghost use Rattle.message_layout.specs.Reading.{taken_in};

@@ -1,6 +1,6 @@
 ghost use Rattle.std.specs.Prelude.{◌≡◌, ◌≤◌, Some, length};
-ghost use Rattle.process_semantics.specs.Words.{words_in, whole};
-ghost use Rattle.checkpoint_image.specs.Reading.{Gives, longs_in, number_in, pair_in, reply_in};
+ghost use Rattle.message_layout.specs.process_semantics.specs.Words.{words_in, whole};
+ghost use Rattle.message_layout.specs.checkpoint_image.specs.Reading.{Gives, longs_in, number_in, pair_in, reply_in};
 ghost use Rattle.message_layout.specs.Reading.{address_in, answer_in, body_in, report_in, request_in, set_in, taken_in};
 
 use crate::masks::set_of;

@@ -1,10 +1,10 @@
 ghost use Rattle.std.specs.Prelude.{◌≡◌, ◌≤◌, ◌∷◌, ◌++◌, length, pos, IfOk, OnOk};
-ghost use Rattle.process_semantics.specs.Words.{counted, long};
-ghost use Rattle.checkpoint_image.specs.Layout.{HasShortLists};
+ghost use Rattle.message_layout.specs.process_semantics.specs.Words.{counted, long};
+ghost use Rattle.message_layout.specs.checkpoint_image.specs.Layout.{HasShortLists};
 ghost use Rattle.message_layout.specs.world_semantics.specs.Messages.{Asking, Checkpointing, Replying, Taking};
 ghost use Rattle.message_layout.specs.Layout.{words_of};
-ghost use Rattle.change_layout.specs.Changing.{change_of};
-ghost use Rattle.change_layout.specs.Layout as changes;
+ghost use Rattle.message_layout.specs.change_layout.specs.Changing.{change_of};
+ghost use Rattle.message_layout.specs.change_layout.specs.Layout as changes;
 ghost use Rattle.message_layout.specs.Messages.{Carrying, Changing, Declaring, Reporting};
 
 use crate::masks::mask_of;

@@ -15,7 +15,7 @@ pub mod stored;
 
 pub use drive::Drive;
 pub use drives::Drives;
-pub use gd_words;
+pub use gd_words::{NoMemory, Sector};
 pub use memory_drive::MemoryDrive;
 pub use state::{DriveState, Failing};
 pub use stored::Stored;

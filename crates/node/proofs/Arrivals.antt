@@ -2,7 +2,7 @@
 use Rattle.std.specs.List.{remove}
 use Rattle.std.proofs.Common.{◌≡◌, ℕ, zero, suc, [], ◌∷◌, List, Option, Some, None, Bool, true, false}
 use Rattle.std.proofs.Common.{if◌then◌else◌, slice_get, slice_set, refl, ap, ap₂, sym, ◌∙◌}
-use Rattle.packet_wires.specs.world_semantics.proofs.Lists.{some-same}
+use Rattle.event_parts.specs.packet_wires.specs.world_semantics.proofs.Lists.{some-same}
 use Rattle.packet_words.specs.declared.bus_name.BusName.{BusName}
 use Rattle.packet_words.specs.declared.bus_name.BusName.TheVariants as bus
 use Rattle.packet_words.specs.declared.packet.Packet.{Packet}
@@ -12,11 +12,13 @@ use Rattle.packet_words.specs.declared.piece.Piece.{Piece}
 use Rattle.link_control.specs.Ends.{End, after_kind, handed_by_kind, sent_by_kind}
 use Rattle.alive_regroup.specs.Watching as watching
 use Rattle.alive_regroup.specs.Watching.{Watching, changed_at}
-use Rattle.packet_wires.specs.Nodes.{Node, end_at}
-use Rattle.packet_wires.specs.Play.{completed}
-use Rattle.packet_wires.specs.Wires.{Wires, Midst, any_goes_over, arrive_at, arrived, at_end, at_end_of, at_node}
-use Rattle.packet_wires.specs.Wires.{bus_of_answer, end_changed, heard_of, learns, nothing_sent, watch_changed}
-use Rattle.packet_wires.specs.Wires.{on_bus, with_bus, with_sent, without_packet}
+use Rattle.event_parts.specs.packet_wires.specs.Nodes.{Node, end_at}
+use Rattle.event_parts.specs.packet_wires.specs.Play.{completed}
+use Rattle.event_parts.specs.packet_wires.specs.Wires.{Wires, Midst, any_goes_over, arrive_at, arrived, at_end}
+use Rattle.event_parts.specs.packet_wires.specs.Wires.{at_end_of, at_node}
+use Rattle.event_parts.specs.packet_wires.specs.Wires.{bus_of_answer, end_changed, heard_of, learns, nothing_sent}
+use Rattle.event_parts.specs.packet_wires.specs.Wires.{watch_changed}
+use Rattle.event_parts.specs.packet_wires.specs.Wires.{on_bus, with_bus, with_sent, without_packet}
 use Rattle.event_parts.specs.Parts.{carried_out, completed_by, delivered}
 use Rattle.node.specs.Calls.{address_if_alive, alive_address, arrive_by}
 use Rattle.node.proofs.Ends.{set-same}

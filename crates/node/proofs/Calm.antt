@@ -1,13 +1,15 @@
 -- Where the last check missed no processor, and what changes nothing of that.
 use Rattle.std.specs.List.{list_all}
 use Rattle.std.specs.Option.{option_map, unwrap_or}
-use Rattle.std.proofs.Common.{◌≡◌, ℕ, zero, suc, ◌&&◌, not, Bool, true, false, if◌then◌else◌, List, [], ◌∷◌, Option, Some}
+use Rattle.std.proofs.Common.{◌≡◌, ℕ, zero, suc, ◌&&◌, not, Bool, true, false, if◌then◌else◌, List, [], ◌∷◌, Option}
+use Rattle.std.proofs.Common.{Some}
 use Rattle.std.proofs.Common.{None, slice_get, slice_set, refl, ap, sym, ◌∙◌}
-use Rattle.packet_wires.specs.world_semantics.proofs.Lists.{some-same}
+use Rattle.event_parts.specs.packet_wires.specs.world_semantics.proofs.Lists.{some-same}
 use Rattle.alive_regroup.specs.declared.neighbour.Missed.TheVariants as missed
 use Rattle.alive_regroup.specs.declared.neighbour.Neighbour.{Neighbour}
 use Rattle.alive_regroup.specs.declared.neighbour.Neighbour.TheVariants.{Absent, Up, Down}
-use Rattle.alive_regroup.specs.Watching.{Watching, after_check, after_tick, changed_at, does_check, is_missed, misses_none}
+use Rattle.alive_regroup.specs.Watching.{Watching, after_check, after_tick, changed_at, does_check, is_missed}
+use Rattle.alive_regroup.specs.Watching.{misses_none}
 use Rattle.alive_regroup.specs.Watching.{neighbour_after_alive}
 
 missed-still : (one : Neighbour) → is_missed (neighbour_after_alive one) ≡ is_missed one
@@ -35,7 +37,8 @@ calm-heard from before after is none =
   where
     by : (found : Option Neighbour) → slice_get before.neighbours from ≡ found
         → list_all (λ n. not (is_missed n))
-        (unwrap_or (option_map (λ one. slice_set before.neighbours from (neighbour_after_alive one)) found) before.neighbours)
+        (unwrap_or (option_map (λ one. slice_set before.neighbours from (neighbour_after_alive one)) found)
+        before.neighbours)
         ≡ misses_none before
     by None there = refl
     by (Some one) there = none-still before.neighbours from one there

@@ -2,20 +2,22 @@
 use Rattle.std.specs.Option.{option_and_then}
 use Rattle.std.proofs.Common.{◌≡◌, ℕ, zero, suc, [], ◌∷◌, List, Option, Some, None, Bool, true, false, if◌then◌else◌}
 use Rattle.std.proofs.Common.{slice_get, slice_set, refl, ap, ap₂, sym, subst, ◌∙◌}
-use Rattle.packet_wires.specs.world_semantics.proofs.Lists.{some-same}
+use Rattle.event_parts.specs.packet_wires.specs.world_semantics.proofs.Lists.{some-same}
 use Rattle.packet_words.specs.declared.bus_name.BusName.{BusName}
 use Rattle.packet_words.specs.declared.bus_name.BusName.TheVariants as bus
 use Rattle.packet_words.specs.declared.packet.Packet.{Packet}
 use Rattle.packet_words.specs.declared.packet.PacketKind.TheVariants as kind
 use Rattle.link_control.specs.Ends.{End, alive_of, packet_of}
-use Rattle.bus_model.specs.Packets.{sent_again}
+use Rattle.event_parts.specs.bus_model.specs.Packets.{sent_again}
 use Rattle.alive_regroup.specs.declared.set.ProcessorSet.{ProcessorSet}
 use Rattle.alive_regroup.specs.Watching as watching
 use Rattle.alive_regroup.specs.Watching.{Watching, told_by_tick}
-use Rattle.packet_wires.specs.Nodes.{Node}
-use Rattle.packet_wires.specs.Wires.{Wires, Midst, alive_at, at_end, at_end_of, at_node, check_at, checks, end_changed}
-use Rattle.packet_wires.specs.Wires.{goes_over, learns, nothing_sent, on_bus, reports, watch_changed, with_bus}
-use Rattle.packet_wires.specs.Wires.{with_sent}
+use Rattle.event_parts.specs.packet_wires.specs.Nodes.{Node}
+use Rattle.event_parts.specs.packet_wires.specs.Wires.{Wires, Midst, alive_at, at_end, at_end_of, at_node, check_at}
+use Rattle.event_parts.specs.packet_wires.specs.Wires.{checks, end_changed}
+use Rattle.event_parts.specs.packet_wires.specs.Wires.{goes_over, learns, nothing_sent, on_bus, reports, watch_changed}
+use Rattle.event_parts.specs.packet_wires.specs.Wires.{with_bus}
+use Rattle.event_parts.specs.packet_wires.specs.Wires.{with_sent}
 use Rattle.event_parts.specs.Numbers.{CanPush}
 use Rattle.event_parts.specs.Parts.{carried_out, repeated}
 use Rattle.event_parts.proofs.Numbers.{can-watch}

@@ -5,9 +5,9 @@ use Rattle.std.proofs.Common.{Option, Some}
 use Rattle.std.proofs.Common.{None, slice_get, refl, ap, sym, ◌∙◌}
 use Rattle.alive_regroup.specs.Watching as watching
 use Rattle.alive_regroup.specs.Watching.{Watching, is_held}
-use Rattle.packet_wires.specs.Lines.{first_held, line_pulled}
-use Rattle.packet_wires.specs.Nodes.{Node}
-use Rattle.packet_wires.specs.Wires.{nothing_sent, ticked}
+use Rattle.event_parts.specs.packet_wires.specs.Lines.{first_held, line_pulled}
+use Rattle.event_parts.specs.packet_wires.specs.Nodes.{Node}
+use Rattle.event_parts.specs.packet_wires.specs.Wires.{nothing_sent, ticked}
 use Rattle.event_parts.proofs.Watches.{ticked-once}
 use Rattle.node.specs.Calls.{with_watch_changed}
 

@@ -2,8 +2,8 @@
 use Rattle.std.specs.List.{filter}
 use Rattle.std.proofs.Common.{◌≡◌, ℕ, suc, ◌+◌, ◌==◌, not, Bool, true, false, if◌then◌else◌, List, [], ◌∷◌, ◌++◌, map}
 use Rattle.std.proofs.Common.{refl, ap, sym, subst, ◌∙◌, append_assoc, append-nil}
-use Rattle.packet_wires.specs.Nodes.{numbers}
-use Rattle.packet_wires.specs.Wires.{Wires, Midst, for_each, nothing_sent, with_sent}
+use Rattle.event_parts.specs.packet_wires.specs.Nodes.{numbers}
+use Rattle.event_parts.specs.packet_wires.specs.Wires.{Wires, Midst, for_each, nothing_sent, with_sent}
 use Rattle.event_parts.specs.Numbers.{CanPush}
 use Rattle.event_parts.specs.Parts.{OnlyAdds, carried_out}
 use Rattle.event_parts.proofs.Turns.{carried-each, carried-then}

@@ -1,16 +1,18 @@
 -- A tick at ends that hold nothing.
 use Rattle.std.specs.List.{list_all}
 use Rattle.std.specs.Option.{option_and_then, option_map}
-use Rattle.std.proofs.Common.{◌≡◌, ℕ, zero, suc, ◌+◌, ◌-◌, ◌≤◌, ◌<◌, arith, ◌&&◌, not, Bool, true, false, if◌then◌else◌, List, [], ◌∷◌, Option}
+use Rattle.std.proofs.Common.{◌≡◌, ℕ, zero, suc, ◌+◌, ◌-◌, ◌≤◌, ◌<◌, arith, ◌&&◌, not, Bool, true, false, if◌then◌else◌}
+use Rattle.std.proofs.Common.{List, [], ◌∷◌, Option}
 use Rattle.std.proofs.Common.{Some, None, slice_get, slice_set, refl, ap, ap₂, sym, subst, ◌∙◌}
-use Rattle.packet_wires.specs.world_semantics.proofs.Lists.{some-same}
+use Rattle.event_parts.specs.packet_wires.specs.world_semantics.proofs.Lists.{some-same}
 use Rattle.packet_words.specs.Buses.{other_bus}
 use Rattle.link_control.specs.declared.channel.Resent.{Resent}
 use Rattle.link_control.specs.Ends.{End, after_tick, is_empty, is_idle, packet_outstanding, sent_by_tick, after_tick_of}
-use Rattle.packet_wires.specs.Idle.{holds_nothing}
-use Rattle.packet_wires.specs.Nodes.{Node, all_nodes, end_at, numbers}
-use Rattle.packet_wires.specs.Wires.{Wires, Midst, at_end, at_end_of, at_node, end_changed, for_each, goes_again}
-use Rattle.packet_wires.specs.Wires.{nothing_sent, resends, tick_at, with_sent}
+use Rattle.event_parts.specs.packet_wires.specs.Idle.{holds_nothing}
+use Rattle.event_parts.specs.packet_wires.specs.Nodes.{Node, all_nodes, end_at, numbers}
+use Rattle.event_parts.specs.packet_wires.specs.Wires.{Wires, Midst, at_end, at_end_of, at_node, end_changed, for_each}
+use Rattle.event_parts.specs.packet_wires.specs.Wires.{goes_again}
+use Rattle.event_parts.specs.packet_wires.specs.Wires.{nothing_sent, resends, tick_at, with_sent}
 use Rattle.event_parts.specs.Parts.{carried_out}
 use Rattle.node.specs.Calls.{IsQuiet}
 use Rattle.node.proofs.Ends.{set-same}
@@ -92,7 +94,8 @@ holds-none : (x y : ℕ) (nodes : List Node) (node : Node) (e : End) → slice_g
     → slice_get node.ends y ≡ Some e → holds_nothing (end_at nodes x y) ≡ true
     → is_empty e ≡ true
 holds-none x y nodes node e there is nothing =
-    sym (ap (λ (found : Option Node). holds_nothing (option_and_then (λ (one : Node). slice_get one.ends y) found)) there
+    sym
+    (ap (λ (found : Option Node). holds_nothing (option_and_then (λ (one : Node). slice_get one.ends y) found)) there
     ∙ ap holds_nothing is)
     ∙ nothing
 

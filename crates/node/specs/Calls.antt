@@ -9,8 +9,8 @@ use Rattle.packet_words.specs.declared.packet.PacketKind.{PacketKind}
 use Rattle.packet_words.specs.declared.packet.PacketKind.TheVariants as kind
 use Rattle.link_control.specs.Ends.{End, is_empty, after_packet, sent_by_packet}
 use Rattle.alive_regroup.specs.Watching.{Watching}
-use Rattle.packet_wires.specs.Nodes.{Node}
-use Rattle.packet_wires.specs.Wires.{Midst, any_goes_over, end_changed, goes_over}
+use Rattle.event_parts.specs.packet_wires.specs.Nodes.{Node}
+use Rattle.event_parts.specs.packet_wires.specs.Wires.{Midst, any_goes_over, end_changed, goes_over}
 
 -- Nodes
 

@@ -9,6 +9,11 @@
 pub mod node;
 pub mod wires;
 
-pub use message_words;
+pub use event_parts::{ChangeMessage, Effect, ImageMessage};
+pub use link_control::Channel;
+pub use message_words::{
+    NodeMessage, change_words, checkpoint_words, read, reply_words, request_words, set_of,
+    taken_words,
+};
 pub use node::Node;
 pub use wires::PacketWires;

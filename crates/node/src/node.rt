@@ -8,9 +8,9 @@ ghost use Rattle.alive_regroup.specs.Watching.{changed_at, is_held, misses_none,
 ghost use Rattle.link_control.specs.Ends.{after_down, after_packet, after_push, after_tick, alive_of, handed_by_packet};
 ghost use Rattle.link_control.specs.Ends.{End, HasIncarnationLeft, end_after_reload, is_empty, sent_by_packet};
 ghost use Rattle.link_control.specs.Ends.{sent_by_push, sent_by_tick};
-ghost use Rattle.packet_wires.specs.Idle.{holds_nothing};
-ghost use Rattle.packet_wires.specs.Lines.{first_held, line_pulled};
-ghost use Rattle.packet_wires.specs.Nodes.{node_after_reload, node_at_boot};
+ghost use Rattle.event_parts.specs.packet_wires.specs.Idle.{holds_nothing};
+ghost use Rattle.event_parts.specs.packet_wires.specs.Lines.{first_held, line_pulled};
+ghost use Rattle.event_parts.specs.packet_wires.specs.Nodes.{node_after_reload, node_at_boot};
 ghost use Rattle.event_parts.specs.Numbers.{HasNumbersWith, NodeCanPush, NodeCanReload};
 ghost use Rattle.node.specs.Calls.{IsQuiet, told_at_end, with_end_changed, with_watch_changed};
 
@@ -47,7 +47,7 @@ impl Model for Node {
     ghost use Rattle.std.specs.List.{list_all};
     ghost use Rattle.link_control.specs.Ends.{is_empty};
     ghost use Rattle.alive_regroup.specs.Watching.{misses_none};
-    ghost use Rattle.packet_wires.specs.Nodes as nodes;
+    ghost use Rattle.event_parts.specs.packet_wires.specs.Nodes as nodes;
 
     ghost Value = { nodes.Node };
 

@@ -5,21 +5,24 @@ ghost use Rattle.std.specs.Option.{option_and_then, option_copied, option_map};
 ghost use Rattle.packet_words.specs.declared.packet.Packet.{Packet};
 ghost use Rattle.alive_regroup.specs.Watching as watching;
 ghost use Rattle.alive_regroup.specs.Watching.{changed_at};
-ghost use Rattle.packet_wires.specs.Idle.{holds_nothing};
-ghost use Rattle.packet_wires.specs.Lines.{line_pulled};
-ghost use Rattle.packet_wires.specs.Nodes.{Node, end_at, node_after_reload, others};
-ghost use Rattle.packet_wires.specs.Play.{completed, is_current_at};
-ghost use Rattle.packet_wires.specs.Wires.{alive_at, any_goes_over, arrived, at_end, checks, cut_off, declares};
-ghost use Rattle.packet_wires.specs.Wires.{down_at, for_each, goes_again, goes_over, learns, nothing_sent, on_bus};
-ghost use Rattle.packet_wires.specs.Wires.{push_at, reports, resends, tells_alive, tick_at, ticked, wires_at_boot};
-ghost use Rattle.packet_wires.specs.Wires.{loaded_again, without_packet};
+ghost use Rattle.event_parts.specs.packet_wires.specs.Idle.{holds_nothing};
+ghost use Rattle.event_parts.specs.packet_wires.specs.Lines.{line_pulled};
+ghost use Rattle.event_parts.specs.packet_wires.specs.Nodes.{Node, end_at, node_after_reload, others};
+ghost use Rattle.event_parts.specs.packet_wires.specs.Play.{completed, is_current_at};
+ghost use Rattle.event_parts.specs.packet_wires.specs.Wires.{alive_at, any_goes_over, arrived, at_end, checks, cut_off};
+ghost use Rattle.event_parts.specs.packet_wires.specs.Wires.{declares};
+ghost use Rattle.event_parts.specs.packet_wires.specs.Wires.{down_at, for_each, goes_again, goes_over, learns};
+ghost use Rattle.event_parts.specs.packet_wires.specs.Wires.{nothing_sent, on_bus};
+ghost use Rattle.event_parts.specs.packet_wires.specs.Wires.{push_at, reports, resends, tells_alive, tick_at, ticked};
+ghost use Rattle.event_parts.specs.packet_wires.specs.Wires.{wires_at_boot};
+ghost use Rattle.event_parts.specs.packet_wires.specs.Wires.{loaded_again, without_packet};
 ghost use Rattle.event_parts.specs.Numbers.{CanPush, CanReload, HasNumbersAt};
 ghost use Rattle.event_parts.specs.Parts.{carried_out, completed_by, delivered, is_current_in, repeated};
 ghost use Rattle.node.specs.Calls.{IsQuiet, alive_address, arrive_by, both_go};
 
 use crate::node::{NODES, Node};
 use alive_regroup::{ProcessorSet, Watch};
-use bus_model::Bus;
+use event_parts::Bus;
 use gd_words::{List, NoMemory};
 use link_control::{Channel, Resent};
 use message_words::{down_words, report_words};
@@ -41,7 +44,7 @@ pub struct PacketWires {
 }
 
 impl Model for PacketWires {
-    ghost use Rattle.packet_wires.specs.Wires as wires;
+    ghost use Rattle.event_parts.specs.packet_wires.specs.Wires as wires;
 
     ghost Value = { wires.Wires };
 
@@ -134,7 +137,8 @@ impl PacketWires {
         Some(node.watch())
     }
 
-    /// Whether a packet stands at a position of a bus that bears the present incarnations of its sender and its receiver.
+    /// Whether a packet stands at a position of a bus that bears the present incarnations of its sender and its
+    /// receiver.
     pub fn is_current(&self, bus: BusName, position: usize) -> bool
         ensures { result ≡ is_current_in (slice_get (on_bus bus self.now) position) self.now.nodes }
     {

@@ -6,17 +6,17 @@ use Rattle.std.specs.Option.{option_map}
 use Rattle.std.proofs.lemmas.Option.{slice_get-map}
 use Rattle.tal_tree.specs.declared.site.OpenerSpec.{OpenerSpec}
 use Rattle.tal_tree.specs.declared.site.Site.{Site}
-use Rattle.plain_semantics.specs.Openers.{openers_of}
+use Rattle.number_ranges.specs.plain_semantics.specs.Openers.{openers_of}
 use Rattle.checkpoint_image.specs.declared.receive.OpenerBlock.{OpenerBlock}
 use Rattle.checkpoint_image.specs.declared.receive.ReceiveBlock.{ReceiveBlock}
 use Rattle.checkpoint_image.specs.declared.receive.RequestStanding.TheVariants.{Next}
 use Rattle.checkpoint_image.specs.Receive.{Chosen, chosen, holds, standing_by}
 use Rattle.process_control.specs.computed_changes.specs.Fitting.{depths_of}
-use Rattle.sync_ids.specs.Tables.{IsSound, Remembered, are_of_depths, can_hold, is_unanswered}
-use Rattle.sync_ids.proofs.Tables.{and-left, and-right, lengths}
-use Rattle.world_semantics.specs.Core.{Core}
-use Rattle.world_semantics.specs.Own.{Around}
-use Rattle.world_semantics.specs.Running.{own_answer, own_answer_at, own_take, own_took}
+use Rattle.file_calls.specs.sync_ids.specs.Tables.{IsSound, Remembered, are_of_depths, can_hold, is_unanswered}
+use Rattle.file_calls.specs.sync_ids.proofs.Tables.{and-left, and-right, lengths}
+use Rattle.kept_acts.specs.world_semantics.specs.Core.{Core}
+use Rattle.kept_acts.specs.world_semantics.specs.Own.{Around}
+use Rattle.kept_acts.specs.world_semantics.specs.Running.{own_answer, own_answer_at, own_take, own_took}
 use Rattle.node_copies.proofs.Choosing.{chosen-next, request_of}
 
 is-told : {A B : Type 0} (f : A → B) (o : Option A) → is_some (option_map f o) ≡ is_some o

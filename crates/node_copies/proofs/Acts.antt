@@ -6,19 +6,19 @@ use Rattle.tal_tree.specs.declared.act.Act.TheVariants as act
 use Rattle.tal_tree.specs.declared.site.OpenerSpec.{OpenerSpec}
 use Rattle.tal_tree.specs.declared.site.Site.{Site}
 use Rattle.process_semantics.specs.Process as process
-use Rattle.plain_semantics.specs.declared.slot.Opener.{Opener}
-use Rattle.plain_semantics.specs.Openers.{openers_of}
+use Rattle.number_ranges.specs.plain_semantics.specs.declared.slot.Opener.{Opener}
+use Rattle.number_ranges.specs.plain_semantics.specs.Openers.{openers_of}
 use Rattle.checkpoint_image.specs.declared.receive.OpenerBlock.{OpenerBlock}
 use Rattle.process_control.specs.computed_changes.specs.Fitting.{depths_of}
-use Rattle.sync_ids.specs.Tables.{taken_in}
+use Rattle.file_calls.specs.sync_ids.specs.Tables.{taken_in}
 use Rattle.process_control.specs.Cores.{answering_at, answering_of, core_answered, core_answering, core_answering_at}
 use Rattle.process_control.specs.Copies.{CopyState, with_core}
 use Rattle.process_control.specs.declared.told.Answering.{Answering}
-use Rattle.world_semantics.specs.Core.{Core, next_on}
-use Rattle.world_semantics.specs.Messages.{Replying}
-use Rattle.world_semantics.specs.Own.{Around, asked_on, request_to}
-use Rattle.world_semantics.specs.Running.{Own, own_answer, own_answer_at}
-use Rattle.world_semantics.proofs.Lists.{some-same}
+use Rattle.kept_acts.specs.world_semantics.specs.Core.{Core, next_on}
+use Rattle.kept_acts.specs.world_semantics.specs.Messages.{Replying}
+use Rattle.kept_acts.specs.world_semantics.specs.Own.{Around, asked_on, request_to}
+use Rattle.kept_acts.specs.world_semantics.specs.Running.{Own, own_answer, own_answer_at}
+use Rattle.kept_acts.specs.world_semantics.proofs.Lists.{some-same}
 use Rattle.node_copies.specs.Acting.{opener_among}
 use Rattle.node_copies.specs.Seen.{openers_on}
 use Rattle.node_copies.proofs.FileRows.{file-opener}

@@ -6,7 +6,7 @@ use Rattle.checkpoint_image.specs.declared.receive.ReceiveBlock.{ReceiveBlock}
 use Rattle.checkpoint_image.specs.declared.receive.RequestStanding.{RequestStanding}
 use Rattle.checkpoint_image.specs.declared.receive.RequestStanding.TheVariants.{Next, InHand, Kept, Old, Ahead}
 use Rattle.checkpoint_image.specs.Receive.{Chosen, chosen, chosen_by, is_next, standing}
-use Rattle.world_semantics.proofs.Lists.{some-same}
+use Rattle.kept_acts.specs.world_semantics.proofs.Lists.{some-same}
 
 is-next : (s : RequestStanding) → is_next s ≡ true → s ≡ Next
 is-next Next e = refl

@@ -10,7 +10,7 @@ use Rattle.checkpoint_image.specs.declared.receive.RequestStanding.{RequestStand
 use Rattle.checkpoint_image.specs.declared.receive.RequestStanding.TheVariants.{Next, InHand, Kept, Old, Ahead}
 use Rattle.file_calls.specs.Queue.{Queue}
 use Rattle.file_calls.specs.Takeover.{Settled, Settles, no_more, one_more, settled, settled_by}
-use Rattle.world_semantics.specs.Messages.{Replying, Sending, sent_at}
+use Rattle.kept_acts.specs.world_semantics.specs.Messages.{Replying, Sending, sent_at}
 
 -- what was settled so far: the replies that were told, before which those come that are still to be
 pub record SettledSoFar (table : ReceiveBlock) (node : ℕ) (first now : Queue) (before told : List Sending) :

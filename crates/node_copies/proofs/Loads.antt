@@ -3,8 +3,8 @@ use Rattle.tal_tree.specs.declared.site.Kind.{Kind}
 use Rattle.tal_tree.specs.declared.site.Kind.TheVariants as kind
 use Rattle.process_semantics.specs.Process.{start_of}
 use Rattle.processes.specs.Seen.{IsLoadableKind}
-use Rattle.whole_states.specs.Processes.{IsRegularKind, IsWholeProcess}
-use Rattle.whole_states.proofs.Processes.{stays-whole, start-process}
+use Rattle.process_control.specs.whole_states.specs.Processes.{IsRegularKind, IsWholeProcess}
+use Rattle.process_control.specs.whole_states.proofs.Processes.{stays-whole, start-process}
 
 regular : (what : Kind) → IsLoadableKind what → IsRegularKind what
 regular (kind.Disc sectors mirrored) loadable = tt

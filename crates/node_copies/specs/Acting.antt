@@ -5,12 +5,12 @@ use Rattle.std.specs.Option.{option_and_then}
 use Rattle.gd_words.specs.declared.message.Request.{Request}
 use Rattle.tal_tree.specs.declared.site.Site.{Site}
 use Rattle.process_semantics.specs.declared.point.Point.{Point}
-use Rattle.plain_semantics.specs.declared.slot.Opener.{Opener}
+use Rattle.number_ranges.specs.plain_semantics.specs.declared.slot.Opener.{Opener}
 use Rattle.disc_device.specs.Sectors.{Stored}
-use Rattle.world_semantics.specs.Messages.{sent_at}
-use Rattle.world_semantics.specs.Own.{Around, around_with}
-use Rattle.world_semantics.specs.Running.{Own, copy_acted, own_at, records_acted}
-use Rattle.world_semantics.specs.Records.{Records}
+use Rattle.kept_acts.specs.world_semantics.specs.Messages.{sent_at}
+use Rattle.kept_acts.specs.world_semantics.specs.Own.{Around, around_with}
+use Rattle.kept_acts.specs.world_semantics.specs.Running.{Own, copy_acted, own_at, records_acted}
+use Rattle.kept_acts.specs.world_semantics.specs.Records.{Records}
 use Rattle.node_copies.specs.Seen.{CopyAndDepths, step_sendings}
 use Rattle.node_copies.specs.declared.step.StepOutcome.{StepOutcome}
 

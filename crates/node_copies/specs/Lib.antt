@@ -8,3 +8,8 @@ pub use Rattle.process_control
 pub use Rattle.processes
 pub use Rattle.file_calls
 pub use Rattle.sendings
+pub use Rattle.number_ranges.specs.change_layout
+pub use Rattle.process_control.specs.computed_changes
+pub use Rattle.sendings.specs.letters
+pub use Rattle.number_ranges.specs.machine_states
+pub use Rattle.file_calls.specs.sync_ids

@@ -1,10 +1,10 @@
 -- What becomes of a copy to which something came. The rules are those of the world of copies.
 use Rattle.std.specs.Prelude.{Option, Some, None}
-use Rattle.change_layout.specs.declared.message.ChangeMessage.{ChangeMessage}
+use Rattle.number_ranges.specs.change_layout.specs.declared.message.ChangeMessage.{ChangeMessage}
 use Rattle.checkpoint_image.specs.declared.message.ImageMessage.{ImageMessage}
-use Rattle.world_semantics.specs.Core.{Core}
-use Rattle.world_semantics.specs.Passes.{after_getting}
-use Rattle.world_semantics.specs.World.{Copy}
+use Rattle.kept_acts.specs.world_semantics.specs.Core.{Core}
+use Rattle.kept_acts.specs.world_semantics.specs.Passes.{after_getting}
+use Rattle.kept_acts.specs.world_semantics.specs.World.{Copy}
 use Rattle.node_copies.specs.Seen.{CopyAndDepths}
 
 -- a copy and its depths with the copy changed

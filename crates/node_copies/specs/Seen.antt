@@ -5,16 +5,16 @@ use Rattle.tal_tree.specs.declared.program.FileUse.{FileUse}
 use Rattle.tal_tree.specs.declared.site.ProcessSpec.{ProcessSpec}
 use Rattle.tal_tree.specs.declared.site.Site.{Site}
 use Rattle.tal_tree.specs.declared.site.Who.TheVariants as who
-use Rattle.plain_semantics.specs.declared.slot.Opener.{Opener}
-use Rattle.plain_semantics.specs.Openers.{files_of, opener_of}
+use Rattle.number_ranges.specs.plain_semantics.specs.declared.slot.Opener.{Opener}
+use Rattle.number_ranges.specs.plain_semantics.specs.Openers.{files_of, opener_of}
 use Rattle.disc_device.specs.Sectors.{Stored}
 use Rattle.disc_device.specs.mirror.specs.Mirror.{DriveHeld, content}
 use Rattle.disc_device.specs.mirror.specs.States.{states_of}
 use Rattle.disc_device.specs.mirror.specs.declared.state.DriveState.{DriveState}
 use Rattle.process_control.specs.Copies.{CopyState}
-use Rattle.world_semantics.specs.Shares.{Share}
-use Rattle.world_semantics.specs.World.{Copy}
-use Rattle.world_semantics.specs.Messages.{Sending}
+use Rattle.kept_acts.specs.world_semantics.specs.Shares.{Share}
+use Rattle.kept_acts.specs.world_semantics.specs.World.{Copy}
+use Rattle.kept_acts.specs.world_semantics.specs.Messages.{Sending}
 use Rattle.node_copies.specs.declared.step.StepOutcome.{StepOutcome}
 use Rattle.node_copies.specs.declared.step.StepOutcome.TheVariants.{Impossible, Quiet, Sends}
 

@@ -6,9 +6,9 @@ ghost use Rattle.checkpoint_image.specs.Behaving.{last_write_of};
 ghost use Rattle.process_control.specs.computed_changes.specs.Fitting.{depths_of};
 ghost use Rattle.gd_words.specs.Ranges.{HasNext, HasNextLong};
 ghost use Rattle.number_ranges.specs.HasRoom.{CopyHasRoom};
-ghost use Rattle.world_semantics.specs.Core.{next_on};
-ghost use Rattle.world_semantics.specs.Passes.{after_sending, after_sent, checkpoint_of};
-ghost use Rattle.world_semantics.specs.Running.{copy_passed, records_passed};
+ghost use Rattle.kept_acts.specs.world_semantics.specs.Core.{next_on};
+ghost use Rattle.kept_acts.specs.world_semantics.specs.Passes.{after_sending, after_sent, checkpoint_of};
+ghost use Rattle.kept_acts.specs.world_semantics.specs.Running.{copy_passed, records_passed};
 ghost use Rattle.node_copies.specs.Acting.{HasActed, own_in};
 ghost use Rattle.node_copies.specs.Seen.{drives_on, openers_on, sectors_on};
 

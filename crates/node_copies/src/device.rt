@@ -1,6 +1,6 @@
 ghost use Rattle.std.specs.Prelude.{◌≡◌, not};
 ghost use Rattle.disc_device.specs.Sectors.{is_written, stored_after};
-ghost use Rattle.world_semantics.specs.Own.{found_on};
+ghost use Rattle.kept_acts.specs.world_semantics.specs.Own.{found_on};
 ghost use Rattle.disc_device.specs.mirror.specs.Mirror.{content};
 ghost use Rattle.disc_device.specs.mirror.specs.States.{states_of};
 ghost use Rattle.node_copies.specs.Seen.{drives_on, sectors_on};

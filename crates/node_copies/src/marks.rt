@@ -1,6 +1,6 @@
 ghost use Rattle.std.specs.Prelude.{◌≡◌, ◌==◌, ◌&&◌, [], ◌∷◌, OnOk};
-ghost use Rattle.world_semantics.specs.Rules.{without_marks};
-ghost use Rattle.world_semantics.specs.World.{has_noted};
+ghost use Rattle.kept_acts.specs.world_semantics.specs.Rules.{without_marks};
+ghost use Rattle.kept_acts.specs.world_semantics.specs.World.{has_noted};
 
 use gd_words::NoMemory;
 use std::alloc::Global;
@@ -14,7 +14,7 @@ pub struct NotedDown {
 }
 
 impl Model for NotedDown {
-    ghost use Rattle.world_semantics.specs.World as world;
+    ghost use Rattle.kept_acts.specs.world_semantics.specs.World as world;
 
     ghost Value = { world.Down };
 
@@ -39,7 +39,7 @@ pub struct Downs {
 
 impl Model for Downs {
     ghost use Rattle.std.specs.Prelude.{List};
-    ghost use Rattle.world_semantics.specs.World as world;
+    ghost use Rattle.kept_acts.specs.world_semantics.specs.World as world;
 
     ghost Value = { List world.Down };
 

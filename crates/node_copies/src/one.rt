@@ -1,15 +1,14 @@
 ghost use Rattle.std.specs.Prelude.{◌≡◌};
 ghost use Rattle.process_semantics.specs.Process.{point};
-ghost use Rattle.world_semantics.specs.Shares.{share_of};
+ghost use Rattle.kept_acts.specs.world_semantics.specs.Shares.{share_of};
 ghost use Rattle.node_copies.specs.Seen.{control_of};
 
 use file_calls::Waiting;
-use kept_acts::CopyShare;
+use kept_acts::{CopyShare, Role};
 use process_control::CopyControl;
 use process_semantics::Point;
 use processes::Process;
 use std::marker::Model;
-use world_semantics::Role;
 
 /// A copy of a process in its processor, with the requests that wait there and its share of the kept acts.
 #[derive(Drop)]

@@ -22,7 +22,7 @@ pub struct Records {
 impl Model for Records {
     ghost use Rattle.std.specs.Coded.{codes};
     ghost use Rattle.tal_tree.specs.contracts.statement.Statement as statement;
-    ghost use Rattle.world_semantics.specs.Records as happened;
+    ghost use Rattle.kept_acts.specs.world_semantics.specs.Records as happened;
 
     ghost Value = { happened.Records };
 

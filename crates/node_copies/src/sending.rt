@@ -1,9 +1,9 @@
 ghost use Rattle.std.specs.Prelude.{◌≡◌, ◌++◌, ◌∷◌, [], List, Some, length, map, IfOk, OnOk};
 ghost use Rattle.gd_words.specs.declared.message.Request.{Request as AskedRequest};
 ghost use Rattle.gd_words.specs.Ranges.{HasNext};
-ghost use Rattle.world_semantics.specs.Messages.{Asking as AskingMessage, Replying, sent_at};
-ghost use Rattle.world_semantics.specs.Own.{around_with, request_to};
-ghost use Rattle.world_semantics.specs.Running.{after_call};
+ghost use Rattle.kept_acts.specs.world_semantics.specs.Messages.{Asking as AskingMessage, Replying, sent_at};
+ghost use Rattle.kept_acts.specs.world_semantics.specs.Own.{around_with, request_to};
+ghost use Rattle.kept_acts.specs.world_semantics.specs.Running.{after_call};
 ghost use Rattle.node_copies.specs.Acting.{opener_among, requests_in};
 ghost use Rattle.node_copies.specs.Seen.{drives_on, sectors_on, step_sendings};
 

@@ -1,11 +1,10 @@
 ghost use Rattle.std.specs.Prelude.{◌≡◌, ◌++◌, length, map, OnOk};
 ghost use Rattle.checkpoint_image.specs.Receive.{all_repeated, still_waiting};
-ghost use Rattle.world_semantics.specs.Messages.{Replying, sent_at};
+ghost use Rattle.kept_acts.specs.world_semantics.specs.Messages.{Replying, sent_at};
 
-use file_calls::{Waiting, settling_repeats_all_kept_replies};
+use file_calls::{Receive, Waiting, settling_repeats_all_kept_replies};
 use gd_words::{List, NoMemory};
 use sendings::{Message, Sending};
-use sync_ids::Receive;
 
 /// Settles the requests that wait at a copy that takes over: the replies kept to them are added to `told`, as sent by
 /// the node.

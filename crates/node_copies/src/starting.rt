@@ -1,24 +1,23 @@
 ghost use Rattle.std.specs.Prelude.{◌≡◌, ◌≤◌, All, false, length, map, IfOk};
 ghost use Rattle.process_semantics.specs.Process.{in_hand, start_of};
-ghost use Rattle.plain_semantics.specs.Openers.{files_of};
+ghost use Rattle.number_ranges.specs.plain_semantics.specs.Openers.{files_of};
 ghost use Rattle.processes.specs.Seen.{IsLoadableKind, state_of};
-ghost use Rattle.sync_ids.specs.Tables.{IsDepth};
-ghost use Rattle.whole_states.specs.Listing as listing;
-ghost use Rattle.whole_states.specs.Processes.{IsWholeProcess};
+ghost use Rattle.file_calls.specs.sync_ids.specs.Tables.{IsDepth};
+ghost use Rattle.process_control.specs.whole_states.specs.Listing as listing;
+ghost use Rattle.process_control.specs.whole_states.specs.Processes.{IsWholeProcess};
 ghost use Rattle.process_control.specs.Cores.{core_at_start};
-ghost use Rattle.world_semantics.specs.Rules.{blank_copy};
-ghost use Rattle.world_semantics.specs.World.{copy_at_boot};
+ghost use Rattle.kept_acts.specs.world_semantics.specs.Rules.{blank_copy};
+ghost use Rattle.kept_acts.specs.world_semantics.specs.World.{copy_at_boot};
 
 use crate::one::NodeCopy;
 use file_calls::Waiting;
 use gd_words::NoMemory;
-use kept_acts::CopyShare;
-use plain_semantics::files_of;
+use kept_acts::{CopyShare, Role};
+use number_ranges::files_of;
 use process_control::CopyControl;
 use processes::Process;
 use std::alloc::Global;
 use tal_tree::{Kind, OpenerSpec};
-use world_semantics::Role;
 
 impl NodeCopy {
     /// A copy of a process in its processor, at the beginning.

@@ -3,7 +3,7 @@ ghost use Rattle.tal_tree.specs.declared.site.Site.{Site};
 ghost use Rattle.disc_device.specs.Sectors.{Stored};
 ghost use Rattle.process_control.specs.computed_changes.specs.Fitting.{depths_of};
 ghost use Rattle.node_copies.specs.Acting.{own_in};
-ghost use Rattle.world_semantics.specs.Records as happened;
+ghost use Rattle.kept_acts.specs.world_semantics.specs.Records as happened;
 
 use crate::one::NodeCopy;
 use process_semantics::Point;

@@ -55,8 +55,8 @@ pub fn a_loaded_processor_is_watched_anew()
         ≡ Some (only false false true) }
 {}
 
-/// What was heard of a processor before its mark counts at the next check, even if it was loaded again meanwhile; and at
-/// no later one. While it is marked nothing is heard of it.
+/// What was heard of a processor before its mark counts at the next check, even if it was loaded again meanwhile; and
+/// at no later one. While it is marked nothing is heard of it.
 pub fn what_was_heard_counts_at_the_next_check()
     ensures no_check { told_by_tick (after_ticks 3 (after_up 2 heard_and_marked)) ≡ Some (only false true false) }
     ensures check { told_by_tick (after_ticks 3 (after_up 2 (after_ticks 2 heard_and_marked)))

@@ -2,8 +2,8 @@
 use Rattle.std.proofs.Common.{◌≡◌, [], ◌∷◌, ◌++◌, refl}
 use Rattle.std.specs.Int.{int_wrap}
 use denote.Hole.Carrier.{shown, out}
-use Rattle.tal_tree.specs.declared.statement.What.{out-What}
-use Rattle.tal_tree.specs.declared.statement.What.TheBlock.{shown-the_row-Statement-0}
+use Rattle.message_wires.specs.tal_tree.specs.declared.statement.What.{out-What}
+use Rattle.message_wires.specs.tal_tree.specs.declared.statement.What.TheBlock.{shown-the_row-Statement-0}
 use Rattle.schedule.specs.declared.event.Event.TheVariants as event
 use Rattle.message_wires.specs.world_semantics.specs.Examples.{delivery, run}
 use Rattle.message_wires.specs.Examples.{up_to_checkpoint}

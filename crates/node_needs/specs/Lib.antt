@@ -1,2 +1,3 @@
 pub mod Examples
 pub mod NodeNeeds
+pub use Rattle.standing_links

@@ -2,9 +2,9 @@
 -- copies have in hand, and those whose replies its acting copies and terminals await.
 use Rattle.std.specs.Prelude.{ℕ, ◌+◌, ◌==◌, if◌then◌else◌, List, [], ◌∷◌, ◌++◌, slice_get, Option, Some, None}
 use Rattle.gd_words.specs.declared.message.Request.{Request}
-use Rattle.tal_tree.specs.declared.site.Site.{Site}
-use Rattle.checkpoint_image.specs.declared.receive.OpenerBlock.{OpenerBlock}
-use Rattle.checkpoint_image.specs.declared.receive.ReceiveBlock.{ReceiveBlock}
+use Rattle.message_wires.specs.tal_tree.specs.declared.site.Site.{Site}
+use Rattle.message_wires.specs.checkpoint_image.specs.declared.receive.OpenerBlock.{OpenerBlock}
+use Rattle.message_wires.specs.checkpoint_image.specs.declared.receive.ReceiveBlock.{ReceiveBlock}
 use Rattle.message_wires.specs.world_semantics.specs.declared.role.Role.{Role}
 use Rattle.message_wires.specs.world_semantics.specs.declared.role.Role.TheVariants.{Gone}
 use Rattle.message_wires.specs.world_semantics.specs.World.{Copy, Pair, Terminal, World, terminal_node}

@@ -9,4 +9,4 @@
 pub mod laws;
 
 pub use laws::an_event_makes_the_same_with_notes;
-pub use packet_runs;
+pub use packet_runs::{PlayedPackets, ProcessCopies, Ran, sizes_of};

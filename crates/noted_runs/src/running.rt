@@ -8,7 +8,7 @@ ghost use Rattle.noted_runs.specs.Runs.{IsRunWithSteps};
 use crate::noted::NotedPackets;
 use gd_words::{List, NoMemory};
 use logs::Shared;
-use noted_rules::packet_runs::{PlayedPackets, Ran, sizes_of};
+use noted_rules::{PlayedPackets, Ran, sizes_of};
 use player::ProcessorStop;
 use program_ends::LastStep;
 use schedule::Line;

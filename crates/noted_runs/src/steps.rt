@@ -1,16 +1,15 @@
 ghost use Rattle.std.specs.Prelude.{◌≡◌, Some, IfOk};
 ghost use Rattle.std.specs.Option.{option_copied, option_map};
-ghost use Rattle.processes.specs.Seen.{state_of};
+ghost use Rattle.machine_views.specs.processes.specs.Seen.{state_of};
 ghost use Rattle.program_ends.specs.Ends.{end_of_program};
 ghost use Rattle.noted_runs.specs.Steps.{acting_of, end_of_kind, end_of_spec, everything_at_end, has_ended};
 ghost use Rattle.noted_runs.specs.Steps.{is_acting, is_inner, stood_at, stood_by, with_end};
 
 use checkpoint_image::{Behaviour, Listed};
 use gd_words::{List, NoMemory};
-use machine_views::image_of_everything;
-use noted_rules::packet_runs::site_machine::process_copies::ProcessCopies;
+use machine_views::{Process, image_of_everything};
+use noted_rules::ProcessCopies;
 use process_semantics::Point;
-use processes::Process;
 use program_ends::{LastStep, end_of_program};
 use std::alloc::Global;
 use tal_tree::{Kind, ProcessSpec, Program};

@@ -9,7 +9,7 @@ use Rattle.gd_words.proofs.OneWord.{is_wrap}
 use Rattle.process_semantics.specs.declared.disc.DiscState.{DiscState}
 use Rattle.process_semantics.specs.Image.{disc_words, disc_with, restored_disc}
 use Rattle.process_semantics.specs.Words.{long, long_in, half_of, counted, counted_if, counted_in, whole}
-use Rattle.process_images.proofs.Fronts.{words-read}
+use Rattle.checkpoint_image.specs.process_images.proofs.Fronts.{words-read}
 use Rattle.world_semantics.proofs.Lists.{some-same}
 
 half-read : (m : ℕ) → m < 65536 → half_of (wrap (pos m)) ≡ m

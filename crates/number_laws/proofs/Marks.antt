@@ -1,6 +1,7 @@
 -- A stop raises no number, and a mark the eras alone of copies that take over; what a mark sends are requests and
 -- replies.
-use Rattle.std.proofs.Common.{◌≡◌, ◌≤◌, ◌<◌, refl, ℕ, ◌+◌, ◌==◌, Bool, true, false, if◌then◌else◌, List, [], ◌∷◌, ◌++◌, Option}
+use Rattle.std.proofs.Common.{◌≡◌, ◌≤◌, ◌<◌, refl, ℕ, ◌+◌, ◌==◌, Bool, true, false, if◌then◌else◌, List, [], ◌∷◌, ◌++◌}
+use Rattle.std.proofs.Common.{Option}
 use Rattle.std.proofs.Common.{Some, None, slice_get, map, arith, length}
 use Rattle.std.specs.List.{flat_map}
 use Rattle.gd_words.specs.declared.message.Request.{Request}
@@ -19,8 +20,9 @@ use Rattle.world_semantics.specs.World.{Copy, Pair, Terminal, World, copy_of, is
 use Rattle.world_semantics.proofs.Lists.{map-all}
 use Rattle.world_semantics.proofs.Roles.{taker-is}
 use Rattle.computed_changes.specs.Stopped.{stop_if, stop_where, stop_done, marked_where, mark_where, down_done}
-use Rattle.letters.specs.Again.{rerouted, awaited_from, if_acts_on, asks_again, tells_again, of_copies, of_terminals}
-use Rattle.letters.specs.Again.{terminals_ask, sent_again}
+use Rattle.number_ranges.specs.letters.specs.Again.{rerouted, awaited_from, if_acts_on, asks_again, tells_again}
+use Rattle.number_ranges.specs.letters.specs.Again.{of_copies, of_terminals}
+use Rattle.number_ranges.specs.letters.specs.Again.{terminals_ask, sent_again}
 use Rattle.number_laws.proofs.Each.{Each, each-append, each-map, each-always}
 use Rattle.number_laws.proofs.Within.{PairWithin, MessageWithin, AreSendings, WorldWithin, AnyWithin}
 use Rattle.number_laws.proofs.Within.{WatchersWithin, held_of, held_in, held-mapped, filter-few}

@@ -42,8 +42,9 @@ use Rattle.world_semantics.proofs.Lifted.{free_at, lifted, made_if, mark_done, o
 use Rattle.computed_changes.proofs.Lifted.{acknowledged_where, applied_as, applied_made, applied_where, asked_done}
 use Rattle.computed_changes.proofs.Lifted.{checkpoint_done, got_done, got_where, taken_done}
 use Rattle.computed_changes.specs.Stopped.{stop_if, stop_where, stop_done, marked_where, mark_where, down_done}
-use Rattle.letters.specs.Again.{rerouted, awaited_at, awaited_from, entered_last, if_acts_on, asks_again, tells_again}
-use Rattle.letters.specs.Again.{of_copies, of_terminals, terminals_ask, sent_again}
+use Rattle.number_ranges.specs.letters.specs.Again.{rerouted, awaited_at, awaited_from, entered_last, if_acts_on}
+use Rattle.number_ranges.specs.letters.specs.Again.{asks_again, tells_again}
+use Rattle.number_ranges.specs.letters.specs.Again.{of_copies, of_terminals, terminals_ask, sent_again}
 use Rattle.number_laws.proofs.Each.{Each, each-append, each-map, each-always, each-filter}
 
 -- Openers
@@ -214,13 +215,20 @@ module _ (site : Site) (w : World) where
       by true sent = tt
       by false true = tt
       by false false = (tt, tt)
-  run-point number k pair point.Inner = free-named number k pair point.Inner (copy_of k pair).sent (copy_of k pair).renewal
-  run-point number k pair point.Take = free-named number k pair point.Take (copy_of k pair).sent (copy_of k pair).renewal
-  run-point number k pair point.Ask = free-named number k pair point.Ask (copy_of k pair).sent (copy_of k pair).renewal
-  run-point number k pair point.Answer = free-named number k pair point.Answer (copy_of k pair).sent (copy_of k pair).renewal
-  run-point number k pair point.Device = free-named number k pair point.Device (copy_of k pair).sent (copy_of k pair).renewal
-  run-point number k pair point.Await = free-named number k pair point.Await (copy_of k pair).sent (copy_of k pair).renewal
-  run-point number k pair point.Ended = free-named number k pair point.Ended (copy_of k pair).sent (copy_of k pair).renewal
+  run-point number k pair point.Inner =
+      free-named number k pair point.Inner (copy_of k pair).sent (copy_of k pair).renewal
+  run-point number k pair point.Take =
+      free-named number k pair point.Take (copy_of k pair).sent (copy_of k pair).renewal
+  run-point number k pair point.Ask =
+      free-named number k pair point.Ask (copy_of k pair).sent (copy_of k pair).renewal
+  run-point number k pair point.Answer =
+      free-named number k pair point.Answer (copy_of k pair).sent (copy_of k pair).renewal
+  run-point number k pair point.Device =
+      free-named number k pair point.Device (copy_of k pair).sent (copy_of k pair).renewal
+  run-point number k pair point.Await =
+      free-named number k pair point.Await (copy_of k pair).sent (copy_of k pair).renewal
+  run-point number k pair point.Ended =
+      free-named number k pair point.Ended (copy_of k pair).sent (copy_of k pair).renewal
 
   run-role : (number : ℕ) (k : Which) (pair : Pair) (role : Role) → AnyNames site (run_as site number k pair w role)
   run-role number k pair Acting = run-point number k pair (process.point (copy_of k pair).core.state)

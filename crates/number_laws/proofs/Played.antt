@@ -19,16 +19,21 @@ use Rattle.world_semantics.specs.World.{Copy, Pair, World, pairs_at_boot, copy_o
 use Rattle.world_semantics.proofs.Beginning.{all-begin}
 use Rattle.world_semantics.proofs.Lists.{some-same}
 use Rattle.computed_changes.specs.Stopped.{down_done}
-use Rattle.letters.specs.Routes.{Letter, receiver_of, letters_of}
-use Rattle.letters.specs.Again.{sent_again}
-use Rattle.machine_states.specs.States.{Played, Makes, Skips, Would}
-use Rattle.message_wires.specs.Wires.{Sent, Wires, has_room, put_on, wires_after_post, wires_after_posts, is_of}
-use Rattle.message_wires.specs.Wires.{without_number, paid, without_packet, is_due, is_present, put_again}
-use Rattle.message_wires.specs.Play.{MachineState, machine_at_boot, after_done, made_by, after_any, state_after_handing}
-use Rattle.message_wires.specs.Play.{comes_in, deliver_played, lose_played, repeat_played, stop_played, fail_played}
-use Rattle.message_wires.specs.Play.{reload_played, noted_by, notes_from, state_after_tick, tick_played, packet_at}
-use Rattle.message_wires.specs.Play.{play}
-use Rattle.message_wires.specs.Runs.{IsPlayed, played_none, played_more, skipped}
+use Rattle.number_ranges.specs.letters.specs.Routes.{Letter, receiver_of, letters_of}
+use Rattle.number_ranges.specs.letters.specs.Again.{sent_again}
+use Rattle.number_ranges.specs.machine_states.specs.States.{Played, Makes, Skips, Would}
+use Rattle.number_ranges.specs.message_wires.specs.Wires.{Sent, Wires, has_room, put_on, wires_after_post}
+use Rattle.number_ranges.specs.message_wires.specs.Wires.{wires_after_posts, is_sending}
+use Rattle.number_ranges.specs.message_wires.specs.Wires.{without_number, paid, without_packet, is_due, is_current}
+use Rattle.number_ranges.specs.message_wires.specs.Wires.{put_again}
+use Rattle.number_ranges.specs.message_wires.specs.Play.{MachineState, machine_at_boot, after_done, made_by, after_any}
+use Rattle.number_ranges.specs.message_wires.specs.Play.{state_after_handing}
+use Rattle.number_ranges.specs.message_wires.specs.Play.{is_admitted, deliver_played, lose_played, repeat_played}
+use Rattle.number_ranges.specs.message_wires.specs.Play.{stop_played, fail_played}
+use Rattle.number_ranges.specs.message_wires.specs.Play.{reload_played, noted_by, notes_from, state_after_tick}
+use Rattle.number_ranges.specs.message_wires.specs.Play.{tick_played, packet_at}
+use Rattle.number_ranges.specs.message_wires.specs.Play.{play}
+use Rattle.number_ranges.specs.message_wires.specs.Runs.{IsPlayed, played_none, played_more, skipped}
 use Rattle.gd_words.specs.Ranges.{HasNext}
 use Rattle.number_ranges.specs.HasRoom.{CopyHasRoom, TerminalHasRoom, HasRoom}
 use Rattle.number_laws.proofs.Each.{Each, each-all, each-more, each-get, each-append, each-map, each-always}
@@ -41,7 +46,7 @@ use Rattle.number_laws.proofs.Runs.{run-within}
 use Rattle.number_laws.proofs.Hands.{handed-within, enter-within}
 use Rattle.number_laws.proofs.Marks.{AnyWatchersWithin, stop-within, mark-within, mark-watchers, again-within}
 use Rattle.number_laws.proofs.Reloads.{AreKinds, reload-within}
-use Rattle.machine_states.proofs.Turning.{drive-cases}
+use Rattle.number_ranges.specs.machine_states.proofs.Turning.{drive-cases}
 
 -- Wires
 
@@ -82,7 +87,7 @@ module _ (n : ℕ) (kinds : ℕ → Bool) where
 
   without-within : (number : ℕ) (all : List Sent) → AreSent n kinds all → AreSent n kinds (without_number number all)
   without-within number [] are = tt
-  without-within number (one ∷ rest) are = by (is_of number one) (without-within number rest are.1)
+  without-within number (one ∷ rest) are = by (is_sending number one) (without-within number rest are.1)
     where
       by : (test : Bool) → AreSent n kinds (without_number number rest)
           → AreSent n kinds (if test then rest else one ∷ without_number number rest)
@@ -216,7 +221,7 @@ module _ (n : ℕ) (kinds : ℕ → Bool) (low : n < 4294967295) (s : MachineSta
       → PlayedWithin (n + 1) kinds (deliver_played k s packet)
   deliver-within y k None there = tt
   deliver-within y k (Some packet) there =
-      by (is_present s.wires.before packet && comes_in (record s { wires = without_packet k s.wires }) packet.letter)
+      by (is_current s.wires.before packet && is_admitted (record s { wires = without_packet k s.wires }) packet.letter)
     where
       by : (test : Bool)
           → WholeWithin (n + 1) kinds

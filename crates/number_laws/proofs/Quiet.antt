@@ -220,13 +220,20 @@ module _ (site : Site) (w : World) where
       by true sent = passed _
       by false true = tt
       by false false = sent-quiet number k pair
-  run-point number k pair point.Inner = free-quiet number k pair point.Inner (copy_of k pair).sent (copy_of k pair).renewal
-  run-point number k pair point.Take = free-quiet number k pair point.Take (copy_of k pair).sent (copy_of k pair).renewal
-  run-point number k pair point.Ask = free-quiet number k pair point.Ask (copy_of k pair).sent (copy_of k pair).renewal
-  run-point number k pair point.Answer = free-quiet number k pair point.Answer (copy_of k pair).sent (copy_of k pair).renewal
-  run-point number k pair point.Device = free-quiet number k pair point.Device (copy_of k pair).sent (copy_of k pair).renewal
-  run-point number k pair point.Await = free-quiet number k pair point.Await (copy_of k pair).sent (copy_of k pair).renewal
-  run-point number k pair point.Ended = free-quiet number k pair point.Ended (copy_of k pair).sent (copy_of k pair).renewal
+  run-point number k pair point.Inner =
+      free-quiet number k pair point.Inner (copy_of k pair).sent (copy_of k pair).renewal
+  run-point number k pair point.Take =
+      free-quiet number k pair point.Take (copy_of k pair).sent (copy_of k pair).renewal
+  run-point number k pair point.Ask =
+      free-quiet number k pair point.Ask (copy_of k pair).sent (copy_of k pair).renewal
+  run-point number k pair point.Answer =
+      free-quiet number k pair point.Answer (copy_of k pair).sent (copy_of k pair).renewal
+  run-point number k pair point.Device =
+      free-quiet number k pair point.Device (copy_of k pair).sent (copy_of k pair).renewal
+  run-point number k pair point.Await =
+      free-quiet number k pair point.Await (copy_of k pair).sent (copy_of k pair).renewal
+  run-point number k pair point.Ended =
+      free-quiet number k pair point.Ended (copy_of k pair).sent (copy_of k pair).renewal
 
   run-role : (number : ℕ) (k : Which) (pair : Pair) (role : Role) → IsQuietAny w (run_as site number k pair w role)
   run-role number k pair Acting = run-point number k pair (process.point (copy_of k pair).core.state)

@@ -13,20 +13,25 @@ use Rattle.world_semantics.specs.Messages.{Asking, Sending}
 use Rattle.world_semantics.specs.Running.{Done}
 use Rattle.world_semantics.specs.World.{World, is_running}
 use Rattle.computed_changes.specs.Stopped.{down_done}
-use Rattle.letters.specs.Routes.{Letter, receiver_of, letters_of}
-use Rattle.letters.specs.Again.{sent_again}
-use Rattle.machine_states.specs.States.{Played, Makes, Skips, Would}
-use Rattle.message_wires.specs.Wires.{Sent, Wires, has_room, put_on, wires_after_post, wires_after_posts, is_of}
-use Rattle.message_wires.specs.Wires.{without_number, paid, without_packet, is_due, is_present, put_again}
-use Rattle.message_wires.specs.Play.{MachineState, after_done, made_by, after_any, state_after_handing, comes_in}
-use Rattle.message_wires.specs.Play.{deliver_played, lose_played, repeat_played, stop_played, fail_played}
-use Rattle.message_wires.specs.Play.{reload_played, noted_by, notes_from, state_after_tick, tick_played, packet_at}
-use Rattle.message_wires.specs.Play.{play}
-use Rattle.message_wires.specs.Runs.{IsPlayed, played_none, played_more, skipped}
+use Rattle.number_ranges.specs.letters.specs.Routes.{Letter, receiver_of, letters_of}
+use Rattle.number_ranges.specs.letters.specs.Again.{sent_again}
+use Rattle.number_ranges.specs.machine_states.specs.States.{Played, Makes, Skips, Would}
+use Rattle.number_ranges.specs.message_wires.specs.Wires.{Sent, Wires, has_room, put_on, wires_after_post}
+use Rattle.number_ranges.specs.message_wires.specs.Wires.{wires_after_posts, is_sending}
+use Rattle.number_ranges.specs.message_wires.specs.Wires.{without_number, paid, without_packet, is_due, is_current}
+use Rattle.number_ranges.specs.message_wires.specs.Wires.{put_again}
+use Rattle.number_ranges.specs.message_wires.specs.Play.{MachineState, after_done, made_by, after_any}
+use Rattle.number_ranges.specs.message_wires.specs.Play.{state_after_handing, is_admitted}
+use Rattle.number_ranges.specs.message_wires.specs.Play.{deliver_played, lose_played, repeat_played, stop_played}
+use Rattle.number_ranges.specs.message_wires.specs.Play.{fail_played}
+use Rattle.number_ranges.specs.message_wires.specs.Play.{reload_played, noted_by, notes_from, state_after_tick}
+use Rattle.number_ranges.specs.message_wires.specs.Play.{tick_played, packet_at}
+use Rattle.number_ranges.specs.message_wires.specs.Play.{play}
+use Rattle.number_ranges.specs.message_wires.specs.Runs.{IsPlayed, played_none, played_more, skipped}
 use Rattle.number_laws.proofs.Each.{Each, each-get, each-append, each-filter, each-remove}
 use Rattle.number_laws.proofs.Openers.{Names, AreNaming, AnyNames, run-named, enter-named, handed-named, stop-named}
 use Rattle.number_laws.proofs.Openers.{mark-named, again-named}
-use Rattle.machine_states.proofs.Turning.{drive-cases}
+use Rattle.number_ranges.specs.machine_states.proofs.Turning.{drive-cases}
 
 -- Wires
 
@@ -73,7 +78,7 @@ module _ (site : Site) where
 
   without-named : (number : ℕ) (all : List Sent) → AreSent all → AreSent (without_number number all)
   without-named number [] are = tt
-  without-named number (one ∷ rest) are = by (is_of number one) (without-named number rest are.1)
+  without-named number (one ∷ rest) are = by (is_sending number one) (without-named number rest are.1)
     where
       by : (test : Bool) → AreSent (without_number number rest)
           → AreSent (if test then rest else one ∷ without_number number rest)
@@ -170,7 +175,7 @@ module _ (s : MachineState) (names : WholeNames s) where
   deliver-named : (k : ℕ) (packet : Option Sent) → PlayedNames (deliver_played k s packet)
   deliver-named k None = tt
   deliver-named k (Some packet) =
-      by (is_present s.wires.before packet && comes_in (record s { wires = without_packet k s.wires }) packet.letter)
+      by (is_current s.wires.before packet && is_admitted (record s { wires = without_packet k s.wires }) packet.letter)
     where
       by : (test : Bool)
           → WholeNames (if test then state_after_handing packet (record s { wires = without_packet k s.wires }) else

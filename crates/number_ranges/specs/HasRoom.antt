@@ -3,7 +3,7 @@
 -- the count of letters 64. The ranges are our own.
 use Rattle.std.specs.Prelude.{◌≡◌, ◌<◌, ℕ, ◌^◌, length, slice_get, Some}
 use Rattle.std.specs.List.{All}
-use Rattle.gd_words.specs.Ranges.{HasNext, HasNextLong}
+use Rattle.message_wires.specs.gd_words.specs.Ranges.{HasNext, HasNextLong}
 use Rattle.schedule.specs.declared.event.Event.{Event}
 use Rattle.message_wires.specs.checkpoint_image.specs.declared.receive.OpenerBlock.{OpenerBlock}
 use Rattle.message_wires.specs.checkpoint_image.specs.Behaving.{last_write_of}

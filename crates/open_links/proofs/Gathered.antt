@@ -5,19 +5,20 @@ use Rattle.std.proofs.Common.{Option, Some, None, option_to_list, slice_get, ref
 use Rattle.std.proofs.Common.{append_assoc}
 use Rattle.std.proofs.lemmas.Option.{slice_get_read}
 use Rattle.gd_words.specs.declared.message.Request.{Request}
-use Rattle.tal_tree.specs.declared.site.Site.{Site}
-use Rattle.sync_ids.specs.Tables.{IsSound, Remembered, are_of_depths, can_hold, is_unanswered, last_taken}
-use Rattle.sync_ids.proofs.Tables.{and-left, and-right, lengths}
-use Rattle.world_semantics.specs.checkpoint_image.specs.declared.receive.OpenerBlock.{OpenerBlock}
-use Rattle.world_semantics.specs.World.{Copy, Terminal, World, terminal_node}
-use Rattle.world_semantics.proofs.Lists.{some-same}
+use Rattle.world_copies.specs.tal_tree.specs.declared.site.Site.{Site}
+use Rattle.world_copies.specs.sync_ids.specs.Tables.{IsSound, Remembered, are_of_depths, can_hold, is_unanswered}
+use Rattle.world_copies.specs.sync_ids.specs.Tables.{last_taken}
+use Rattle.world_copies.specs.sync_ids.proofs.Tables.{and-left, and-right, lengths}
+use Rattle.world_copies.specs.world_semantics.specs.checkpoint_image.specs.declared.receive.OpenerBlock.{OpenerBlock}
+use Rattle.world_copies.specs.world_semantics.specs.World.{Copy, Terminal, World, terminal_node}
+use Rattle.world_copies.specs.world_semantics.proofs.Lists.{some-same}
 use Rattle.world_copies.specs.sendings.specs.letters.specs.Again.{awaited_from}
 use Rattle.world_copies.specs.process_copies.specs.Seen.{Placed}
 use Rattle.world_copies.specs.Seen.{ArePlaced, pairs_in}
-use Rattle.standing_links.specs.Needs.{Name, Needs}
+use Rattle.node_needs.specs.standing_links.specs.Needs.{Name, Needs}
 use Rattle.node_needs.specs.NodeNeeds.{awaited_at, in_hand_at, in_hand_by, needs_at, of_copies, of_terminals}
 use Rattle.node_needs.specs.NodeNeeds.{waiting_at}
-use Rattle.open_links.specs.Parts.{awaited_by, awaited_of, in_hand_of, waiting_of}
+use Rattle.open_links.specs.Parts.{awaited_by_terminal, awaited_of, in_hand_of, waiting_of}
 
 -- Processes
 
@@ -75,7 +76,8 @@ place-step {A} first xs k told more so_far says =
 
 terminals-more : (site : Site) (n k : ℕ) (terminals : List Terminal)
     → of_terminals (awaited_from site) n (drop k terminals)
-    ≡ awaited_by site n (slice_get terminals k) ++ of_terminals (awaited_from site) (n + 1) (drop (k + 1) terminals)
+    ≡ awaited_by_terminal site n (slice_get terminals k)
+    ++ of_terminals (awaited_from site) (n + 1) (drop (k + 1) terminals)
 terminals-more site n zero [] = refl
 terminals-more site n (suc k) [] = let e : suc k + 1 ≡ suc (k + 1) = omega arith in rw e refl
 terminals-more site n zero (terminal ∷ terminals) = refl
@@ -84,13 +86,13 @@ terminals-more site n (suc k) (terminal ∷ terminals) =
 
 -- once what the terminal at a place awaits was added, what is left leads to the same
 pub terminal-step : (site : Site) (k : ℕ) (terminals : List Terminal) (told more : List Request)
-    → more ≡ told ++ awaited_by site k (slice_get terminals k)
+    → more ≡ told ++ awaited_by_terminal site k (slice_get terminals k)
     → more ++ of_terminals (awaited_from site) (k + 1) (drop (k + 1) terminals)
     ≡ told ++ of_terminals (awaited_from site) k (drop k terminals)
 terminal-step site k terminals told more says =
     let rest : List Request = of_terminals (awaited_from site) (k + 1) (drop (k + 1) terminals) in
     ap (λ (all : List Request). all ++ rest) says
-    ∙ append_assoc told (awaited_by site k (slice_get terminals k)) rest
+    ∙ append_assoc told (awaited_by_terminal site k (slice_get terminals k)) rest
     ∙ ap (λ (all : List Request). told ++ all) (sym (terminals-more site k k terminals))
 
 -- Requests in hand
@@ -168,5 +170,6 @@ module _ (site : Site) (w : World) (node : ℕ) (places : List Placed) (placed :
       ap (λ (l : List Request). made l in_hand all) (waits ∙ waiting-is)
       ∙ ap (λ (l : List Name). made (needs_at site w node).waiting l all) (holds ∙ in_hand-is)
       ∙ ap (λ (l : List Request). made (needs_at site w node).waiting (needs_at site w node).in_hand l)
-      (more ∙ ap (λ (l : List Request). l ++ (if node == terminal_node then of_terminals (awaited_from site) 0 w.terminals
+      (more
+      ∙ ap (λ (l : List Request). l ++ (if node == terminal_node then of_terminals (awaited_from site) 0 w.terminals
       else [])) (asks ∙ awaited-is))

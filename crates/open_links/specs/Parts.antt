@@ -1,11 +1,11 @@
 -- The open links of a node that are for one process or for one terminal. Our own rule.
 use Rattle.std.specs.Prelude.{ℕ, List, [], ◌++◌, Option, Some, None}
 use Rattle.gd_words.specs.declared.message.Request.{Request}
-use Rattle.tal_tree.specs.declared.site.Site.{Site}
-use Rattle.world_semantics.specs.World.{Terminal}
+use Rattle.world_copies.specs.tal_tree.specs.declared.site.Site.{Site}
+use Rattle.world_copies.specs.world_semantics.specs.World.{Terminal}
 use Rattle.world_copies.specs.sendings.specs.letters.specs.Again.{awaited_from}
 use Rattle.world_copies.specs.process_copies.specs.Seen.{Placed}
-use Rattle.standing_links.specs.Needs.{Name}
+use Rattle.node_needs.specs.standing_links.specs.Needs.{Name}
 use Rattle.node_needs.specs.NodeNeeds.{awaited_at, in_hand_at, waiting_at}
 
 -- the requests that wait at both copies of a process
@@ -22,6 +22,6 @@ awaited_of node one =
     awaited_at one.site node one.number one.pair.first ++ awaited_at one.site node one.number one.pair.second
 
 -- the request whose reply the terminal of a number awaits, if it is there
-abbrev pub awaited_by : Site → ℕ → Option Terminal → List Request
-awaited_by site number None = []
-awaited_by site number (Some terminal) = awaited_from site number terminal
+abbrev pub awaited_by_terminal : Site → ℕ → Option Terminal → List Request
+awaited_by_terminal site number None = []
+awaited_by_terminal site number (Some terminal) = awaited_from site number terminal

@@ -1,14 +1,10 @@
 ghost use Rattle.std.specs.Prelude.{◌≡◌, ◌++◌, option_to_list, slice_get, OnOk};
 ghost use Rattle.node_needs.specs.NodeNeeds.{awaited_at, in_hand_at, in_hand_by, waiting_at};
-ghost use Rattle.world_semantics.specs.World.{copy_of};
+ghost use Rattle.world_copies.specs.world_semantics.specs.World.{copy_of};
 
 use crate::links::RequestName;
 use gd_words::{List, NoMemory, Request};
-use world_copies::file_calls::Waiting;
-use world_copies::node_copies::NodeCopy;
-use world_copies::process_copies::ProcessCopies;
-use world_copies::sendings::copy_request;
-use world_semantics::{Role, Which};
+use world_copies::{NodeCopy, ProcessCopies, Role, Waiting, Which, copy_request};
 
 /// The requests that wait at the copies of a process, if they are at a node, are added to `requests`.
 pub(crate) fn add_waiting(

@@ -10,5 +10,8 @@ pub mod telling;
 
 pub use links::{NodeLinks, RequestName};
 pub use telling::links_of;
-pub use world_copies;
-pub use world_copies::{process_control, processes, sendings};
+pub use world_copies::laws::a_closed_world_has_the_closed_run;
+pub use world_copies::{
+    CopyControl, CopyShare, Disc, Downs, DriveState, Message, NodeCopy, Process, ProcessCopies,
+    Sending, StepOutcome, Terminal, Waiting, WorldCopies, copy_request,
+};

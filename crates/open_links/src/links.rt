@@ -12,7 +12,7 @@ pub struct NodeLinks {
 }
 
 impl Model for NodeLinks {
-    ghost use Rattle.standing_links.specs.Needs.{Needs};
+    ghost use Rattle.node_needs.specs.standing_links.specs.Needs.{Needs};
 
     ghost Value = { Needs };
 
@@ -32,7 +32,7 @@ pub struct RequestName {
 }
 
 impl Model for RequestName {
-    ghost use Rattle.standing_links.specs.Needs.{Name};
+    ghost use Rattle.node_needs.specs.standing_links.specs.Needs.{Name};
 
     ghost Value = { Name };
 

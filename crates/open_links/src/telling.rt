@@ -1,17 +1,15 @@
 ghost use Rattle.std.specs.Prelude.{◌≡◌, ◌==◌, ◌++◌, if◌then◌else◌, [], slice_get, IfOk, OnOk};
 ghost use Rattle.std.specs.List.{flat_map};
 ghost use Rattle.node_needs.specs.NodeNeeds.{needs_at, of_terminals};
-ghost use Rattle.open_links.specs.Parts.{awaited_by, awaited_of, in_hand_of, waiting_of};
+ghost use Rattle.open_links.specs.Parts.{awaited_by_terminal, awaited_of, in_hand_of, waiting_of};
 ghost use Rattle.world_copies.specs.sendings.specs.letters.specs.Again.{awaited_from};
-ghost use Rattle.world_semantics.specs.World.{terminal_node};
+ghost use Rattle.world_copies.specs.world_semantics.specs.World.{terminal_node};
 
 use crate::copies::{add_awaited, add_in_hand, add_request, add_waiting};
 use crate::links::{NodeLinks, RequestName};
 use gd_words::{List, NoMemory, Request};
 use std::alloc::Global;
-use world_copies::WorldCopies;
-use world_copies::process_copies::ProcessCopies;
-use world_copies::sendings::TERMINAL_NODE;
+use world_copies::{ProcessCopies, TERMINAL_NODE, WorldCopies};
 
 /// The open links of a node.
 pub fn links_of(alloc: Global, world: &WorldCopies, node: u8) -> Result<NodeLinks, NoMemory>
@@ -103,7 +101,7 @@ fn add_awaited_by(
     requests: &mut List<Request>,
 ) -> Result<(), NoMemory>
     ensures { OnOk result (requests.new ≡ requests.old
-        ++ awaited_by world.now.site number (slice_get world.now.world.terminals number)) }
+        ++ awaited_by_terminal world.now.site number (slice_get world.now.world.terminals number)) }
 {
     match world.terminals().get(number) {
         None => Ok(()),

@@ -9,7 +9,7 @@ use Rattle.packet_words.specs.declared.packet.PacketKind.TheVariants.{Alive}
 use Rattle.machine_states.specs.States.{Skips, Would, SecondStop}
 use Rattle.world_semantics.specs.Running.{Done}
 use Rattle.computed_changes.specs.Stopped.{reload_done}
-use Rattle.packet_wires.specs.Play.{Packeted, begun, comes_in, ended, out_of, play, reload_acted, sent_by}
+use Rattle.packet_wires.specs.Play.{Packeted, underway, comes_in, ended, out_of, play, reload_acted, sent_by}
 use Rattle.packet_wires.specs.Sights.{end_of, state_after}
 use Rattle.packet_wires.specs.Examples.{adder_at_boot, loaded_0, taken_over}
 use Rattle.packet_guards.specs.States.{bears, has_moved, one_gone, packet, packet_of, ticks, told}
@@ -44,7 +44,7 @@ pub a-reload-touches-no-bus-x : (s : Packeted) (processor : ℕ)
 a-reload-touches-no-bus-x s processor = by (reload_done s.site processor s.world)
   where
     by : (done : Option Done)
-        → (state_after (ended s.wires (reload_acted processor (begun s) done)) s).wires.x ≡ s.wires.x
+        → (state_after (ended s.wires (reload_acted processor (underway s) done)) s).wires.x ≡ s.wires.x
     by None = refl
     by (Some done) = refl
 
@@ -53,14 +53,14 @@ pub a-reload-touches-no-bus-y : (s : Packeted) (processor : ℕ)
 a-reload-touches-no-bus-y s processor = by (reload_done s.site processor s.world)
   where
     by : (done : Option Done)
-        → (state_after (ended s.wires (reload_acted processor (begun s) done)) s).wires.y ≡ s.wires.y
+        → (state_after (ended s.wires (reload_acted processor (underway s) done)) s).wires.y ≡ s.wires.y
     by None = refl
     by (Some done) = refl
 
 pub a-reload-touches-no-bus-out : (s : Packeted) (processor : ℕ) → sent_by s (event.Reload processor) ≡ []
 a-reload-touches-no-bus-out s processor = by (reload_done s.site processor s.world)
   where
-    by : (done : Option Done) → out_of (reload_acted processor (begun s) done) ≡ []
+    by : (done : Option Done) → out_of (reload_acted processor (underway s) done) ≡ []
     by None = refl
     by (Some done) = refl
 
@@ -96,27 +96,27 @@ pub channels-of-a-loaded-node-begin-anew-stays : has_moved loaded_0 1 16 ≡ Som
 unfolding out-What shown-the_row-Statement-0 shown out int_wrap
 channels-of-a-loaded-node-begin-anew-stays = refl
 
-pub only-packets-of-now-come-in-to-it : comes_in (packet_of 0 1 1 0 Alive) (begun loaded_0) ≡ true
+pub only-packets-of-now-come-in-to-it : comes_in (packet_of 0 1 1 0 Alive) (underway loaded_0) ≡ true
 unfolding out-What shown-the_row-Statement-0 shown out int_wrap
 only-packets-of-now-come-in-to-it = refl
 
-pub only-packets-of-now-come-in-from-it : comes_in (packet_of 1 0 0 1 Alive) (begun loaded_0) ≡ true
+pub only-packets-of-now-come-in-from-it : comes_in (packet_of 1 0 0 1 Alive) (underway loaded_0) ≡ true
 unfolding out-What shown-the_row-Statement-0 shown out int_wrap
 only-packets-of-now-come-in-from-it = refl
 
-pub only-packets-of-now-come-in-old-to-it : comes_in (packet 1 0 Alive) (begun loaded_0) ≡ false
+pub only-packets-of-now-come-in-old-to-it : comes_in (packet 1 0 Alive) (underway loaded_0) ≡ false
 unfolding out-What shown-the_row-Statement-0 shown out int_wrap
 only-packets-of-now-come-in-old-to-it = refl
 
-pub only-packets-of-now-come-in-old-from-it : comes_in (packet 0 1 Alive) (begun loaded_0) ≡ false
+pub only-packets-of-now-come-in-old-from-it : comes_in (packet 0 1 Alive) (underway loaded_0) ≡ false
 unfolding out-What shown-the_row-Statement-0 shown out int_wrap
 only-packets-of-now-come-in-old-from-it = refl
 
-pub only-packets-of-now-come-in-early : comes_in (packet_of 0 2 1 0 Alive) (begun loaded_0) ≡ false
+pub only-packets-of-now-come-in-early : comes_in (packet_of 0 2 1 0 Alive) (underway loaded_0) ≡ false
 unfolding out-What shown-the_row-Statement-0 shown out int_wrap
 only-packets-of-now-come-in-early = refl
 
-pub only-packets-of-now-come-in-elsewhere : comes_in (packet 1 16 Alive) (begun loaded_0) ≡ true
+pub only-packets-of-now-come-in-elsewhere : comes_in (packet 1 16 Alive) (underway loaded_0) ≡ true
 unfolding out-What shown-the_row-Statement-0 shown out int_wrap
 only-packets-of-now-come-in-elsewhere = refl
 

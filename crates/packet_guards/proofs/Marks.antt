@@ -9,7 +9,7 @@ use Rattle.machine_states.specs.States.{Skips}
 use Rattle.message_layout.specs.Messages.{Declaring}
 use Rattle.packet_wires.specs.Idle.{holds_nothing}
 use Rattle.packet_wires.specs.Nodes.{end_at}
-use Rattle.packet_wires.specs.Play.{begun, handed, play}
+use Rattle.packet_wires.specs.Play.{underway, handed, play}
 use Rattle.packet_wires.specs.Sights.{alive, end_of, last, seen}
 use Rattle.packet_wires.specs.Examples.{adder_at_boot, taken_over}
 use Rattle.packet_guards.specs.States.{one_gone}
@@ -40,6 +40,6 @@ pub who-has-stopped-does-nothing-runs : (seen (end_of one_gone (event.Enter 0 �
 unfolding out-What shown-the_row-Statement-0 shown out int_wrap
 who-has-stopped-does-nothing-runs = refl
 
-pub no-mark-on-suspicion-runs : handed 1 (Declaring 0) (begun adder_at_boot) ≡ begun adder_at_boot
+pub no-mark-on-suspicion-runs : handed 1 (Declaring 0) (underway adder_at_boot) ≡ underway adder_at_boot
 unfolding out-What shown-the_row-Statement-0 shown out int_wrap
 no-mark-on-suspicion-runs = refl

@@ -4,7 +4,7 @@ ghost use Rattle.schedule.specs.declared.event.Event.TheVariants as event;
 ghost use Rattle.packet_words.specs.declared.packet.PacketKind.TheVariants.{Alive};
 ghost use Rattle.machine_states.specs.States.{Skips, Would, SecondStop};
 ghost use Rattle.world_semantics.specs.World.{is_whole};
-ghost use Rattle.packet_wires.specs.Play.{Packeted, begun, comes_in, play, sent_by};
+ghost use Rattle.packet_wires.specs.Play.{Packeted, underway, comes_in, play, sent_by};
 ghost use Rattle.packet_wires.specs.Sights.{end_of};
 ghost use Rattle.packet_wires.specs.Examples.{adder_at_boot, loaded_0, taken_over};
 ghost use Rattle.packet_guards.specs.States.{bears, has_moved, one_gone, packet, packet_of, ticks, told};
@@ -42,12 +42,12 @@ pub fn channels_of_a_loaded_node_begin_anew()
 /// A packet comes in if it bears the incarnations that its sender and its receiver have now, and is dropped if it bears
 /// another one of either.
 pub fn only_packets_of_now_come_in()
-    ensures to_it { comes_in (packet_of 0 1 1 0 Alive) (begun loaded_0) ≡ true }
-    ensures from_it { comes_in (packet_of 1 0 0 1 Alive) (begun loaded_0) ≡ true }
-    ensures old_to_it { comes_in (packet 1 0 Alive) (begun loaded_0) ≡ false }
-    ensures old_from_it { comes_in (packet 0 1 Alive) (begun loaded_0) ≡ false }
-    ensures early { comes_in (packet_of 0 2 1 0 Alive) (begun loaded_0) ≡ false }
-    ensures elsewhere { comes_in (packet 1 16 Alive) (begun loaded_0) ≡ true }
+    ensures to_it { comes_in (packet_of 0 1 1 0 Alive) (underway loaded_0) ≡ true }
+    ensures from_it { comes_in (packet_of 1 0 0 1 Alive) (underway loaded_0) ≡ true }
+    ensures old_to_it { comes_in (packet 1 0 Alive) (underway loaded_0) ≡ false }
+    ensures old_from_it { comes_in (packet 0 1 Alive) (underway loaded_0) ≡ false }
+    ensures early { comes_in (packet_of 0 2 1 0 Alive) (underway loaded_0) ≡ false }
+    ensures elsewhere { comes_in (packet 1 16 Alive) (underway loaded_0) ≡ true }
 {}
 
 /// Two checks have to miss it as any other: what was missed before is forgotten. The world isn't whole then, so the

@@ -9,8 +9,8 @@ use Rattle.agendas.specs.Agendas.{Agenda}
 use Rattle.packet_numbers.specs.packet_wires.specs.Play.{Packeted, packeted_at_boot}
 use Rattle.packet_runs.proofs.Played.{played}
 use Rattle.packet_runs.specs.Runs.{course_on, packet_rules, sizes_of}
-use Rattle.schedule_loop.specs.Ends.{Plays}
-use Rattle.schedule_loop.specs.Rules.{IsPlayBy, sight_of}
+use Rattle.line_lengths.specs.schedule_loop.specs.Ends.{Plays}
+use Rattle.line_lengths.specs.schedule_loop.specs.Rules.{IsPlayBy, sight_of}
 use Rattle.line_lengths.specs.Lengths.{KeepsTo}
 use Rattle.line_lengths.proofs.Lengths as any_machine
 use Rattle.packet_lengths.specs.Lengths.{both_buses, most_events}

@@ -10,7 +10,7 @@ use Rattle.packet_numbers.specs.accepted_sites.specs.Premises.{IsAcceptedSite}
 use Rattle.packet_numbers.specs.accepted_sites.proofs.Accepted.{accepted-fit}
 use Rattle.packet_numbers.specs.awaited_requests.specs.Seats.{IsLaidOut}
 use Rattle.packet_numbers.specs.packet_wires.specs.Play.{Packeted}
-use Rattle.schedule_loop.specs.Ends.{CanBePlayed, Plays}
+use Rattle.line_lengths.specs.schedule_loop.specs.Ends.{CanBePlayed, Plays}
 use Rattle.packet_runs.specs.site_machine.specs.Needs.{IsReady}
 use Rattle.packet_numbers.specs.packets_played.proofs.Small.{small-of}
 use Rattle.packet_numbers.proofs.Ready.{is-ready}

@@ -8,3 +8,7 @@ pub use Rattle.packet_runs.specs.site_machine
 pub use Rattle.packet_runs.specs.world_copies
 pub use Rattle.packet_numbers.specs.packet_wires
 pub use Rattle.packet_numbers.specs.processes
+pub use Rattle.packet_numbers.specs.node_copies
+pub use Rattle.line_lengths.specs.schedule_loop
+pub use Rattle.packet_numbers.specs.sync_ids
+pub use Rattle.packet_numbers.specs.world_semantics

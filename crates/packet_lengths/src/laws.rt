@@ -11,7 +11,7 @@ ghost use Rattle.packet_numbers.specs.awaited_requests.specs.Seats.{IsLaidOut};
 ghost use Rattle.packet_words.specs.declared.bus_name.BusName.{BusName};
 ghost use Rattle.packet_numbers.specs.packet_wires.specs.Play.{Packeted, count_on};
 ghost use Rattle.packet_numbers.specs.packet_wires.specs.Runs.{IsPlayed};
-ghost use Rattle.schedule_loop.specs.Ends.{CanBePlayed, Plays};
+ghost use Rattle.line_lengths.specs.schedule_loop.specs.Ends.{CanBePlayed, Plays};
 ghost use Rattle.packet_runs.specs.site_machine.specs.Needs.{IsReady};
 ghost use Rattle.packet_runs.specs.Runs.{course_on, packet_rules};
 ghost use Rattle.deck_reader.specs.Limits.{IsWithinDeckLimits};

@@ -8,11 +8,12 @@
 
 pub mod laws;
 
-pub use deck_reader;
+pub use deck_reader::{
+    Deck, a_deck_keeps_the_limits, a_deck_reads_its_programs, requests_of_a_deck_are_short,
+};
 pub use laws::{
     a_bus_has_room_for_its_packets, a_schedule_asks_for_few_events,
     a_schedule_asks_for_so_many_events, an_accepted_site_can_be_played,
 };
-pub use packet_numbers::packets_played;
-pub use packet_runs;
-pub use packet_runs::world_copies;
+pub use packet_numbers::{an_idle_end_that_is_played_leaves_none, what_is_played_is_possible};
+pub use packet_runs::{a_closed_world_has_the_closed_run, events_of_a_schedule_are_played};

@@ -1,3 +1,4 @@
 pub mod Owing
 pub mod Passing
 pub mod Tied
+pub use Rattle.packet_wires

@@ -22,15 +22,19 @@ use Rattle.alive_regroup.specs.Watching as watching
 use Rattle.alive_regroup.specs.Watching.{Watching, changed_at, told_by_tick}
 use Rattle.world_semantics.specs.World.{is_running, terminal_node}
 use Rattle.world_semantics.proofs.Lists.{map-all, set-all, set-other, set-there}
-use Rattle.message_layout.specs.Messages.{NodeMessage, Reporting, Declaring}
-use Rattle.packet_wires.specs.Parcels.{Parcel}
-use Rattle.message_layout.specs.Layout.{words_of}
-use Rattle.packet_wires.specs.Nodes.{Node, all_nodes, node_after_reload, others, with_end, with_watch}
-use Rattle.packet_wires.specs.Wires as wires
-use Rattle.packet_wires.specs.Wires.{Midst, goes_over, any_goes_over, goes_again, at_node, at_end_of, at_end}
-use Rattle.packet_wires.specs.Wires.{end_changed, watch_changed, learns, for_each, push_at, sends, sends_all, posted}
-use Rattle.packet_wires.specs.Wires.{all_posted, bus_of_answer, heard_of, arrive_at, arrived, alive_at, tells_alive}
-use Rattle.packet_wires.specs.Wires.{reports, check_at, checks, tick_at, down_at, cut_off, declares}
+use Rattle.site_machine.specs.message_layout.specs.Messages.{NodeMessage, Reporting, Declaring}
+use Rattle.site_machine.specs.packet_wires.specs.Parcels.{Parcel}
+use Rattle.site_machine.specs.message_layout.specs.Layout.{words_of}
+use Rattle.site_machine.specs.packet_wires.specs.Nodes.{Node, all_nodes, node_after_reload, others, with_end}
+use Rattle.site_machine.specs.packet_wires.specs.Nodes.{with_watch}
+use Rattle.site_machine.specs.packet_wires.specs.Wires as wires
+use Rattle.site_machine.specs.packet_wires.specs.Wires.{Midst, goes_over, any_goes_over, goes_again, at_node, at_end_of}
+use Rattle.site_machine.specs.packet_wires.specs.Wires.{at_end}
+use Rattle.site_machine.specs.packet_wires.specs.Wires.{end_changed, watch_changed, learns, for_each, push_at, sends}
+use Rattle.site_machine.specs.packet_wires.specs.Wires.{sends_all, posted}
+use Rattle.site_machine.specs.packet_wires.specs.Wires.{all_posted, bus_of_answer, heard_of, arrive_at, arrived}
+use Rattle.site_machine.specs.packet_wires.specs.Wires.{alive_at, tells_alive}
+use Rattle.site_machine.specs.packet_wires.specs.Wires.{reports, check_at, checks, tick_at, down_at, cut_off, declares}
 use Rattle.site_machine.specs.Needs.{BearsReloads, times_loaded}
 
 -- between events: at most so many pieces were numbered at an end, and at most so many kept there; and the end bears how
@@ -66,8 +70,18 @@ module _ (n : ℕ) (reloads : List ℕ) where
             sending = if test then begun (message ∷ []) e.sending.numbered else record e.sending
                 { queue = e.sending.queue ++ message ∷ [] };
           })
-      queued up true idle = let most = goes.2 up idle in (omega (arith, most), goes.1, λ same none. absurd cc, record { sender = goes.3.sender; receiver = goes.3.receiver })
-      queued up false idle = (goes.0, goes.1, λ same none. absurd (busy message e.sending.queue none), record { sender = goes.3.sender; receiver = goes.3.receiver })
+      queued up true idle = let most = goes.2 up idle in (
+        omega (arith, most),
+        goes.1,
+        λ same none. absurd cc,
+        record { sender = goes.3.sender; receiver = goes.3.receiver },
+      )
+      queued up false idle = (
+        goes.0,
+        goes.1,
+        λ same none. absurd (busy message e.sending.queue none),
+        record { sender = goes.3.sender; receiver = goes.3.receiver },
+      )
 
       by : (down : Bool) → e.down ≡ down
           → GoesTo n reloads (if down then e else record e { sending = after_push_of message e.sending })
@@ -215,7 +229,8 @@ module _ (n : ℕ) (reloads : List ℕ) where
   pushing-goes x y words midst all =
       all-end x y (push_at x y words) midst all
       (λ node e there is. any-same bus.X (sent_by_push words e) (end_changed x y node (after_push words e) midst)
-      (all-set x y node (after_push words e) midst.nodes there (push-goes n reloads words e (all x node there y e is)) all))
+      (all-set x y node (after_push words e) midst.nodes there
+      (push-goes n reloads words e (all x node there y e is)) all))
 
   ticking-goes : (x y : ℕ) → Keeps (at_end x y (tick_at x y))
   ticking-goes x y midst all =

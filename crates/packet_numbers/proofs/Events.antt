@@ -21,25 +21,30 @@ use Rattle.computed_changes.specs.Stopped.{stop_done, stop_if, stop_where, down_
 use Rattle.computed_changes.proofs.Changed.{change-each}
 use Rattle.letters.specs.Routes.{letters_of}
 use Rattle.letters.specs.Again.{sent_again}
-use Rattle.machine_states.specs.States.{Played, Makes, Skips, Would}
+use Rattle.number_laws.specs.machine_states.specs.States.{Played, Makes, Skips, Would}
 use Rattle.number_laws.proofs.Reloads.{CanReload, reload-cases, reloads_to}
-use Rattle.message_layout.specs.Messages.{NodeMessage, Carrying, Changing, Reporting, Declaring}
-use Rattle.message_layout.specs.Reading.{understood}
-use Rattle.packet_wires.specs.Nodes.{Node, all_nodes, end_at, never_reloaded, node_at_boot, nodes_at_boot}
-use Rattle.packet_wires.specs.Parcels.{parcels_of}
-use Rattle.packet_wires.specs.Wires.{Wires, Midst, bus_named, arrived, ticked, cut_off}
-use Rattle.packet_wires.specs.Play.{Packeted, Underway, begun, after_done, made_by, after_any, marked_by}
-use Rattle.packet_wires.specs.Play.{marks, handed, handed_any, handed_words, completed, received, deliver_acted}
-use Rattle.packet_wires.specs.Play.{lose_acted, repeat_acted, stop_acted, fail_acted, reload_acted, comes_in}
-use Rattle.packet_wires.specs.Play.{marks_and_declares, pulled_first, pulled, pulls, line_of, pulls_its, tick_acted}
-use Rattle.packet_wires.specs.Play.{packet_at, acted, taken_off, ended, play}
-use Rattle.packet_wires.specs.Runs.{IsPlayed, played_none, played_more, skipped}
+use Rattle.site_machine.specs.message_layout.specs.Messages.{NodeMessage, Carrying, Changing, Reporting, Declaring}
+use Rattle.site_machine.specs.message_layout.specs.Reading.{understood}
+use Rattle.site_machine.specs.packet_wires.specs.Nodes.{Node, all_nodes, end_at, never_reloaded, node_at_boot}
+use Rattle.site_machine.specs.packet_wires.specs.Nodes.{nodes_at_boot}
+use Rattle.site_machine.specs.packet_wires.specs.Parcels.{parcels_of}
+use Rattle.site_machine.specs.packet_wires.specs.Wires.{Wires, Midst, bus_named, arrived, ticked, cut_off}
+use Rattle.site_machine.specs.packet_wires.specs.Play.{Packeted, Underway, underway, after_done, made_by, after_any}
+use Rattle.site_machine.specs.packet_wires.specs.Play.{marked_by}
+use Rattle.site_machine.specs.packet_wires.specs.Play.{marks, handed, handed_any, handed_words, completed, received}
+use Rattle.site_machine.specs.packet_wires.specs.Play.{deliver_acted}
+use Rattle.site_machine.specs.packet_wires.specs.Play.{lose_acted, repeat_acted, stop_acted, fail_acted, reload_acted}
+use Rattle.site_machine.specs.packet_wires.specs.Play.{comes_in}
+use Rattle.site_machine.specs.packet_wires.specs.Play.{marks_and_declares, pulled_running, pulled, pulls, line_of}
+use Rattle.site_machine.specs.packet_wires.specs.Play.{pulls_its, tick_acted}
+use Rattle.site_machine.specs.packet_wires.specs.Play.{packet_at, acted, taken_off, ended, play}
+use Rattle.site_machine.specs.packet_wires.specs.Runs.{IsPlayed, played_none, played_more, skipped}
 use Rattle.site_machine.specs.Needs.{AllBearReloads, HaveNumbersLeft, times_loaded}
 use Rattle.packet_numbers.proofs.Ends.{RestsAt, OfEnds, rest-goes, goes-rest, AllGo, learns-go}
 use Rattle.packet_numbers.proofs.Ends.{arrived-goes, all-posted-go, ticked-goes, cut-off-goes, declares-go}
 use Rattle.packet_numbers.proofs.Ends.{loaded-all-rest}
 use Rattle.packet_numbers.proofs.Loading.{LoadsNone, run-none, enter-none, handed-none, mark-none}
-use Rattle.machine_states.proofs.Turning.{drive-cases}
+use Rattle.number_laws.specs.machine_states.proofs.Turning.{drive-cases}
 use Rattle.world_semantics.proofs.Lists.{mapped}
 
 -- Parts of an event
@@ -126,7 +131,7 @@ module _ (n : ℕ) where
   pulls-go node s None all = all
   pulls-go node s (Some processor) all = by (slice_get s.world.stopped processor)
     where
-      first : (done : Option Done) → LoadsNone s.world done → AnyGoes (pulled_first node processor s done)
+      first : (done : Option Done) → LoadsNone s.world done → AnyGoes (pulled_running node processor s done)
       first None none = tt
       first (Some done) none =
           declaring-goes node processor (record s { world = done.world }) (same-goes s done none all)
@@ -142,54 +147,54 @@ module _ (n : ℕ) where
     all : AllGo n s.world.reloads s.wires.nodes
     all x node there y e is = rest-goes n s.world.reloads e (rest x node there y e is)
 
-    deliver-goes : (name : BusName) (packet : Option Packet) → AnyGoes (deliver_acted name (begun s) packet)
+    deliver-goes : (name : BusName) (packet : Option Packet) → AnyGoes (deliver_acted name (underway s) packet)
     deliver-goes name None = tt
-    deliver-goes name (Some packet) = by (comes_in packet (begun s))
+    deliver-goes name (Some packet) = by (comes_in packet (underway s))
       where
-        by : (comes : Bool) → Goes (if comes then received name packet (begun s) else begun s)
+        by : (comes : Bool) → Goes (if comes then received name packet (underway s) else underway s)
         by true =
             words-go packet.receiver (completed packet (end_at s.wires.nodes packet.receiver packet.sender))
-            (record (begun s) { wires = arrived name packet (begun s).wires })
-            (arrived-goes n s.world.reloads name packet (begun s).wires rest)
+            (record (underway s) { wires = arrived name packet (underway s).wires })
+            (arrived-goes n s.world.reloads name packet (underway s).wires rest)
         by false = all
 
-    lose-goes : (packet : Option Packet) → AnyGoes (lose_acted (begun s) packet)
+    lose-goes : (packet : Option Packet) → AnyGoes (lose_acted (underway s) packet)
     lose-goes None = tt
     lose-goes (Some packet) = all
 
-    repeat-goes : (name : BusName) (packet : Option Packet) → AnyGoes (repeat_acted name (begun s) packet)
+    repeat-goes : (name : BusName) (packet : Option Packet) → AnyGoes (repeat_acted name (underway s) packet)
     repeat-goes name None = tt
     repeat-goes name (Some packet) = all
 
-    tick-goes : (node : ℕ) → AnyGoes (tick_acted node (begun s))
+    tick-goes : (node : ℕ) → AnyGoes (tick_acted node (underway s))
     tick-goes node = by (is_running s.world.stopped node)
       where
         by : (runs : Bool) → AnyGoes (if runs then pulls_its node
-            (record (begun s) { wires = ticked s.site.processors node (begun s).wires }) else Skips)
+            (record (underway s) { wires = ticked s.site.processors node (underway s).wires }) else Skips)
         by true =
-            pulls-go node (record (begun s) { wires = ticked s.site.processors node (begun s).wires })
-            (line_of node (record (begun s) { wires = ticked s.site.processors node (begun s).wires }))
-            (ticked-goes n s.world.reloads s.site.processors node (begun s).wires all)
+            pulls-go node (record (underway s) { wires = ticked s.site.processors node (underway s).wires })
+            (line_of node (record (underway s) { wires = ticked s.site.processors node (underway s).wires }))
+            (ticked-goes n s.world.reloads s.site.processors node (underway s).wires all)
         by false = tt
 
     stop-goes : (processor : ℕ) (done : Option Done) → LoadsNone s.world done
-        → AnyGoes (stop_acted processor (begun s) done)
+        → AnyGoes (stop_acted processor (underway s) done)
     stop-goes processor None none = tt
-    stop-goes processor (Some done) none = same-goes (begun s) done none all
+    stop-goes processor (Some done) none = same-goes (underway s) done none all
 
-    fail-goes : (processor : ℕ) (stopped : Option Bool) → AnyGoes (fail_acted processor (begun s) stopped)
+    fail-goes : (processor : ℕ) (stopped : Option Bool) → AnyGoes (fail_acted processor (underway s) stopped)
     fail-goes processor None = tt
     fail-goes processor (Some true) = tt
     fail-goes processor (Some false) =
         stop-goes processor (stop_done processor s.world) (stop-none s.world processor)
 
     reload-goes : (processor : ℕ)
-        → AnyGoes (reload_acted processor (begun s) (reload_done s.site processor s.world))
+        → AnyGoes (reload_acted processor (underway s) (reload_done s.site processor s.world))
     reload-goes processor =
-        reload-cases (λ done. AnyGoes (reload_acted processor (begun s) done)) s.site processor s.world tt of
+        reload-cases (λ done. AnyGoes (reload_acted processor (underway s) done)) s.site processor s.world tt of
       where
         of : (times : ℕ) → CanReload s.world processor times
-            → AnyGoes (reload_acted processor (begun s) (Some (reloads_to s.site processor times s.world)))
+            → AnyGoes (reload_acted processor (underway s) (Some (reloads_to s.site processor times s.world)))
         of times can x node there y e is =
             rest-goes n (slice_set s.world.reloads processor (times + 1)) e
             (loaded-all-rest n s.world.reloads s.site.processors processor times can.there s.wires.nodes rest x node
@@ -197,16 +202,16 @@ module _ (n : ℕ) where
 
     acted-goes : (event : Event) → AnyGoes (acted s event)
     acted-goes (Run number) =
-        made-goes (begun s) (run_done s.site number s.world) (run-none s.site s.world number) all
+        made-goes (underway s) (run_done s.site number s.world) (run-none s.site s.world number) all
     acted-goes (Enter terminal) =
-        made-goes (begun s) (enter_done s.site terminal s.world) (enter-none s.site s.world terminal) all
+        made-goes (underway s) (enter_done s.site terminal s.world) (enter-none s.site s.world terminal) all
     acted-goes (Deliver y k) = deliver-goes (bus_named y) (packet_at s (bus_named y) k)
     acted-goes (Lose y k) = lose-goes (packet_at s (bus_named y) k)
     acted-goes (Repeat y k) = repeat-goes (bus_named y) (packet_at s (bus_named y) k)
     acted-goes (Tick node) = tick-goes node
     acted-goes (Fail processor) = fail-goes processor (slice_get s.world.stopped processor)
     acted-goes (Reload processor) = reload-goes processor
-    acted-goes (Drive event) = drive-cases event (begun s) AnyGoes (λ drives. all) tt (λ process. tt)
+    acted-goes (Drive event) = drive-cases event (underway s) AnyGoes (λ drives. all) tt (λ process. tt)
 
   abbrev RestsAfter : Played Wires → Type 0
   RestsAfter (Makes next) = OfEnds (RestsAt (n + 1) next.world.reloads) next.wires.nodes
@@ -214,7 +219,8 @@ module _ (n : ℕ) where
   RestsAfter (Would harm) = Unit {0}
 
   ended-rests : (wires : Wires) (played : Played Midst) → AnyGoes played → RestsAfter (ended wires played)
-  ended-rests wires (Makes next) goes = λ x node there y e is. goes-rest n next.world.reloads e (goes x node there y e is)
+  ended-rests wires (Makes next) goes = λ x node there y e is.
+      goes-rest n next.world.reloads e (goes x node there y e is)
   ended-rests wires Skips goes = tt
   ended-rests wires (Would harm) goes = tt
 

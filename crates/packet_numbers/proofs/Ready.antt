@@ -6,8 +6,8 @@ use Rattle.computed_changes.specs.Laws.{HasCopiesApart}
 use Rattle.packets_played.specs.takeover_laws.specs.Fit.{IsFit}
 use Rattle.packets_played.specs.awaited_requests.specs.Seats.{IsLaidOut}
 use Rattle.packets_played.specs.letters_layout.specs.Fitting.{IsSmall}
-use Rattle.packet_wires.specs.Play.{Packeted}
-use Rattle.packet_wires.specs.Runs.{IsPlayed}
+use Rattle.site_machine.specs.packet_wires.specs.Play.{Packeted}
+use Rattle.site_machine.specs.packet_wires.specs.Runs.{IsPlayed}
 use Rattle.packets_played.specs.packets_laws.proofs.Going.{played-site}
 use Rattle.packets_played.specs.packets_laws.proofs.Runs.{played-post}
 use Rattle.site_machine.specs.Needs.{IsReady, SendsWithin}

@@ -16,9 +16,9 @@ use Rattle.plain_semantics.specs.Openers.{openers_of}
 use Rattle.process_semantics.specs.Process as process
 use Rattle.checkpoint_image.specs.declared.message.ImageMessage.{ImageMessage}
 use Rattle.checkpoint_image.specs.declared.message.TakenMessage.{TakenMessage}
-use Rattle.message_layout.specs.change_layout.specs.Changing.{whole_of, whole_where}
-use Rattle.message_layout.specs.change_layout.specs.declared.message.ChangeMessage.{ChangeMessage}
-use Rattle.message_layout.specs.change_layout.specs.sync_ids.specs.Changes.{fits_change}
+use Rattle.site_machine.specs.message_layout.specs.change_layout.specs.Changing.{whole_of, whole_where}
+use Rattle.site_machine.specs.message_layout.specs.change_layout.specs.declared.message.ChangeMessage.{ChangeMessage}
+use Rattle.site_machine.specs.message_layout.specs.change_layout.specs.sync_ids.specs.Changes.{fits_change}
 use Rattle.checkpoint_image.specs.Receive.{repeated}
 use Rattle.world_semantics.specs.declared.role.Role.{Role}
 use Rattle.world_semantics.specs.declared.role.Role.TheVariants.{Acting, Watching, Blank, Gone}
@@ -67,9 +67,9 @@ use Rattle.packets_played.specs.letter_laws.proofs.Given.{message-of}
 use Rattle.packets_played.specs.letter_laws.proofs.Honest.{played-honest}
 use Rattle.packets_played.specs.letter_laws.proofs.Reached.{stop-is}
 use Rattle.packets_played.specs.letter_laws.proofs.Replies.{kept-sent}
-use Rattle.message_layout.specs.Messages.{NodeMessage, Carrying, Changing}
-use Rattle.message_layout.specs.Layout.{Fits, IsCarriedWithin, IsTakenWithin, IsWithin}
-use Rattle.packet_wires.specs.Parcels.{form_of}
+use Rattle.site_machine.specs.message_layout.specs.Messages.{NodeMessage, Carrying, Changing}
+use Rattle.site_machine.specs.message_layout.specs.Layout.{Fits, IsCarriedWithin, IsTakenWithin, IsWithin}
+use Rattle.site_machine.specs.packet_wires.specs.Parcels.{form_of}
 use Rattle.packets_played.specs.letters_layout.specs.Fitting.{IsSmall}
 use Rattle.packets_played.specs.letters_layout.proofs.Checkpoints.{change-fits, checkpoint-fits, taken-fits}
 use Rattle.packets_played.specs.letters_layout.proofs.Replies.{reply-fits}

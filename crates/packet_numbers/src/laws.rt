@@ -11,9 +11,9 @@ ghost use Rattle.packets_played.specs.awaited_requests.specs.Seats.{IsLaidOut};
 ghost use Rattle.letters.specs.Posts.{Post, HasPlayed};
 ghost use Rattle.packets_played.specs.letters_layout.specs.Fitting.{IsSmall};
 ghost use Rattle.link_control.specs.Ends.{End};
-ghost use Rattle.packet_wires.specs.Nodes.{Node};
-ghost use Rattle.packet_wires.specs.Play.{Packeted};
-ghost use Rattle.packet_wires.specs.Runs.{IsPlayed};
+ghost use Rattle.site_machine.specs.packet_wires.specs.Nodes.{Node};
+ghost use Rattle.site_machine.specs.packet_wires.specs.Play.{Packeted};
+ghost use Rattle.site_machine.specs.packet_wires.specs.Runs.{IsPlayed};
 ghost use Rattle.site_machine.specs.Needs.{HaveNumbersLeft, IsReady, SendsWithin};
 
 /// At each end of each node at most as many pieces were numbered as events were played, and at most as many kept: an

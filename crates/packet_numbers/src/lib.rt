@@ -7,4 +7,4 @@
 
 pub mod laws;
 
-pub use packets_played;
+pub use packets_played::{an_idle_end_that_is_played_leaves_none, what_is_played_is_possible};

@@ -35,10 +35,11 @@ use Rattle.message_layout.specs.Reading.{understood}
 use Rattle.packet_wires.specs.Nodes.{end_at}
 use Rattle.packet_wires.specs.Parcels.{Parcel, parcel_of, parcels_of}
 use Rattle.packet_wires.specs.Wires.{Wires, Midst, bus_named, goes_over, arrived, learns, ticked, cut_off}
-use Rattle.packet_wires.specs.Play.{Packeted, Underway, begun, after_done, made_by, after_any, after_marked, marked_by}
+use Rattle.packet_wires.specs.Play.{Packeted, Underway, underway, after_done, made_by, after_any, after_marked}
+use Rattle.packet_wires.specs.Play.{marked_by}
 use Rattle.packet_wires.specs.Play.{marks, handed, handed_any, handed_words, completed, received, deliver_acted}
 use Rattle.packet_wires.specs.Play.{comes_in, lose_acted, repeat_acted, stop_acted, fail_acted, marks_and_declares}
-use Rattle.packet_wires.specs.Play.{pulled_first, pulled, pulls, line_of, pulls_its, tick_acted, packet_at, acted}
+use Rattle.packet_wires.specs.Play.{pulled_running, pulled, pulls, line_of, pulls_its, tick_acted, packet_at, acted}
 use Rattle.packet_wires.specs.Play.{taken_off, ended, play}
 use Rattle.packet_places.specs.Places.{KeepsItsOwn, CopiesStay, StaysElsewhere}
 use Rattle.packet_places.proofs.Copies.{IsDoneAt, AnyAt, SomeAt, keeps-same, run-somewhere, enter-there, handed-there}
@@ -190,7 +191,7 @@ StaysIf node s Skips = Unit {0}
 StaysIf node s (Would harm) = Unit {0}
 
 -- what is taken off a bus, and what is put on, is at no node
-over-stays : (node : ℕ) (s : Packeted) (wires : Wires) (played : Played Midst) → KeepsIf node (begun s) played
+over-stays : (node : ℕ) (s : Packeted) (wires : Wires) (played : Played Midst) → KeepsIf node (underway s) played
     → StaysIf node s (ended wires played)
 over-stays node s wires (Makes next) keeps = record { nodes = keeps.nodes; copies = keeps.copies }
 over-stays node s wires Skips keeps = tt
@@ -212,9 +213,9 @@ pub deliver-stays : (s next : Packeted) (y : Bool) (k : ℕ) (packet : Packet)
     → StaysElsewhere packet.receiver s next
 deliver-stays s next y k packet there made =
     subst (StaysIf packet.receiver s) (ap (λ o.
-    ended (taken_off (Deliver y k) s.wires) (deliver_acted (bus_named y) (begun s) o)) (sym there) ∙ made)
+    ended (taken_off (Deliver y k) s.wires) (deliver_acted (bus_named y) (underway s) o)) (sym there) ∙ made)
     (over-stays packet.receiver s (taken_off (Deliver y k) s.wires)
-    (deliver_acted (bus_named y) (begun s) (Some packet)) (deliver-found (bus_named y) (begun s) packet))
+    (deliver_acted (bus_named y) (underway s) (Some packet)) (deliver-found (bus_named y) (underway s) packet))
 
 pub lose-stays : (s next : Packeted) (y : Bool) (k node : ℕ) → play s (Lose y k) ≡ Makes next
     → StaysElsewhere node s next
@@ -222,9 +223,9 @@ lose-stays s next y k node made =
     subst (StaysIf node s) made (over-stays node s (taken_off (Lose y k) s.wires) (acted s (Lose y k))
     (by (packet_at s (bus_named y) k)))
   where
-    by : (found : Option Packet) → KeepsIf node (begun s) (lose_acted (begun s) found)
+    by : (found : Option Packet) → KeepsIf node (underway s) (lose_acted (underway s) found)
     by None = tt
-    by (Some packet) = same-stays (begun s)
+    by (Some packet) = same-stays (underway s)
 
 pub repeat-stays : (s next : Packeted) (y : Bool) (k node : ℕ) → play s (Repeat y k) ≡ Makes next
     → StaysElsewhere node s next
@@ -232,9 +233,9 @@ repeat-stays s next y k node made =
     subst (StaysIf node s) made (over-stays node s (taken_off (Repeat y k) s.wires) (acted s (Repeat y k))
     (by (packet_at s (bus_named y) k)))
   where
-    by : (found : Option Packet) → KeepsIf node (begun s) (repeat_acted (bus_named y) (begun s) found)
+    by : (found : Option Packet) → KeepsIf node (underway s) (repeat_acted (bus_named y) (underway s) found)
     by None = tt
-    by (Some packet) = wires-stay (begun s) (goes_over (bus_named y) packet (begun s).wires) (λ x n. refl)
+    by (Some packet) = wires-stay (underway s) (goes_over (bus_named y) packet (underway s).wires) (λ x n. refl)
 
 -- Runs and entries
 
@@ -248,10 +249,10 @@ run-stays s next number made =
     Somewhere Skips = Unit {0}
     Somewhere (Would harm) = Unit {0}
 
-    by : (done : Option Done) → SomeAt s.world done → Somewhere (ended s.wires (made_by (begun s) done))
+    by : (done : Option Done) → SomeAt s.world done → Somewhere (ended s.wires (made_by (underway s) done))
     by None at = tt
     by (Some done) (node, at) =
-        (node, over-stays node s s.wires (Makes (after_done (begun s) done)) (done-stays (begun s) done at))
+        (node, over-stays node s s.wires (Makes (after_done (underway s) done)) (done-stays (underway s) done at))
 
 pub enter-stays : (s next : Packeted) (terminal : ℕ) → play s (Enter terminal) ≡ Makes next
     → StaysElsewhere terminal_node s next
@@ -260,9 +261,9 @@ enter-stays s next terminal made =
     (by (enter_done s.site terminal s.world) (enter-there s.site terminal s.world)))
   where
     by : (done : Option Done) → AnyAt terminal_node s.world done
-        → KeepsIf terminal_node (begun s) (made_by (begun s) done)
+        → KeepsIf terminal_node (underway s) (made_by (underway s) done)
     by None at = tt
-    by (Some done) at = done-stays (begun s) done at
+    by (Some done) at = done-stays (underway s) done at
 
 -- Stops
 
@@ -349,16 +350,16 @@ pub fail-stays : (s next : Packeted) (processor node : ℕ) → play s (Fail pro
     → StaysElsewhere node s next
 fail-stays s next processor node made =
     subst (StaysIf node s) made (over-stays node s s.wires (acted s (Fail processor))
-    (fail-keeps (begun s) processor node (slice_get s.world.stopped processor)))
+    (fail-keeps (underway s) processor node (slice_get s.world.stopped processor)))
 
 -- What becomes of drives
 
 pub drive-stays : (s next : Packeted) (event : DriveEvent) (node : ℕ) → play s (Drive event) ≡ Makes next
     → StaysElsewhere node s next
 drive-stays s next event node made =
-    let same : Keeps node (begun s) (begun s) = same-stays (begun s) in
+    let same : Keeps node (underway s) (underway s) = same-stays (underway s) in
     subst (StaysIf node s) made (over-stays node s s.wires (acted s (Drive event))
-    (drive-cases event (begun s) (KeepsIf node (begun s))
+    (drive-cases event (underway s) (KeepsIf node (underway s))
     (λ drives. record { nodes = same.nodes; copies = same.copies }) tt (λ process. tt)))
 
 -- Ticks
@@ -393,7 +394,7 @@ tick-keeps s node = by (is_running s.world.stopped node)
         through s (ticked s.site.processors node s.wires) only
         (told-stay node processor (record s { wires = ticked s.site.processors node s.wires })).stays
     pull processor (Some false) =
-        stop-cases (λ done. KeepsIf node s (pulled_first node processor
+        stop-cases (λ done. KeepsIf node s (pulled_running node processor
         (record s { wires = ticked s.site.processors node s.wires }) done)) processor s.world tt
         (λ runs. through s (ticked s.site.processors node s.wires) only
         (held-stays node processor (record s { wires = ticked s.site.processors node s.wires }) runs))
@@ -410,4 +411,4 @@ tick-keeps s node = by (is_running s.world.stopped node)
 
 pub tick-stays : (s next : Packeted) (node : ℕ) → play s (Tick node) ≡ Makes next → StaysElsewhere node s next
 tick-stays s next node made =
-    subst (StaysIf node s) made (over-stays node s s.wires (acted s (Tick node)) (tick-keeps (begun s) node))
+    subst (StaysIf node s) made (over-stays node s s.wires (acted s (Tick node)) (tick-keeps (underway s) node))

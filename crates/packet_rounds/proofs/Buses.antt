@@ -14,7 +14,8 @@ use Rattle.computed_changes.specs.Entered.{enter_done}
 use Rattle.computed_changes.specs.Stopped.{reload_done, stop_done}
 use Rattle.machine_states.specs.States.{Played, Makes, Skips, Would}
 use Rattle.packet_wires.specs.Wires.{Wires, Midst, bus_named, packets_over, all_put, loaded_again}
-use Rattle.packet_wires.specs.Play.{Packeted, Underway, begun, comes_in, deliver_acted, ended, fail_acted, lose_acted}
+use Rattle.packet_wires.specs.Play.{Packeted, Underway, underway, comes_in, deliver_acted, ended, fail_acted}
+use Rattle.packet_wires.specs.Play.{lose_acted}
 use Rattle.packet_wires.specs.Play.{made_by, over, packet_at, play, received, reload_acted, repeat_acted, stop_acted}
 use Rattle.packet_wires.specs.Play.{taken_off, tick_acted}
 use Rattle.round_laws.specs.Buses.{IsGrown, Leaves, HasBuses}
@@ -82,25 +83,25 @@ deliver-skipped s true k none false = grown-none s.wires.x
 deliver-skipped s true k none true = skipped-grown s.wires.y k none
 
 leaves : (s : Packeted) (event : Event) → LeavesIf s event (play s event)
-leaves s (Run number) = by (made_by (begun s) (run_done s.site number s.world))
+leaves s (Run number) = by (made_by (underway s) (run_done s.site number s.world))
   where
     by : (played : Played Midst) → LeavesIf s (Run number) (ended s.wires played)
     by (Makes after) = plain-made s after
     by Skips = λ bus. grown-none (buses_of s bus)
     by (Would harm) = tt
-leaves s (Enter terminal) = by (made_by (begun s) (enter_done s.site terminal s.world))
+leaves s (Enter terminal) = by (made_by (underway s) (enter_done s.site terminal s.world))
   where
     by : (played : Played Midst) → LeavesIf s (Enter terminal) (ended s.wires played)
     by (Makes after) = plain-made s after
     by Skips = λ bus. grown-none (buses_of s bus)
     by (Would harm) = tt
-leaves s (Tick node) = by (tick_acted node (begun s))
+leaves s (Tick node) = by (tick_acted node (underway s))
   where
     by : (played : Played Midst) → LeavesIf s (Tick node) (ended s.wires played)
     by (Makes after) = plain-made s after
     by Skips = λ bus. grown-none (buses_of s bus)
     by (Would harm) = tt
-leaves s (Repeat y k) = by (repeat_acted (bus_named y) (begun s) (packet_at s (bus_named y) k))
+leaves s (Repeat y k) = by (repeat_acted (bus_named y) (underway s) (packet_at s (bus_named y) k))
   where
     by : (played : Played Midst) → LeavesIf s (Repeat y k) (ended s.wires played)
     by (Makes after) = plain-made s after
@@ -109,33 +110,33 @@ leaves s (Repeat y k) = by (repeat_acted (bus_named y) (begun s) (packet_at s (b
 leaves s (Deliver y k) = by (packet_at s (bus_named y) k) refl
   where
     by : (packet : Option Packet) → packet_at s (bus_named y) k ≡ packet
-        → LeavesIf s (Deliver y k) (ended (taken_off (Deliver y k) s.wires) (deliver_acted (bus_named y) (begun s)
+        → LeavesIf s (Deliver y k) (ended (taken_off (Deliver y k) s.wires) (deliver_acted (bus_named y) (underway s)
         packet))
     by None is = deliver-skipped s y k is
     by (Some packet) is = deliver-made s y k
-        (if comes_in packet (begun s) then received (bus_named y) packet (begun s) else begun s)
+        (if comes_in packet (underway s) then received (bus_named y) packet (underway s) else underway s)
 leaves s (Lose y k) = by (packet_at s (bus_named y) k) refl
   where
     by : (packet : Option Packet) → packet_at s (bus_named y) k ≡ packet
-        → LeavesIf s (Lose y k) (ended (taken_off (Lose y k) s.wires) (lose_acted (begun s) packet))
+        → LeavesIf s (Lose y k) (ended (taken_off (Lose y k) s.wires) (lose_acted (underway s) packet))
     by None is = deliver-skipped s y k is
-    by (Some packet) is = deliver-made s y k (begun s)
+    by (Some packet) is = deliver-made s y k (underway s)
 leaves s (Fail processor) = by (slice_get s.world.stopped processor)
   where
     same : (bus : Bool) → buses_of s bus ≡ buses_of s bus
     same bus = refl
 
     made : (done : Done) (bus : Bool)
-        → buses_of (over s.wires (record (begun s) { world = done.world })) bus ≡ buses_of s bus
+        → buses_of (over s.wires (record (underway s) { world = done.world })) bus ≡ buses_of s bus
     made done false = refl
     made done true = refl
 
-    stops : (done : Option Done) → LeavesIf s (Fail processor) (ended s.wires (stop_acted processor (begun s) done))
+    stops : (done : Option Done) → LeavesIf s (Fail processor) (ended s.wires (stop_acted processor (underway s) done))
     stops None = tt
     stops (Some done) = made done
 
     by : (stopped : Option Bool)
-        → LeavesIf s (Fail processor) (ended s.wires (fail_acted processor (begun s) stopped))
+        → LeavesIf s (Fail processor) (ended s.wires (fail_acted processor (underway s) stopped))
     by None = same
     by (Some true) = same
     by (Some false) = stops (stop_done processor s.world)
@@ -145,23 +146,23 @@ leaves s (Reload processor) = by (reload_done s.site processor s.world)
     same bus = refl
 
     made : (done : Done) (bus : Bool)
-        → buses_of (over s.wires (record (begun s) {
+        → buses_of (over s.wires (record (underway s) {
           world = done.world;
-          wires = loaded_again s.site.processors processor (begun s).wires;
+          wires = loaded_again s.site.processors processor (underway s).wires;
         })) bus ≡ buses_of s bus
     made done false = refl
     made done true = refl
 
     by : (done : Option Done)
-        → LeavesIf s (Reload processor) (ended s.wires (reload_acted processor (begun s) done))
+        → LeavesIf s (Reload processor) (ended s.wires (reload_acted processor (underway s) done))
     by None = same
     by (Some done) = made done
 leaves s (Drive event) =
-    drive-cases event (begun s) (λ (played : Played Midst). LeavesIf s (Drive event) (ended s.wires played)) made
+    drive-cases event (underway s) (λ (played : Played Midst). LeavesIf s (Drive event) (ended s.wires played)) made
     (λ bus. refl) (λ process. tt)
   where
     made : (drives : List (List DriveState)) (bus : Bool)
-        → buses_of (over s.wires (record (begun s) { drives = drives })) bus ≡ buses_of s bus
+        → buses_of (over s.wires (record (underway s) { drives = drives })) bus ≡ buses_of s bus
     made drives false = refl
     made drives true = refl
 

@@ -4,7 +4,7 @@ use Rattle.link_control.specs.Ends.{End, Receiving}
 use Rattle.world_semantics.specs.World.{is_running}
 use Rattle.channel_laws.specs.Net.{Net, IsWhole, Runs}
 use Rattle.channel_laws.specs.Way.{IsEnded, IsJoint, Way}
-use Rattle.packet_nets.proofs.Tied.{running-low}
+use Rattle.packets_laws.specs.packet_nets.proofs.Tied.{running-low}
 use Rattle.packet_wires.specs.Play.{Packeted}
 use Rattle.packets_laws.specs.Passing.{IsNetOf}
 use Rattle.packet_rounds.specs.Pieces.{IsAcknowledged}

@@ -17,11 +17,11 @@ use Rattle.channel_laws.specs.Net.{Net, Runs}
 use Rattle.channel_laws.specs.Rounds.{Passes, nothing}
 use Rattle.machine_states.specs.States.{Played, Makes, Skips}
 use Rattle.packet_wires.specs.Wires.{Wires, bus_named}
-use Rattle.packet_wires.specs.Play.{Packeted, begun, deliver_acted, ended, packet_at, play, taken_off}
+use Rattle.packet_wires.specs.Play.{Packeted, underway, deliver_acted, ended, packet_at, play, taken_off}
 use Rattle.packet_wires.specs.Runs.{IsPlayed, played_none, played_more, skipped}
-use Rattle.packet_nets.proofs.Nodes.{Same, are, differ, same}
-use Rattle.packet_nets.proofs.Ticking.{begins-net}
-use Rattle.packet_nets.proofs.Tied.{running-stands}
+use Rattle.packets_laws.specs.packet_nets.proofs.Nodes.{Same, are, differ, same}
+use Rattle.packets_laws.specs.packet_nets.proofs.Ticking.{begins-net}
+use Rattle.packets_laws.specs.packet_nets.proofs.Tied.{running-stands}
 use Rattle.packets_laws.specs.Passing.{IsNetOf, ReloadsNone, TakesToDeliver, as_on_buses, delivered}
 use Rattle.packets_laws.proofs.Going as going
 use Rattle.packets_laws.proofs.Going.{play-goes}
@@ -218,7 +218,7 @@ none-delivered s (Drive event) skips p is = absurd (cc)
 none-delivered s (Deliver y k) skips p is = absurd (by (packet_at s (bus_named y) k) is skips)
   where
     by : (o : Option Packet) → o ≡ Some p → ended (taken_off (Deliver y k) s.wires)
-        (deliver_acted (bus_named y) (begun s) o) ≡ Skips → ⊥
+        (deliver_acted (bus_named y) (underway s) o) ≡ Skips → ⊥
     by None is skips = absurd (cc)
     by (Some q) is skips = absurd (cc)
 

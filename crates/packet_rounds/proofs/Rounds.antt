@@ -29,11 +29,11 @@ use Rattle.channel_laws.proofs.Rounds.{brought-on}
 use Rattle.machine_states.specs.States.{Played, Makes, Skips, Would}
 use Rattle.packet_wires.specs.Nodes.{end_at}
 use Rattle.packet_wires.specs.Wires.{Wires, Midst, ticked}
-use Rattle.packet_wires.specs.Play.{Packeted, Underway, IsClear, begun, ended, line_of, play, pulled, pulled_first}
+use Rattle.packet_wires.specs.Play.{Packeted, Underway, IsClear, underway, ended, line_of, play, pulled, pulled_running}
 use Rattle.packet_wires.specs.Play.{pulls, pulls_its}
 use Rattle.computed_changes.specs.Stopped.{stop_done}
 use Rattle.world_semantics.specs.Running.{Done}
-use Rattle.packet_nets.proofs.Nodes.{Same, are, differ, same}
+use Rattle.packets_laws.specs.packet_nets.proofs.Nodes.{Same, are, differ, same}
 use Rattle.packets_laws.specs.Passing.{IsNetOf, as_on_buses}
 use Rattle.packets_laws.proofs.Passing.{tick-passed}
 use Rattle.round_laws.specs.Buses.{IsGrown, delivered_of, HasBuses}
@@ -168,7 +168,7 @@ module _ (node : ℕ) (s : Underway) where
   pulled-acts processor (Some true) skips = absurd (cc)
   pulled-acts processor (Some false) skips = by (stop_done processor s.world) skips
     where
-      by : (done : Option Done) → pulled_first node processor s done ≡ Skips → ⊥
+      by : (done : Option Done) → pulled_running node processor s done ≡ Skips → ⊥
       by None skips = absurd (cc)
       by (Some done) skips = absurd (cc)
 
@@ -185,7 +185,7 @@ tick-acts : (s : Packeted) (node : ℕ) → is_running s.world.stopped node ≡ 
 tick-acts s node here skips = by (is_running s.world.stopped node) here skips
   where
     after : Underway
-    after = record (begun s) { wires = ticked s.site.processors node (begun s).wires }
+    after = record (underway s) { wires = ticked s.site.processors node (underway s).wires }
 
     by : (test : Bool) → test ≡ true → ended s.wires (if test then pulls_its node after else Skips) ≡ Skips → ⊥
     by false is skips = absurd (cc)

@@ -12,8 +12,7 @@ use packet_words::{BusName, Packet, PacketKind};
 use player::Player;
 use schedule::{Counts, Event};
 use schedule_loop::ScheduleMachine;
-use site_machine::Machine;
-use site_machine::machine_states::Effect;
+use site_machine::{Effect, Machine};
 use std::alloc::Global;
 use tal_tree::Site;
 

@@ -12,3 +12,7 @@ pub use Rattle.message_wires.specs.machine_states
 pub use Rattle.message_layout
 pub use Rattle.message_wires
 pub use Rattle.message_layout.specs.world_semantics
+pub use Rattle.bus_model
+pub use Rattle.message_layout.specs.change_layout
+pub use Rattle.message_wires.specs.computed_changes
+pub use Rattle.message_wires.specs.plain_semantics

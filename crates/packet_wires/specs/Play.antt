@@ -51,8 +51,8 @@ abbrev pub Underway : Type 0
 Underway = State Midst
 
 -- an event begins
-abbrev pub begun : Packeted → Underway
-begun s = record { site = s.site; world = s.world; wires = nothing_sent s.wires.nodes; drives = s.drives }
+abbrev pub underway : Packeted → Underway
+underway s = record { site = s.site; world = s.world; wires = nothing_sent s.wires.nodes; drives = s.drives }
 
 -- an event is over: what it sent is put on the buses
 abbrev pub over : Wires → Underway → Packeted
@@ -182,15 +182,17 @@ declared node processor s = record s { wires = declares s.site.processors node p
 abbrev pub marks_and_declares : ℕ → ℕ → Underway → Underway
 marks_and_declares node processor s = declared node processor (marks node processor s)
 
--- a line is pulled: it stops its processor, if that one runs, but not in a world that isn't whole
-abbrev pub pulled_first : ℕ → ℕ → Underway → Option Done → Played Midst
-pulled_first node processor s None = Would (SecondStop processor)
-pulled_first node processor s (Some done) = Makes (marks_and_declares node processor (record s { world = done.world }))
+-- the line of a processor that runs is pulled: it stops, but not in a world that isn't whole
+abbrev pub pulled_running : ℕ → ℕ → Underway → Option Done → Played Midst
+pulled_running node processor s None = Would (SecondStop processor)
+pulled_running node processor s (Some done) =
+    Makes (marks_and_declares node processor (record s { world = done.world }))
 
+-- a line is pulled: a processor that runs is stopped by it, and one that has stopped is marked
 abbrev pub pulled : ℕ → ℕ → Underway → Option Bool → Played Midst
 pulled node processor s None = Makes s
 pulled node processor s (Some true) = Makes (marks_and_declares node processor s)
-pulled node processor s (Some false) = pulled_first node processor s (stop_done processor s.world)
+pulled node processor s (Some false) = pulled_running node processor s (stop_done processor s.world)
 
 abbrev pub pulls : ℕ → Underway → Option ℕ → Played Midst
 pulls node s None = Makes s
@@ -217,15 +219,15 @@ packet_at s name k = slice_get (on_bus name s.wires) k
 
 -- what an event does at the nodes, and what it sends. Of the buses it knows the packet alone that it names
 abbrev pub acted : Packeted → Event → Played Midst
-acted s (Run number) = made_by (begun s) (run_done s.site number s.world)
-acted s (Enter terminal) = made_by (begun s) (enter_done s.site terminal s.world)
-acted s (Deliver y k) = deliver_acted (bus_named y) (begun s) (packet_at s (bus_named y) k)
-acted s (Lose y k) = lose_acted (begun s) (packet_at s (bus_named y) k)
-acted s (Repeat y k) = repeat_acted (bus_named y) (begun s) (packet_at s (bus_named y) k)
-acted s (Tick node) = tick_acted node (begun s)
-acted s (Fail processor) = fail_acted processor (begun s) (slice_get s.world.stopped processor)
-acted s (Reload processor) = reload_acted processor (begun s) (reload_done s.site processor s.world)
-acted s (Drive event) = drive_played event (begun s)
+acted s (Run number) = made_by (underway s) (run_done s.site number s.world)
+acted s (Enter terminal) = made_by (underway s) (enter_done s.site terminal s.world)
+acted s (Deliver y k) = deliver_acted (bus_named y) (underway s) (packet_at s (bus_named y) k)
+acted s (Lose y k) = lose_acted (underway s) (packet_at s (bus_named y) k)
+acted s (Repeat y k) = repeat_acted (bus_named y) (underway s) (packet_at s (bus_named y) k)
+acted s (Tick node) = tick_acted node (underway s)
+acted s (Fail processor) = fail_acted processor (underway s) (slice_get s.world.stopped processor)
+acted s (Reload processor) = reload_acted processor (underway s) (reload_done s.site processor s.world)
+acted s (Drive event) = drive_played event (underway s)
 
 -- the wires without the packet that an event delivers or loses
 abbrev pub taken_off : Event → Wires → Wires

@@ -9,3 +9,7 @@
 #![tactic(auto)]
 
 pub mod examples;
+
+pub use bus_model::Bus;
+pub use message_layout::ChangeMessage;
+pub use message_wires::{Effect, ImageMessage};

@@ -2,3 +2,4 @@ pub mod Buses
 pub mod Layout
 pub mod Pieces
 pub mod Telling
+pub use Rattle.gd_words

@@ -1,21 +1,23 @@
 ghost use Rattle.std.specs.Prelude.{◌≡◌, ◌≤◌, length, take};
 ghost use Rattle.packet_words.specs.Pieces.{piece_at, first_piece};
 
-use arrayvec::ArrayVec;
 use std::marker::Model;
 
 /// The words of a piece: at most 10.
 #[derive(Drop)]
 pub struct PieceWords {
-    items: ArrayVec<i16, 10>,
+    words: [i16; 10],
+    count: u8,
 }
 
 impl Model for PieceWords {
-    ghost use Rattle.std.specs.Prelude.{List, ℤ};
+    ghost use Rattle.std.specs.Prelude.{◌≤◌, List, take, ℤ};
 
     ghost Value = { List ℤ };
 
-    ghost view = { λ words. words.items.items };
+    ghost view = { λ all. take all.count all.words };
+
+    ghost invariant = { λ all. all.count ≤ 10 };
 }
 
 impl PieceWords {
@@ -24,9 +26,12 @@ impl PieceWords {
         ensures { result ≡ take 10 words.now }
     {
         let (front, _) = words.split_at(words.len().min(10));
-        let mut items = ArrayVec::new();
-        items.try_extend_from_slice(front).unwrap();
-        PieceWords { items }
+        let mut room = [0; 10];
+        room[..front.len()].copy_from_slice(front);
+        PieceWords {
+            words: room,
+            count: front.len() as u8,
+        }
     }
 
     /// How many words there are.
@@ -34,7 +39,7 @@ impl PieceWords {
         ensures value { result ≡ length self.now }
         ensures few { result ≤ 10 }
     {
-        self.items.len()
+        usize::from(self.count)
     }
 
     /// All words, in order.
@@ -42,7 +47,8 @@ impl PieceWords {
         ensures value { result.now ≡ self.now }
         ensures few { length result.now ≤ 10 }
     {
-        self.items.as_slice()
+        let (front, _) = self.words.split_at(usize::from(self.count));
+        front
     }
 
     /// The same words once more. It takes no memory.
@@ -50,7 +56,8 @@ impl PieceWords {
         ensures { result ≡ self.now }
     {
         PieceWords {
-            items: self.items.clone().unwrap(),
+            words: self.words,
+            count: self.count,
         }
     }
 }

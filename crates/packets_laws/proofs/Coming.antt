@@ -8,11 +8,11 @@ use Rattle.world_semantics.specs.Messages.{Message}
 use Rattle.world_semantics.specs.World.{World, is_running}
 use Rattle.world_semantics.proofs.Roles.{both-true}
 use Rattle.letters.specs.Routes.{Letter}
-use Rattle.message_layout.specs.Messages.{NodeMessage, Carrying, Changing, Reporting, Declaring}
-use Rattle.packet_wires.specs.Nodes.{end_at}
-use Rattle.packet_wires.specs.Parcels.{Parcel}
-use Rattle.packet_wires.specs.Play.{Packeted, begun, comes_in, completed, is_current_at, packet_at}
-use Rattle.packet_wires.specs.Wires.{arrived, nothing_sent}
+use Rattle.letters_layout.specs.message_layout.specs.Messages.{NodeMessage, Carrying, Changing, Reporting, Declaring}
+use Rattle.packet_nets.specs.packet_wires.specs.Nodes.{end_at}
+use Rattle.packet_nets.specs.packet_wires.specs.Parcels.{Parcel}
+use Rattle.packet_nets.specs.packet_wires.specs.Play.{Packeted, underway, comes_in, completed, is_current_at, packet_at}
+use Rattle.packet_nets.specs.packet_wires.specs.Wires.{arrived, nothing_sent}
 use Rattle.channel_laws.specs.Net.{Net}
 use Rattle.packet_nets.specs.Owing.{IsContent, IsTrueOf, content_of, on_both}
 use Rattle.packet_nets.proofs.Arriving.{Arrives, hands_none, hands_other, hands_letter, hands_again}
@@ -62,7 +62,7 @@ module _ (events : List Event) (s : Packeted) (owed sent : List Letter) (held : 
   told-other (Declaring processor) none right = right
 
   pub comes-right : (name : BusName) (k : ℕ) (words : List ℤ)
-      → packet_at s name k ≡ Some p → comes_in p (begun s) ≡ true
+      → packet_at s name k ≡ Some p → comes_in p (underway s) ≡ true
       → completed p (end_at s.wires.nodes p.receiver p.sender) ≡ Some words
       → WasSentInWords s.site s.world sent p.sender p.receiver words
   comes-right name k words at comes is =

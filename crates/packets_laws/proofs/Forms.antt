@@ -20,8 +20,8 @@ use Rattle.letters.specs.Routes.{letters_of}
 use Rattle.message_wires_laws.specs.letter_laws.proofs.Again.{IsAgain, by_copy, by_keeping, by_terminal}
 use Rattle.message_wires_laws.specs.letter_laws.proofs.Given.{letter-from}
 use Rattle.message_wires_laws.specs.letter_laws.proofs.Sent.{sent-stays}
-use Rattle.message_layout.specs.Messages.{NodeMessage, Carrying, Changing}
-use Rattle.packet_wires.specs.Parcels.{Parcel, form_after, form_of, parcel_of, parcels_of}
+use Rattle.letters_layout.specs.message_layout.specs.Messages.{NodeMessage, Carrying, Changing}
+use Rattle.packet_nets.specs.packet_wires.specs.Parcels.{Parcel, form_after, form_of, parcel_of, parcels_of}
 use Rattle.packet_nets.specs.Owing as net
 use Rattle.packet_nets.specs.Owing.{IsContent}
 use Rattle.checkpoint_chains.proofs.Newest.{IsNewestIfOne}

@@ -19,22 +19,27 @@ use Rattle.computed_changes.proofs.Changed.{change-each}
 use Rattle.computed_changes.specs.Stopped.{down_done, stopped_world, stop_if, reload_counted, reload_done, reload_if}
 use Rattle.computed_changes.specs.Stopped.{reload_where}
 use Rattle.letters.specs.Idle.{OneStops}
-use Rattle.machine_states.specs.States.{State, Played, Makes, Skips, Would, SecondStop, DiscLoss, Harm}
+use Rattle.message_wires_laws.specs.machine_states.specs.States.{State, Played, Makes, Skips, Would, SecondStop}
+use Rattle.message_wires_laws.specs.machine_states.specs.States.{DiscLoss, Harm}
 use Rattle.message_wires_laws.specs.message_wires.specs.Play.{has_stopped}
 use Rattle.world_semantics.proofs.Lists.{Changed, is_new, is_same, changed}
 use Rattle.message_wires_laws.proofs.Going.{none-at-boot, none-stopped, whole-runs}
 use Rattle.message_wires_laws.proofs.Stopping.{StopsNone, run-none, enter-none, handed-none, mark-none}
-use Rattle.message_layout.specs.Messages.{NodeMessage, Carrying, Changing, Reporting, Declaring}
-use Rattle.message_layout.specs.Reading.{understood}
-use Rattle.packet_wires.specs.Play.{Packeted, Underway, begun, made_by, after_any, marked_by, marks, handed, handed_any}
-use Rattle.packet_wires.specs.Play.{handed_words, completed, received, deliver_acted, lose_acted, repeat_acted}
-use Rattle.packet_wires.specs.Play.{comes_in, stop_acted, fail_acted, reload_acted, pulled_first}
-use Rattle.packet_wires.specs.Play.{pulled, pulls, line_of, pulls_its, tick_acted, packet_at, acted, taken_off}
-use Rattle.packet_wires.specs.Play.{ended, play}
-use Rattle.packet_wires.specs.Nodes.{end_at}
-use Rattle.packet_wires.specs.Runs.{IsPlayed, played_none, played_more, skipped}
-use Rattle.packet_wires.specs.Wires.{Wires, Midst, bus_named, arrived, ticked}
-use Rattle.machine_states.proofs.Turning.{drive-cases}
+use Rattle.letters_layout.specs.message_layout.specs.Messages.{NodeMessage, Carrying, Changing, Reporting, Declaring}
+use Rattle.letters_layout.specs.message_layout.specs.Reading.{understood}
+use Rattle.packet_nets.specs.packet_wires.specs.Play.{Packeted, Underway, underway, made_by, after_any, marked_by}
+use Rattle.packet_nets.specs.packet_wires.specs.Play.{marks}
+use Rattle.packet_nets.specs.packet_wires.specs.Play.{handed, handed_any}
+use Rattle.packet_nets.specs.packet_wires.specs.Play.{handed_words, completed, received, deliver_acted, lose_acted}
+use Rattle.packet_nets.specs.packet_wires.specs.Play.{repeat_acted}
+use Rattle.packet_nets.specs.packet_wires.specs.Play.{comes_in, stop_acted, fail_acted, reload_acted, pulled_running}
+use Rattle.packet_nets.specs.packet_wires.specs.Play.{pulled, pulls, line_of, pulls_its, tick_acted, packet_at, acted}
+use Rattle.packet_nets.specs.packet_wires.specs.Play.{taken_off}
+use Rattle.packet_nets.specs.packet_wires.specs.Play.{ended, play}
+use Rattle.packet_nets.specs.packet_wires.specs.Nodes.{end_at}
+use Rattle.packet_nets.specs.packet_wires.specs.Runs.{IsPlayed, played_none, played_more, skipped}
+use Rattle.packet_nets.specs.packet_wires.specs.Wires.{Wires, Midst, bus_named, arrived, ticked}
+use Rattle.message_wires_laws.specs.machine_states.proofs.Turning.{drive-cases}
 
 -- the site is the same, and so is who has stopped
 pub record Stays (s next : Underway) : Type 0 where
@@ -147,7 +152,7 @@ tick-goes event node s = by (is_running s.world.stopped node)
     line midst (Some processor) = at (slice_get s.world.stopped processor) refl
       where
         first : (whole : Bool) → is_whole s.world ≡ whole
-            → Goes event s (pulled_first node processor (record s { wires = midst })
+            → Goes event s (pulled_running node processor (record s { wires = midst })
             (stop_if processor s.world whole))
         first true e =
             let stay = marks-stay node processor (record s
@@ -168,34 +173,34 @@ tick-goes event node s = by (is_running s.world.stopped node)
         (line_of node (record s { wires = ticked s.site.processors node s.wires }))
     by false = skips
 
-acted-goes : (s : Packeted) (event : Event) → Goes event (begun s) (acted s event)
+acted-goes : (s : Packeted) (event : Event) → Goes event (underway s) (acted s event)
 acted-goes s (Run number) =
-    made-goes (Run number) (begun s) (run_done s.site number s.world) (run-none s.site s.world number)
+    made-goes (Run number) (underway s) (run_done s.site number s.world) (run-none s.site s.world number)
 acted-goes s (Enter number) =
-    made-goes (Enter number) (begun s) (enter_done s.site number s.world) (enter-none s.site s.world number)
+    made-goes (Enter number) (underway s) (enter_done s.site number s.world) (enter-none s.site s.world number)
 acted-goes s (Deliver y k) =
-    deliver-goes (Deliver y k) (bus_named y) (begun s) (packet_at s (bus_named y) k)
+    deliver-goes (Deliver y k) (bus_named y) (underway s) (packet_at s (bus_named y) k)
 acted-goes s (Lose y k) = by (packet_at s (bus_named y) k)
   where
-    by : (packet : Option Packet) → Goes (Lose y k) (begun s) (lose_acted (begun s) packet)
+    by : (packet : Option Packet) → Goes (Lose y k) (underway s) (lose_acted (underway s) packet)
     by None = skips
     by (Some packet) = stops_none refl refl
 acted-goes s (Repeat y k) = by (packet_at s (bus_named y) k)
   where
-    by : (packet : Option Packet) → Goes (Repeat y k) (begun s) (repeat_acted (bus_named y) (begun s) packet)
+    by : (packet : Option Packet) → Goes (Repeat y k) (underway s) (repeat_acted (bus_named y) (underway s) packet)
     by None = skips
     by (Some packet) = stops_none refl refl
-acted-goes s (Tick node) = tick-goes (Tick node) node (begun s)
-acted-goes s (Fail processor) = fail-goes (Fail processor) processor (begun s)
-acted-goes s (Reload processor) = reload-goes processor (begun s)
+acted-goes s (Tick node) = tick-goes (Tick node) node (underway s)
+acted-goes s (Fail processor) = fail-goes (Fail processor) processor (underway s)
+acted-goes s (Reload processor) = reload-goes processor (underway s)
 acted-goes s (Drive event) =
-    drive-cases event (begun s) (Goes (Drive event) (begun s)) (λ drives. stops_none refl refl) skips
+    drive-cases event (underway s) (Goes (Drive event) (underway s)) (λ drives. stops_none refl refl) skips
     (λ process. would_harm (DiscLoss process))
 
 pub play-goes : (s : Packeted) (event : Event) → Goes event s (play s event)
 play-goes s event = by (acted s event) (acted-goes s event)
   where
-    by : (played : Played Midst) → Goes event (begun s) played
+    by : (played : Played Midst) → Goes event (underway s) played
         → Goes event s (ended (taken_off event s.wires) played)
     by Skips skips = skips
     by (Would _) (would_harm harm) = would_harm harm

@@ -17,10 +17,10 @@ use Rattle.message_wires_laws.specs.message_wires.specs.Idle as whole
 use Rattle.message_wires_laws.specs.message_wires.specs.Play.{MachineState}
 use Rattle.message_wires_laws.specs.message_wires.specs.Wires.{wires_at_boot}
 use Rattle.message_wires_laws.proofs.Idle.{idle-both}
-use Rattle.packet_wires.specs.Idle.{holds_nothing, is_quiet, all_quiet, is_idle}
-use Rattle.packet_wires.specs.Nodes.{numbers, all_nodes, end_at}
-use Rattle.packet_wires.specs.Play.{Packeted}
-use Rattle.packet_wires.specs.Parcels.{Parcel}
+use Rattle.packet_nets.specs.packet_wires.specs.Idle.{holds_nothing, is_quiet, all_quiet, is_idle}
+use Rattle.packet_nets.specs.packet_wires.specs.Nodes.{numbers, all_nodes, end_at}
+use Rattle.packet_nets.specs.packet_wires.specs.Play.{Packeted}
+use Rattle.packet_nets.specs.packet_wires.specs.Parcels.{Parcel}
 use Rattle.packet_nets.specs.Owing.{carried, goes, between, IsOpen, TiesAtRest}
 use Rattle.packets_laws.specs.Carried.{AllStandFor}
 use Rattle.packets_laws.proofs.Forms.{letter-has}
@@ -157,7 +157,7 @@ module _ (s : Packeted) (owed sent : List Letter) (parcels posted : List Parcel)
   parts idle =
       let one = both-true (whole.none_enters s.site s.world) _ idle in
       let two = both-true (whole.none_runs s.site s.world) _ one.1 in
-      let three = both-true (whole.none_waits s.world.processes) _ two.1 in
+      let three = both-true (whole.none_awaits_taking s.world.processes) _ two.1 in
       let four = both-true (all_quiet s.world.stopped s.wires.nodes) _ three.1 in
       (both_true one.0 (both_true two.0 (both_true three.0 four.1)), four.0)
 

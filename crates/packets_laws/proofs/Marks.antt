@@ -8,8 +8,8 @@ use Rattle.world_semantics.proofs.Reached.{run-marks}
 use Rattle.message_wires_laws.specs.takeover_laws.specs.Fit.{IsFit}
 use Rattle.message_wires_laws.specs.awaited_requests.specs.Seats.{IsLaidOut}
 use Rattle.letters_layout.specs.Fitting.{IsSmall}
-use Rattle.packet_wires.specs.Play.{Packeted}
-use Rattle.packet_wires.specs.Runs.{IsPlayed}
+use Rattle.packet_nets.specs.packet_wires.specs.Play.{Packeted}
+use Rattle.packet_nets.specs.packet_wires.specs.Runs.{IsPlayed}
 use Rattle.packets_laws.proofs.Going.{played-one}
 use Rattle.packets_laws.proofs.Runs.{played-world}
 

@@ -18,8 +18,8 @@ use Rattle.computed_changes.proofs.Reached.{run-named}
 use Rattle.checkpoint_chains.specs.Chains.{FollowsOn, IsChain, IsNewest, IsNextTo}
 use Rattle.checkpoint_chains.proofs.Chains.{run-chained}
 use Rattle.checkpoint_chains.proofs.Newest.{IsNewestIfOne}
-use Rattle.message_layout.specs.Messages.{Carrying, Changing}
-use Rattle.packet_wires.specs.Parcels.{form_after, form_of}
+use Rattle.letters_layout.specs.message_layout.specs.Messages.{Carrying, Changing}
+use Rattle.packet_nets.specs.packet_wires.specs.Parcels.{form_after, form_of}
 use Rattle.packets_laws.specs.Carried.{IsFormOf}
 
 module _ {site : Site} {events : List Event} (w : World) (placed : IsPlaced site) (run : IsRun site events w) where

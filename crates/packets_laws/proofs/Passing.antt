@@ -27,19 +27,25 @@ use Rattle.computed_changes.proofs.Changed.{change-each}
 use Rattle.computed_changes.specs.Stopped.{down_done, stopped_world, stop_if, reload_done}
 use Rattle.letters.specs.Again.{sent_again}
 use Rattle.letters.specs.Routes.{letters_of}
-use Rattle.packet_wires.specs.Parcels.{Parcel, parcels_of}
-use Rattle.machine_states.specs.States.{Played, Makes, Skips, Would}
+use Rattle.packet_nets.specs.packet_wires.specs.Parcels.{Parcel, parcels_of}
+use Rattle.message_wires_laws.specs.machine_states.specs.States.{Played, Makes, Skips, Would}
 use Rattle.message_wires_laws.proofs.Stopping.{StopsNone, run-none, enter-none, handed-none, mark-none}
-use Rattle.message_layout.specs.Messages.{NodeMessage, Carrying, Changing, Reporting, Declaring}
-use Rattle.message_layout.specs.Reading.{understood}
-use Rattle.packet_wires.specs.Nodes.{end_at}
-use Rattle.packet_wires.specs.Play.{Packeted, Underway, begun, made_by, after_any, marked_by, marks, handed, handed_any}
-use Rattle.packet_wires.specs.Play.{handed_words, completed, received, deliver_acted, lose_acted, repeat_acted}
-use Rattle.packet_wires.specs.Play.{fail_acted, marks_and_declares, pulled, pulls, line_of, pulls_its, tick_acted}
-use Rattle.packet_wires.specs.Play.{packet_at, acted, taken_off, ended, out_of, play, comes_in, is_current_at}
-use Rattle.packet_wires.specs.Play.{pulled_first, reload_acted, stop_acted}
-use Rattle.packet_wires.specs.Wires.{Wires, Midst, bus_named, on_bus, packets_over, without_packet, all_posted, arrived}
-use Rattle.packet_wires.specs.Wires.{ticked, cut_off, loaded_again, nothing_sent, with_sent}
+use Rattle.letters_layout.specs.message_layout.specs.Messages.{NodeMessage, Carrying, Changing, Reporting, Declaring}
+use Rattle.letters_layout.specs.message_layout.specs.Reading.{understood}
+use Rattle.packet_nets.specs.packet_wires.specs.Nodes.{end_at}
+use Rattle.packet_nets.specs.packet_wires.specs.Play.{Packeted, Underway, underway, made_by, after_any, marked_by}
+use Rattle.packet_nets.specs.packet_wires.specs.Play.{marks}
+use Rattle.packet_nets.specs.packet_wires.specs.Play.{handed, handed_any}
+use Rattle.packet_nets.specs.packet_wires.specs.Play.{handed_words, completed, received, deliver_acted, lose_acted}
+use Rattle.packet_nets.specs.packet_wires.specs.Play.{repeat_acted}
+use Rattle.packet_nets.specs.packet_wires.specs.Play.{fail_acted, marks_and_declares, pulled, pulls, line_of, pulls_its}
+use Rattle.packet_nets.specs.packet_wires.specs.Play.{tick_acted}
+use Rattle.packet_nets.specs.packet_wires.specs.Play.{packet_at, acted, taken_off, ended, out_of, play, comes_in}
+use Rattle.packet_nets.specs.packet_wires.specs.Play.{is_current_at}
+use Rattle.packet_nets.specs.packet_wires.specs.Play.{pulled_running, reload_acted, stop_acted}
+use Rattle.packet_nets.specs.packet_wires.specs.Wires.{Wires, Midst, bus_named, on_bus, packets_over, without_packet}
+use Rattle.packet_nets.specs.packet_wires.specs.Wires.{all_posted, arrived}
+use Rattle.packet_nets.specs.packet_wires.specs.Wires.{ticked, cut_off, loaded_again, nothing_sent, with_sent}
 use Rattle.packet_nets.specs.Owing.{on_both}
 use Rattle.packet_nets.specs.Passing.{IsPassing, IsCut}
 use Rattle.packet_nets.proofs.Passing.{come-passes, drop-passes, watched-passes, cut-passes, again-passes}
@@ -53,7 +59,7 @@ use Rattle.packets_laws.proofs.Playing.{among-taken, stands-there}
 use Rattle.packets_laws.proofs.Posting.{mark-gone, still-running, now-stopped, reload-is}
 use Rattle.packet_nets.specs.Passing.{IsNet}
 use Rattle.packet_nets.proofs.Reloading.{reload-net}
-use Rattle.machine_states.proofs.Turning.{drive-cases}
+use Rattle.message_wires_laws.specs.machine_states.proofs.Turning.{drive-cases}
 
 -- A state in the midst of an event
 
@@ -192,7 +198,7 @@ module _ {a b : ℕ} {on : List Packet} {start : Net} where
   line-leads node s (Some processor) other runs P = by (slice_get s.world.stopped processor) refl
     where
       stops : slice_get s.world.stopped processor ≡ Some false → (whole : Bool)
-          → LeadsOn a b on start [] (pulled_first node processor s (stop_if processor s.world whole))
+          → LeadsOn a b on start [] (pulled_running node processor s (stop_if processor s.world whole))
       stops at false = tt
       stops at true = λ one two.
           let same = (marks-stay node processor (record s { world = stopped_world processor s.world })).stopped in
@@ -228,24 +234,24 @@ acted-leads : (a b : ℕ) (s : Packeted) (event : Event) (n : Net) → length s.
     → LeadsOn a b (on_both s.wires) n (option_to_list (delivered s event)) (acted s event)
 acted-leads a b s event n few N none = by event none
   where
-    P : Passing a b (on_both s.wires) n [] (begun s)
+    P : Passing a b (on_both s.wires) n [] (underway s)
     P = begins-passing s.wires few N
 
     by : (event : Event) → ReloadsNone event
         → LeadsOn a b (on_both s.wires) n (option_to_list (delivered s event)) (acted s event)
-    by (Run number) none = made-leads (begun s) (run_done s.site number s.world) (run-none s.site s.world number) P
+    by (Run number) none = made-leads (underway s) (run_done s.site number s.world) (run-none s.site s.world number) P
     by (Enter number) none =
-        made-leads (begun s) (enter_done s.site number s.world) (enter-none s.site s.world number) P
+        made-leads (underway s) (enter_done s.site number s.world) (enter-none s.site s.world number) P
     by (Deliver y k) none =
-        deliver-leads (bus_named y) (begun s) (packet_at s (bus_named y) k) (stands-there s (bus_named y) k) P
-    by (Lose y k) none = lose-leads (begun s) (packet_at s (bus_named y) k) P
+        deliver-leads (bus_named y) (underway s) (packet_at s (bus_named y) k) (stands-there s (bus_named y) k) P
+    by (Lose y k) none = lose-leads (underway s) (packet_at s (bus_named y) k) P
     by (Repeat y k) none =
-        repeat-leads (bus_named y) (begun s) (packet_at s (bus_named y) k) (stands-there s (bus_named y) k) P
-    by (Tick node) none = tick-leads node (begun s) P
-    by (Fail processor) none = fail-leads processor (begun s) P
+        repeat-leads (bus_named y) (underway s) (packet_at s (bus_named y) k) (stands-there s (bus_named y) k) P
+    by (Tick node) none = tick-leads node (underway s) P
+    by (Fail processor) none = fail-leads processor (underway s) P
     by (Reload processor) none = absurd none
     by (Drive event) none =
-        drive-cases event (begun s) (LeadsOn a b (on_both s.wires) n []) (λ drives one two. P) tt (λ process. tt)
+        drive-cases event (underway s) (LeadsOn a b (on_both s.wires) n []) (λ drives one two. P) tt (λ process. tt)
 
 -- what was on a bus is still there, or was taken off
 kept-or-taken : (p : Packet) (on : List Packet) (k : ℕ) → IsAmong p on
@@ -332,7 +338,7 @@ pub reload-loads : (s next : Packeted) (x : ℕ) (n : Net) → IsNetOf s n → p
 reload-loads s next x n N made = subst (LoadsIf x n) made (by (reload_done s.site x s.world) refl)
   where
     by : (done : Option Done) → reload_done s.site x s.world ≡ done
-        → LoadsIf x n (ended s.wires (reload_acted x (begun s) done))
+        → LoadsIf x n (ended s.wires (reload_acted x (underway s) done))
     by None e = tt
     by (Some done) e =
         let is = reload-is s.site x s.world done e in (
@@ -374,7 +380,7 @@ ran-before b node s None = λ other. other
 ran-before b node s (Some processor) = by (slice_get s.world.stopped processor) refl
   where
     stops : slice_get s.world.stopped processor ≡ Some false → (whole : Bool)
-        → Ran b s (pulled_first node processor s (stop_if processor s.world whole))
+        → Ran b s (pulled_running node processor s (stop_if processor s.world whole))
     stops at false = tt
     stops at true = λ other.
         let same = (marks-stay node processor (record s { world = stopped_world processor s.world })).stopped in
@@ -418,7 +424,7 @@ TicksIf a b s n (Makes next) =
 TicksIf a b s n Skips = Unit {0}
 TicksIf a b s n (Would harm) = Unit {0}
 
-over-ticks : (a b : ℕ) (s : Packeted) (n : Net) (played : Played Midst) → tick_acted a (begun s) ≡ played
+over-ticks : (a b : ℕ) (s : Packeted) (n : Net) (played : Played Midst) → tick_acted a (underway s) ≡ played
     → CutsIf a b (on_both s.wires) n played
     → TicksIf a b s n (ended s.wires played)
 over-ticks a b s n Skips is cuts = tt
@@ -440,5 +446,5 @@ pub tick-passed : (s next : Packeted) (n : Net) (a b : ℕ) → length s.world.s
     → play s (Tick a) ≡ Makes next → is_running next.world.stopped a ≡ true
     → is_running next.world.stopped b ≡ true → IsTickPassed a b s next n
 tick-passed s next n a b few N made =
-    subst (TicksIf a b s n) made (over-ticks a b s n (tick_acted a (begun s)) refl
-    (tick-cuts a b (on_both s.wires) n (begun s) (begins-passing s.wires few N)))
+    subst (TicksIf a b s n) made (over-ticks a b s n (tick_acted a (underway s)) refl
+    (tick-cuts a b (on_both s.wires) n (underway s) (begins-passing s.wires few N)))

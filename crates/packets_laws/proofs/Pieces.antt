@@ -11,14 +11,17 @@ use Rattle.packet_words.specs.Pieces as pieces
 use Rattle.link_control.specs.Ends as ends
 use Rattle.link_control.specs.Ends.{End, handed_by_packet, handed_by_kind}
 use Rattle.world_semantics.specs.World.{is_running}
-use Rattle.machine_states.specs.States.{Played, Makes, Skips, Would}
-use Rattle.packet_wires.specs.Nodes.{end_at}
-use Rattle.packet_wires.specs.Play.{Packeted, begun, completed, handed_words, received, deliver_acted, lose_acted}
-use Rattle.packet_wires.specs.Play.{repeat_acted, packet_at, acted, taken_off, ended, play, comes_in, is_current_at}
+use Rattle.message_wires_laws.specs.machine_states.specs.States.{Played, Makes, Skips, Would}
+use Rattle.packet_nets.specs.packet_wires.specs.Nodes.{end_at}
+use Rattle.packet_nets.specs.packet_wires.specs.Play.{Packeted, underway, completed, handed_words, received}
+use Rattle.packet_nets.specs.packet_wires.specs.Play.{deliver_acted}
+use Rattle.packet_nets.specs.packet_wires.specs.Play.{lose_acted}
+use Rattle.packet_nets.specs.packet_wires.specs.Play.{repeat_acted, packet_at, acted, taken_off, ended, play, comes_in}
+use Rattle.packet_nets.specs.packet_wires.specs.Play.{is_current_at}
 use Rattle.world_semantics.proofs.Roles.{both-true}
-use Rattle.packet_wires.specs.Wires.{Wires, Midst, bus_named, arrived}
+use Rattle.packet_nets.specs.packet_wires.specs.Wires.{Wires, Midst, bus_named, arrived}
 use Rattle.packets_laws.specs.Pieces.{HandsOver}
-use Rattle.machine_states.proofs.Turning.{drive-cases}
+use Rattle.message_wires_laws.specs.machine_states.proofs.Turning.{drive-cases}
 use Rattle.schedule.specs.declared.event.DriveEvent.{DriveEvent}
 
 -- a packet that completes a message is a last piece
@@ -67,15 +70,15 @@ over-stays s Or wires Skips stays = tt
 over-stays s Or wires (Would harm) stays = tt
 
 deliver-stays : (s : Packeted) (name : BusName) (k : ℕ) (found : Option Packet) → packet_at s name k ≡ found
-    → Stays s (HandsOver s name k) (deliver_acted name (begun s) found)
+    → Stays s (HandsOver s name k) (deliver_acted name (underway s) found)
 deliver-stays s name k None there = tt
-deliver-stays s name k (Some packet) there = by (comes_in packet (begun s)) refl
+deliver-stays s name k (Some packet) there = by (comes_in packet (underway s)) refl
   where
     handing : is_running s.world.stopped packet.receiver ≡ true
         → is_current_at packet (end_at s.wires.nodes packet.receiver packet.sender) ≡ true → (found : Option (List ℤ))
         → completed packet (end_at s.wires.nodes packet.receiver packet.sender) ≡ found
         → Stays s (HandsOver s name k) (Makes (handed_words packet.receiver found
-        (record (begun s) { wires = arrived name packet (begun s).wires })))
+        (record (underway s) { wires = arrived name packet (underway s).wires })))
     handing runs current None whole = inl refl
     handing runs current (Some words) whole =
         let is = completed-last packet (end_at s.wires.nodes packet.receiver packet.sender) words whole in
@@ -90,8 +93,8 @@ deliver-stays s name k (Some packet) there = by (comes_in packet (begun s)) refl
           current = current;
         })
 
-    by : (test : Bool) → comes_in packet (begun s) ≡ test
-        → Stays s (HandsOver s name k) (Makes (if test then received name packet (begun s) else begun s))
+    by : (test : Bool) → comes_in packet (underway s) ≡ test
+        → Stays s (HandsOver s name k) (Makes (if test then received name packet (underway s) else underway s))
     by true comes =
         let both = both-true (is_running s.world.stopped packet.receiver)
         (is_current_at packet (end_at s.wires.nodes packet.receiver packet.sender)) comes in
@@ -113,18 +116,18 @@ Keeps s (Would harm) = Unit {0}
 pub lose-keeps : (s next : Packeted) (y : Bool) (k : ℕ) → play s (Lose y k) ≡ Makes next → next.world ≡ s.world
 lose-keeps s next y k e = subst (Keeps s) e (by (packet_at s (bus_named y) k))
   where
-    by : (found : Option Packet) → Keeps s (ended (taken_off (Lose y k) s.wires) (lose_acted (begun s) found))
+    by : (found : Option Packet) → Keeps s (ended (taken_off (Lose y k) s.wires) (lose_acted (underway s) found))
     by None = tt
     by (Some packet) = refl
 
 pub repeat-keeps : (s next : Packeted) (y : Bool) (k : ℕ) → play s (Repeat y k) ≡ Makes next → next.world ≡ s.world
 repeat-keeps s next y k e = subst (Keeps s) e (by (packet_at s (bus_named y) k))
   where
-    by : (found : Option Packet) → Keeps s (ended s.wires (repeat_acted (bus_named y) (begun s) found))
+    by : (found : Option Packet) → Keeps s (ended s.wires (repeat_acted (bus_named y) (underway s) found))
     by None = tt
     by (Some packet) = refl
 
 pub drive-keeps : (s next : Packeted) (event : DriveEvent) → play s (Drive event) ≡ Makes next → next.world ≡ s.world
 drive-keeps s next event e =
-    subst (Keeps s) e (drive-cases event (begun s) (λ (played : Played Midst). Keeps s (ended s.wires played))
+    subst (Keeps s) e (drive-cases event (underway s) (λ (played : Played Midst). Keeps s (ended s.wires played))
     (λ drives. refl) tt (λ process. tt))

@@ -37,24 +37,27 @@ use Rattle.letters.specs.Posts.{plays_no_tick, plays_tick, plays_tick_stop, play
 use Rattle.letters.specs.Posts.{plays_drive, plays_reload, plays_no_reload, without_those_of}
 use Rattle.letters.specs.Posts.{no_mark, one_mark, IsTaken}
 use Rattle.letters.proofs.Owed.{played-sent, taken-there}
-use Rattle.machine_states.specs.States.{Played, Makes, Skips, Would, drive_played}
+use Rattle.message_wires_laws.specs.machine_states.specs.States.{Played, Makes, Skips, Would, drive_played}
 use Rattle.message_wires_laws.proofs.Stopping.{StopsNone, run-none, enter-none, handed-none, mark-none}
-use Rattle.message_layout.specs.Messages.{NodeMessage, Carrying, Changing, Reporting, Declaring}
-use Rattle.message_layout.specs.Reading.{understood}
-use Rattle.packet_wires.specs.Nodes.{end_at}
-use Rattle.packet_wires.specs.Wires.{Wires, Midst, bus_named, goes_over, arrived, learns, ticked}
-use Rattle.packet_wires.specs.Wires.{loaded_again}
-use Rattle.packet_wires.specs.Play.{Packeted, Underway, begun, after_done, made_by, after_any, after_marked, marked_by}
-use Rattle.packet_wires.specs.Play.{marks, declared, handed, handed_any, handed_words, received, deliver_acted}
-use Rattle.packet_wires.specs.Play.{lose_acted, repeat_acted, fail_acted, marks_and_declares, pulled, pulls, line_of}
-use Rattle.packet_wires.specs.Play.{comes_in, is_current_at, pulled_first, reload_acted, stop_acted}
-use Rattle.packet_wires.specs.Play.{pulls_its, tick_acted, packet_at, acted, taken_off, ended, play}
+use Rattle.letters_layout.specs.message_layout.specs.Messages.{NodeMessage, Carrying, Changing, Reporting, Declaring}
+use Rattle.letters_layout.specs.message_layout.specs.Reading.{understood}
+use Rattle.packet_nets.specs.packet_wires.specs.Nodes.{end_at}
+use Rattle.packet_nets.specs.packet_wires.specs.Wires.{Wires, Midst, bus_named, goes_over, arrived, learns, ticked}
+use Rattle.packet_nets.specs.packet_wires.specs.Wires.{loaded_again}
+use Rattle.packet_nets.specs.packet_wires.specs.Play.{Packeted, Underway, underway, after_done, made_by, after_any}
+use Rattle.packet_nets.specs.packet_wires.specs.Play.{after_marked, marked_by}
+use Rattle.packet_nets.specs.packet_wires.specs.Play.{marks, declared, handed, handed_any, handed_words, received}
+use Rattle.packet_nets.specs.packet_wires.specs.Play.{deliver_acted}
+use Rattle.packet_nets.specs.packet_wires.specs.Play.{lose_acted, repeat_acted, fail_acted, marks_and_declares, pulled}
+use Rattle.packet_nets.specs.packet_wires.specs.Play.{pulls, line_of}
+use Rattle.packet_nets.specs.packet_wires.specs.Play.{comes_in, is_current_at, pulled_running, reload_acted, stop_acted}
+use Rattle.packet_nets.specs.packet_wires.specs.Play.{pulls_its, tick_acted, packet_at, acted, taken_off, ended, play}
 use Rattle.change_layout.specs.Changing.{change_of}
 use Rattle.checkpoint_image.specs.declared.message.ImageMessage.{ImageMessage}
 use Rattle.computed_changes.specs.Changed.{change_done}
 use Rattle.checkpoint_chains.specs.Chains.{IsNextTo}
 use Rattle.checkpoint_chains.proofs.Newest.{change-new}
-use Rattle.packet_wires.specs.Parcels.{Parcel}
+use Rattle.packet_nets.specs.packet_wires.specs.Parcels.{Parcel}
 use Rattle.packet_nets.specs.Owing as net
 use Rattle.packet_nets.specs.Owing.{content_of, Owes, Ties, on_both}
 use Rattle.packets_laws.specs.Carried.{AllStandFor, IsCarried, IsCarriedAtRest, StandsFor}
@@ -68,7 +71,7 @@ use Rattle.packet_nets.proofs.Sending.{watched-ties, fewer-ties, rest-ties, Came
 use Rattle.packet_nets.proofs.Sending.{came}
 use Rattle.packet_nets.proofs.Ticking.{ticked-ties, down-ties, pulled-other}
 use Rattle.packet_nets.proofs.Watches.{changed-watch}
-use Rattle.machine_states.proofs.Turning.{drive-cases}
+use Rattle.message_wires_laws.specs.machine_states.proofs.Turning.{drive-cases}
 use Rattle.schedule.specs.declared.event.DriveEvent.{DriveEvent}
 use Rattle.packets_laws.proofs.Posting.{Carries, FitAll, HoldsLetters, change-counts, holds-still, marked-on}
 use Rattle.packets_laws.proofs.Posting.{now-stopped}
@@ -494,7 +497,7 @@ module _ (events : List Event) (on : List Packet) (s : Underway) (owed sent : Li
     line-on (Some processor) other = by (slice_get s.world.stopped processor) refl
       where
         stops : slice_get s.world.stopped processor ≡ Some false → (whole : Bool) → is_whole s.world ≡ whole
-            → GoesOn (events ++ Tick node ∷ []) on s (pulled_first node processor
+            → GoesOn (events ++ Tick node ∷ []) on s (pulled_running node processor
             (record s { wires = ticked s.site.processors node s.wires }) (stop_if processor s.world whole))
         stops e false parts = tt
         stops e true whole =
@@ -535,7 +538,7 @@ module _ (events : List Event) (on : List Packet) (s : Underway) (owed sent : Li
 
 -- the state after an event that is over is carried
 abbrev pub CarriesAtRest : List Event → Packeted → Type 0
-CarriesAtRest events s = Carries events (on_both s.wires) (begun s)
+CarriesAtRest events s = Carries events (on_both s.wires) (underway s)
 
 abbrev pub GoesOnAtRest : List Event → Packeted → Played Wires → Type 0
 GoesOnAtRest events s (Makes next) = CarriesAtRest events next
@@ -556,7 +559,7 @@ among-taken (Reload processor) wires p among = among
 among-taken (Drive event) wires p among = among
 
 over-on : (events : List Event) (s : Packeted) (event : Event) (played : Played Midst)
-    → GoesOn events (on_both s.wires) (begun s) played
+    → GoesOn events (on_both s.wires) (underway s) played
     → GoesOnAtRest events s (ended (taken_off event s.wires) played)
 over-on events s event Skips on = on
 over-on events s event (Would harm) on = tt
@@ -591,20 +594,21 @@ pub plays-on : (events : List Event) (s : Packeted) (owed sent : List Letter) �
 plays-on events s owed sent carried honest only whole fit event =
     over-on (events ++ event ∷ []) s event (acted s event) (by event)
   where
-    by : (event : Event) → GoesOn (events ++ event ∷ []) (on_both s.wires) (begun s) (acted s event)
-    by (Run number) = run-on events (on_both s.wires) (begun s) owed sent carried honest only whole fit number
-    by (Enter number) = enter-on events (on_both s.wires) (begun s) owed sent carried honest only whole fit number
+    by : (event : Event) → GoesOn (events ++ event ∷ []) (on_both s.wires) (underway s) (acted s event)
+    by (Run number) = run-on events (on_both s.wires) (underway s) owed sent carried honest only whole fit number
+    by (Enter number) = enter-on events (on_both s.wires) (underway s) owed sent carried honest only whole fit number
     by (Deliver y k) =
-        deliver-on events (on_both s.wires) (begun s) owed sent carried honest only whole fit y k
+        deliver-on events (on_both s.wires) (underway s) owed sent carried honest only whole fit y k
         (packet_at s (bus_named y) k) (stands-there s (bus_named y) k)
     by (Lose y k) =
-        lose-on events (on_both s.wires) (begun s) owed sent carried honest only whole fit y k
+        lose-on events (on_both s.wires) (underway s) owed sent carried honest only whole fit y k
         (packet_at s (bus_named y) k)
     by (Repeat y k) =
-        repeat-on events (on_both s.wires) (begun s) owed sent carried honest only whole fit y k
+        repeat-on events (on_both s.wires) (underway s) owed sent carried honest only whole fit y k
         (packet_at s (bus_named y) k) (stands-there s (bus_named y) k)
-    by (Tick node) = tick-on events (on_both s.wires) (begun s) owed sent carried honest only whole fit node
-    by (Fail processor) = fail-on events (on_both s.wires) (begun s) owed sent carried honest only whole fit processor
+    by (Tick node) = tick-on events (on_both s.wires) (underway s) owed sent carried honest only whole fit node
+    by (Fail processor) =
+        fail-on events (on_both s.wires) (underway s) owed sent carried honest only whole fit processor
     by (Reload processor) =
-        reload-on events (on_both s.wires) (begun s) owed sent carried honest only whole fit processor
-    by (Drive event) = drive-on events (on_both s.wires) (begun s) owed sent carried honest only whole fit event
+        reload-on events (on_both s.wires) (underway s) owed sent carried honest only whole fit processor
+    by (Drive event) = drive-on events (on_both s.wires) (underway s) owed sent carried honest only whole fit event

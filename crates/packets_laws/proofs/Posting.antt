@@ -23,12 +23,12 @@ use Rattle.letters.specs.Routes.{Letter, letters_of}
 use Rattle.letters.specs.Again.{sent_again}
 use Rattle.letters.specs.Posts.{Post, with_letters, post_after_down, without_those_between, HasPlayed}
 use Rattle.message_wires_laws.proofs.Stopping.{StopsNone, mark-none}
-use Rattle.packet_wires.specs.Wires.{Midst, goes_over, all_posted, cut_off}
-use Rattle.packet_wires.specs.Play.{Underway, after_marked}
-use Rattle.message_layout.specs.Layout.{Fits}
+use Rattle.packet_nets.specs.packet_wires.specs.Wires.{Midst, goes_over, all_posted, cut_off}
+use Rattle.packet_nets.specs.packet_wires.specs.Play.{Underway, after_marked}
+use Rattle.letters_layout.specs.message_layout.specs.Layout.{Fits}
 use Rattle.checkpoint_chains.proofs.Newest.{IsNewestIfOne, change-new}
 use Rattle.message_wires_laws.specs.letter_laws.proofs.Again.{again-is}
-use Rattle.packet_wires.specs.Parcels.{Parcel, form_of, parcel_of, parcels_of}
+use Rattle.packet_nets.specs.packet_wires.specs.Parcels.{Parcel, form_of, parcel_of, parcels_of}
 use Rattle.packet_nets.specs.Owing as net
 use Rattle.packet_nets.specs.Owing.{IsContent, Ties}
 use Rattle.packets_laws.specs.Carried.{AllStandFor, IsCarried, IsFormOf, WereSent}

@@ -27,16 +27,16 @@ use Rattle.letters.specs.Routes.{Letter}
 use Rattle.letters.proofs.Worlds.{played-run}
 use Rattle.message_wires_laws.specs.letter_laws.proofs.Fitting.{letter-fits}
 use Rattle.message_wires_laws.specs.letter_laws.proofs.Honest.{played-honest}
-use Rattle.message_layout.specs.Layout.{Fits}
-use Rattle.message_layout.specs.Messages.{NodeMessage}
-use Rattle.packet_wires.specs.Parcels.{form_of}
-use Rattle.packet_wires.specs.Play.{Packeted, begun, comes_in, completed, packet_at, play}
-use Rattle.packet_wires.specs.Nodes.{end_at}
+use Rattle.letters_layout.specs.message_layout.specs.Layout.{Fits}
+use Rattle.letters_layout.specs.message_layout.specs.Messages.{NodeMessage}
+use Rattle.packet_nets.specs.packet_wires.specs.Parcels.{form_of}
+use Rattle.packet_nets.specs.packet_wires.specs.Play.{Packeted, underway, comes_in, completed, packet_at, play}
+use Rattle.packet_nets.specs.packet_wires.specs.Nodes.{end_at}
 use Rattle.packets_laws.proofs.Coming.{comes-right}
-use Rattle.packet_wires.specs.Runs.{IsPlayed, played_none, played_more, skipped}
+use Rattle.packet_nets.specs.packet_wires.specs.Runs.{IsPlayed, played_none, played_more, skipped}
 use Rattle.packets_laws.specs.Carried.{IsCarriedAtRest, IsFormOf, WasSentInWords}
 use Rattle.letters.specs.Idle.{IsIdle}
-use Rattle.packet_wires.specs.Idle.{is_idle}
+use Rattle.packet_nets.specs.packet_wires.specs.Idle.{is_idle}
 use Rattle.packets_laws.proofs.Going.{played-site}
 use Rattle.packets_laws.proofs.Idle.{idle-post}
 use Rattle.packets_laws.proofs.Newest.{form-newest}
@@ -154,7 +154,7 @@ module _ (site : Site) (fit : IsFit site) (small : IsSmall site) (out : IsLaidOu
     pub played-comes : (owed : List Letter) × (sent : List Letter)
         × posts.HasPlayed site events (record { world = s.world; owed = owed; sent = sent })
         × ((name : BusName) (k : ℕ) (p : Packet) (words : List ℤ) → packet_at s name k ≡ Some p
-        → comes_in p (begun s) ≡ true
+        → comes_in p (underway s) ≡ true
         → completed p (end_at s.wires.nodes p.receiver p.sender) ≡ Some words
         → WasSentInWords site s.world sent p.sender p.receiver words)
     played-comes =

@@ -12,11 +12,11 @@ use Rattle.computed_changes.specs.Laws.{IsSent}
 use Rattle.checkpoint_chains.specs.Chains.{IsNextTo}
 use Rattle.letters.specs.Posts.{HasPlayed}
 use Rattle.letters.specs.Routes.{Letter}
-use Rattle.message_layout.specs.Layout.{Fits}
-use Rattle.message_layout.specs.Messages.{NodeMessage, Carrying, Changing, Reporting, Declaring}
-use Rattle.message_layout.specs.Reading.{understood}
-use Rattle.packet_wires.specs.Parcels.{Parcel}
-use Rattle.packet_wires.specs.Play.{Packeted, Underway, begun}
+use Rattle.letters_layout.specs.message_layout.specs.Layout.{Fits}
+use Rattle.letters_layout.specs.message_layout.specs.Messages.{NodeMessage, Carrying, Changing, Reporting, Declaring}
+use Rattle.letters_layout.specs.message_layout.specs.Reading.{understood}
+use Rattle.packet_nets.specs.packet_wires.specs.Parcels.{Parcel}
+use Rattle.packet_nets.specs.packet_wires.specs.Play.{Packeted, Underway, underway}
 use Rattle.packet_nets.specs.Owing.{HasLoaded, Ties, on_both}
 
 -- Parcels of letters
@@ -60,7 +60,7 @@ pub record IsCarried (events : List Event) (on : List Packet) (s : Underway) (ow
 
 -- between events
 abbrev pub IsCarriedAtRest : List Event → Packeted → List Letter → List Letter → Type 0
-IsCarriedAtRest events s owed sent = IsCarried events (on_both s.wires) (begun s) owed sent
+IsCarriedAtRest events s owed sent = IsCarried events (on_both s.wires) (underway s) owed sent
 
 -- What comes
 

@@ -7,8 +7,8 @@ use Rattle.schedule.specs.declared.event.Event.TheVariants.{Drive}
 use Rattle.packet_words.specs.declared.packet.Packet.{Packet}
 use Rattle.channel_laws.specs.Net.{Net, Goes, ticked_net}
 use Rattle.channel_laws.specs.Rounds.{Passes}
-use Rattle.packet_wires.specs.Play.{Packeted, IsClear, packet_at}
-use Rattle.packet_wires.specs.Wires.{bus_named}
+use Rattle.packet_nets.specs.packet_wires.specs.Play.{Packeted, IsClear, packet_at}
+use Rattle.packet_nets.specs.packet_wires.specs.Wires.{bus_named}
 use Rattle.packet_nets.specs.Owing.{on_both}
 use Rattle.packet_nets.specs.Passing.{IsNet}
 

@@ -5,8 +5,8 @@ use Rattle.packet_words.specs.declared.packet.Packet.{Packet}
 use Rattle.packet_words.specs.declared.packet.PacketKind.TheVariants as kind
 use Rattle.packet_words.specs.declared.piece.Piece.{Piece}
 use Rattle.world_semantics.specs.World.{is_running}
-use Rattle.packet_wires.specs.Nodes.{end_at}
-use Rattle.packet_wires.specs.Play.{Packeted, is_current_at, packet_at}
+use Rattle.packet_nets.specs.packet_wires.specs.Nodes.{end_at}
+use Rattle.packet_nets.specs.packet_wires.specs.Play.{Packeted, is_current_at, packet_at}
 
 -- at this position of a bus stands the last piece of a message, which comes in at a node that runs
 pub record HandsOver (s : Packeted) (name : BusName) (k : ℕ) : Type 0 where

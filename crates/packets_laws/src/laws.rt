@@ -20,16 +20,17 @@ ghost use Rattle.message_wires_laws.specs.awaited_requests.specs.Seats.{IsLaidOu
 ghost use Rattle.letters.specs.Idle.{IsIdle, OneStops};
 ghost use Rattle.letters.specs.Posts.{HasPlayed};
 ghost use Rattle.letters.specs.Routes.{Letter};
-ghost use Rattle.machine_states.specs.States.{Makes};
+ghost use Rattle.message_wires_laws.specs.machine_states.specs.States.{Makes};
 ghost use Rattle.letters_layout.specs.Fitting.{IsSmall};
 ghost use Rattle.channel_laws.specs.Net.{Goes, Net, reloaded_net};
-ghost use Rattle.message_layout.specs.Messages.{Carrying, Changing};
-ghost use Rattle.packet_wires.specs.Idle.{is_idle};
-ghost use Rattle.packet_wires.specs.Nodes.{end_at};
-ghost use Rattle.packet_wires.specs.Parcels.{form_of};
-ghost use Rattle.packet_wires.specs.Play.{Packeted, begun, comes_in, completed, packet_at, packeted_at_boot, play};
-ghost use Rattle.packet_wires.specs.Runs.{IsPlayed};
-ghost use Rattle.packet_wires.specs.Wires.{bus_named};
+ghost use Rattle.letters_layout.specs.message_layout.specs.Messages.{Carrying, Changing};
+ghost use Rattle.packet_nets.specs.packet_wires.specs.Idle.{is_idle};
+ghost use Rattle.packet_nets.specs.packet_wires.specs.Nodes.{end_at};
+ghost use Rattle.packet_nets.specs.packet_wires.specs.Parcels.{form_of};
+ghost use Rattle.packet_nets.specs.packet_wires.specs.Play.{Packeted, underway, comes_in, completed, packet_at};
+ghost use Rattle.packet_nets.specs.packet_wires.specs.Play.{packeted_at_boot, play};
+ghost use Rattle.packet_nets.specs.packet_wires.specs.Runs.{IsPlayed};
+ghost use Rattle.packet_nets.specs.packet_wires.specs.Wires.{bus_named};
 ghost use Rattle.packets_laws.specs.Carried.{WasSentInWords};
 ghost use Rattle.packets_laws.specs.Passing.{IsNetOf, IsPassed, IsTickPassed, ReloadsNone};
 ghost use Rattle.packets_laws.specs.Pieces.{HandsOver};
@@ -58,7 +59,7 @@ pub fn what_comes_was_sent()
         → IsPlayed site events s → (owed : List Letter) × (sent : List Letter)
         × HasPlayed site events (record { world = s.world; owed = owed; sent = sent })
         × ((name : BusName) (k : ℕ) (p : Packet) (words : List ℤ) → packet_at s name k ≡ Some p
-        → comes_in p (begun s) ≡ true
+        → comes_in p (underway s) ≡ true
         → completed p (end_at s.wires.nodes p.receiver p.sender) ≡ Some words
         → WasSentInWords site s.world sent p.sender p.receiver words) }
 {}
@@ -98,7 +99,7 @@ pub fn only_what_has_stopped_is_marked()
 {}
 
 /// Whatever is played, at most one processor has stopped: no second one stops before the first one is loaded again.
-pub fn a_second_processor_never_stops()
+pub fn at_most_one_processor_has_stopped()
     ensures { (site : Site) (events : List Event) (s : Packeted) → IsPlayed site events s → OneStops s.world }
 {}
 

@@ -3,8 +3,8 @@ use Rattle.std.proofs.Common.{◌≡◌, ◌<◌, true, List, length, arith}
 use Rattle.tal_tree.specs.declared.site.Site.{Site}
 use Rattle.schedule.specs.declared.event.Event.{Event}
 use Rattle.plain_semantics.specs.SiteLimits.{KeepsSiteLimits}
-use Rattle.letters.specs.Routes.{Letter}
-use Rattle.world_semantics.specs.Follows.{IsRun}
+use Rattle.idle_laws.specs.letters.specs.Routes.{Letter}
+use Rattle.idle_laws.specs.world_semantics.specs.Follows.{IsRun}
 use Rattle.idle_laws.specs.awaited_requests.specs.Seats.{IsLaidOut}
 use Rattle.idle_laws.specs.accepted_sites.proofs.Accepted.{accepted-fit}
 use Rattle.idle_laws.specs.accepted_sites.specs.Premises.{IsAcceptedSite}

@@ -1,4 +1,4 @@
-use advise::advice::Advice;
+use advise::Advice;
 use gd_words::List;
 use path_semantics::{Reason, RefusalFault};
 use statement_dues::{Deed, NamedCheckpoint};

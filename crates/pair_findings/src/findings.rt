@@ -5,15 +5,14 @@ ghost use Rattle.pair_findings.specs.Findings.{path_of};
 
 use crate::finding::{Finding, PairFinding, Remedy};
 use crate::marks::since_checkpoint;
-use advise::advice::AdviseRefusal;
-use advise::advise;
+use advise::{AdviseFault, advise};
 use gd_words::{List, NoMemory};
 use path_semantics::RefusalFault;
 use statement_dues::{Deed, checkpoints_of, deeds_of};
 use statement_lines::lines_of;
 use std::alloc::Global;
 use tal_tree::{Kind, ProcessSpec, Program};
-use verdicts::discipline::check;
+use verdicts::check;
 
 /// What is found of each process, in deck order.
 pub fn findings_of(alloc: Global, processes: &[ProcessSpec]) -> Result<List<Finding>, NoMemory>
@@ -79,10 +78,10 @@ fn remedy_of(alloc: Global, program: &Program) -> Result<Remedy, NoMemory>
 {
     match advise(alloc, program) {
         Ok(advice) => Ok(Remedy::Lists(advice)),
-        Err(AdviseRefusal::TooDeep) => Ok(Remedy::OutOfBounds),
-        Err(AdviseRefusal::TooLarge(_)) => Ok(Remedy::OutOfBounds),
-        Err(AdviseRefusal::Unmendable { reason, path }) => Ok(Remedy::Unmendable { reason, path }),
-        Err(AdviseRefusal::NoMemory(memory)) => Err(memory),
+        Err(AdviseFault::TooDeep) => Ok(Remedy::OutOfBounds),
+        Err(AdviseFault::TooLarge(_)) => Ok(Remedy::OutOfBounds),
+        Err(AdviseFault::Unmendable { reason, path }) => Ok(Remedy::Unmendable { reason, path }),
+        Err(AdviseFault::NoMemory(memory)) => Err(memory),
     }
 }
 

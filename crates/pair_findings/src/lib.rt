@@ -10,6 +10,8 @@ pub mod finding;
 pub mod findings;
 pub mod marks;
 
+pub use advise::{Advice, Advised};
 pub use finding::{Finding, PairFinding, Remedy};
 pub use findings::findings_of;
 pub use marks::{is_marked, since_checkpoint};
+pub use statement_dues::NamedCheckpoint;

@@ -2,7 +2,7 @@
 use Rattle.std.proofs.Common.{◌≡◌, ℕ, Bool, true, false, Option, Some, None, is_some, slice_get, ap, sym, subst, ◌∙◌}
 use Rattle.world_semantics.specs.Running.{Done}
 use Rattle.world_semantics.specs.World.{is_whole}
-use Rattle.computed_changes.specs.Stopped.{stop_done, stop_if, stop_where, stopped_world}
+use Rattle.message_wires.specs.computed_changes.specs.Stopped.{stop_done, stop_if, stop_where, stopped_world}
 use Rattle.machine_states.specs.States.{Settles}
 use Rattle.machine_states.specs.declared.effect.Effect.{Effect}
 use Rattle.machine_states.specs.declared.effect.Effect.TheVariants as effect

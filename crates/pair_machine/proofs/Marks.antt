@@ -3,8 +3,8 @@
 use Rattle.std.proofs.Common.{◌≡◌, ℕ, suc, ◌+◌, ◌-◌, ◌<◌, List, ◌++◌, ap, ap₂, sym, ◌∙◌, arith}
 use Rattle.world_semantics.specs.Messages.{Sending}
 use Rattle.world_semantics.specs.Running.{Done}
-use Rattle.computed_changes.specs.Stopped.{down_done}
-use Rattle.letters.specs.Again.{sent_again}
+use Rattle.message_wires.specs.computed_changes.specs.Stopped.{down_done}
+use Rattle.message_wires.specs.letters.specs.Again.{sent_again}
 use Rattle.message_wires.specs.Play.{MachineState, after_noted, noted_by, notes_from}
 use Rattle.message_wires.specs.Wires.{paid_between}
 use Rattle.pair_machine.specs.Told.{sent_all}

@@ -8,14 +8,14 @@ use Rattle.schedule.specs.declared.event.Event.{Event}
 use Rattle.world_semantics.specs.Messages.{Sending}
 use Rattle.world_semantics.specs.Running.{Done}
 use Rattle.world_semantics.proofs.Lists.{some-same}
-use Rattle.computed_changes.specs.Stopped.{mark_where, down_done, marked_where, may_note}
-use Rattle.letters.specs.Routes.{Letter, letter_of, letters_of, receiver_of}
+use Rattle.message_wires.specs.computed_changes.specs.Stopped.{mark_where, down_done, marked_where, may_note}
+use Rattle.message_wires.specs.letters.specs.Routes.{Letter, letter_of, letters_of, receiver_of}
 use Rattle.machine_states.specs.States.{Played, Makes, Skips, Would}
 use Rattle.message_wires.specs.Play.{MachineState, made_by, noted_by, notes_from, play}
 use Rattle.message_wires.specs.Wires.{Wires, wires_after_posts, wires_after_post}
 use Rattle.number_laws.proofs.Counts.{marks-grow}
 use Rattle.gd_words.specs.Ranges.{HasNextLong}
-use Rattle.number_ranges.specs.HasRoom.{HasRoom, HasRoomForLetters}
+use Rattle.number_laws.specs.number_ranges.specs.HasRoom.{HasRoom, HasRoomForLetters}
 use Rattle.world_copies.specs.Room.{AllWatchersHaveRoom}
 use Rattle.world_copies.specs.Told.{sent_in}
 use Rattle.world_copies.proofs.Room.{all-marked-room}

@@ -1,7 +1,7 @@
 -- Where no processor has stopped, none is marked.
 use Rattle.std.proofs.Common.{◌≡◌, ℕ, zero, suc, ◌+◌, Bool, true, false, List, [], ◌∷◌, None, refl, ap}
 use Rattle.std.proofs.Common.{◌∙◌, slice_get}
-use Rattle.computed_changes.specs.Stopped.{mark_where}
+use Rattle.message_wires.specs.computed_changes.specs.Stopped.{mark_where}
 use Rattle.message_wires.specs.Play.{MachineState, has_stopped, noted_by, notes_from}
 use Rattle.world_semantics.specs.World.{World}
 

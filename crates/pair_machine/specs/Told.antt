@@ -3,7 +3,7 @@
 use Rattle.std.specs.Prelude.{◌≡◌, List, Option, Some, None}
 use Rattle.world_semantics.specs.Messages.{Sending}
 use Rattle.world_semantics.specs.Running.{Done, world_after}
-use Rattle.letters.specs.Routes.{letters_of}
+use Rattle.message_wires.specs.letters.specs.Routes.{letters_of}
 use Rattle.machine_states.specs.declared.effect.Effect.{Effect}
 use Rattle.machine_states.specs.declared.effect.Effect.TheVariants as effect
 use Rattle.message_wires.specs.Play.{MachineState}

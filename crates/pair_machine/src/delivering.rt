@@ -1,11 +1,11 @@
 ghost use Rattle.std.specs.Prelude.{◌≡◌, ◌&&◌, IfOk, OnOk};
-ghost use Rattle.computed_changes.specs.Handed.{handed_done};
+ghost use Rattle.message_wires.specs.computed_changes.specs.Handed.{handed_done};
 ghost use Rattle.machine_states.specs.States.{Settles};
-ghost use Rattle.number_ranges.specs.HasRoom.{HasRoom};
-ghost use Rattle.message_wires.specs.Play.{after_any, comes_in, deliver_played, lose_played, packet_at};
+ghost use Rattle.number_laws.specs.number_ranges.specs.HasRoom.{HasRoom};
+ghost use Rattle.message_wires.specs.Play.{after_any, deliver_played, is_admitted, lose_played, packet_at};
 ghost use Rattle.message_wires.specs.Play.{state_after_receiving, repeat_played};
-ghost use Rattle.message_wires.specs.Wires.{is_present};
-ghost use Rattle.sendings.specs.Seen.{message_of};
+ghost use Rattle.message_wires.specs.Wires.{is_current};
+ghost use Rattle.posted_letters.specs.sendings.specs.Seen.{message_of};
 ghost use Rattle.world_copies.specs.node_copies.specs.Seen.{step_sendings};
 ghost use Rattle.world_copies.specs.Room.{NamesItsOpener};
 ghost use Rattle.world_copies.specs.Told.{sent_in};
@@ -15,9 +15,8 @@ ghost use Rattle.pair_machine.specs.Told.{unsent};
 use crate::whole::MachineParts;
 use gd_words::NoMemory;
 use machine_states::Effect;
-use posted_letters::Sent;
-use sendings::Message;
-use world_copies::node_copies::StepOutcome;
+use posted_letters::{Message, Sent};
+use world_copies::StepOutcome;
 
 impl MachineParts {
     /// The packet at a position of a bus is taken off, and its letter comes in or is dropped.
@@ -60,9 +59,9 @@ impl MachineParts {
     /// Whether a packet comes in: it isn't old, and its receiver runs and hasn't marked its sender.
     fn comes_in(&self, packet: &Sent) -> bool
         ensures { result
-            ≡ (is_present self.now.wires.before packet.now && comes_in self.now packet.now.letter) }
+            ≡ (is_current self.now.wires.before packet.now && is_admitted self.now packet.now.letter) }
     {
-        self.wires.is_present(packet)
+        self.wires.is_current(packet)
             && self.world.is_running(packet.receiver())
             && !self.world.has_marked(packet.receiver(), packet.sender())
     }

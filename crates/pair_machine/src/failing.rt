@@ -1,6 +1,6 @@
 ghost use Rattle.std.specs.Prelude.{◌≡◌, Some, false, slice_get, IfOk};
 ghost use Rattle.machine_states.specs.States.{Settles};
-ghost use Rattle.computed_changes.specs.Stopped.{stop_done, stopped_world};
+ghost use Rattle.message_wires.specs.computed_changes.specs.Stopped.{stop_done, stopped_world};
 ghost use Rattle.message_wires.specs.Play.{fail_played, stop_played};
 
 use crate::whole::MachineParts;

@@ -4,7 +4,7 @@ ghost use Rattle.world_semantics.specs.Kept.{acts_of};
 ghost use Rattle.world_copies.specs.node_copies.specs.ShownCounts.{replies_in, writes_in};
 ghost use Rattle.message_wires.specs.Idle.{is_idle};
 ghost use Rattle.message_wires.specs.Play.{play, machine_at_boot};
-ghost use Rattle.number_ranges.specs.HasRoom.{HasRoom, HasRoomForLetters};
+ghost use Rattle.number_laws.specs.number_ranges.specs.HasRoom.{HasRoom, HasRoomForLetters};
 ghost use Rattle.world_copies.specs.process_copies.specs.Starting.{IsStartable};
 ghost use Rattle.world_copies.specs.Seen.{ArePlaced, pairs_in};
 ghost use Rattle.pair_machine.specs.Room.{OpenersAreThere};
@@ -18,9 +18,7 @@ use schedule::Event;
 use std::alloc::Global;
 use std::marker::Model;
 use tal_tree::{Act, Shown, Site};
-use world_copies::Terminal;
-use world_copies::node_copies::Downs;
-use world_copies::process_copies::ProcessCopies;
+use world_copies::{Downs, ProcessCopies, Terminal};
 
 /// The machine over whole messages. Once an allocation was refused to it, it answers so for good.
 #[derive(Drop)]

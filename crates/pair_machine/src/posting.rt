@@ -6,8 +6,8 @@ ghost use Rattle.world_copies.specs.node_copies.specs.Seen.{step_sendings};
 use crate::whole::MachineParts;
 use gd_words::{List, NoMemory};
 use machine_states::Effect;
-use sendings::{Letter, Sending};
-use world_copies::node_copies::StepOutcome;
+use posted_letters::{Letter, Sending};
+use world_copies::StepOutcome;
 
 impl MachineParts {
     /// A message is sent at a node: a letter is posted to where the node finds the receiver.

@@ -1,8 +1,8 @@
 ghost use Rattle.std.specs.Prelude.{◌≡◌, ◌++◌, IfOk, OnOk, length};
 ghost use Rattle.machine_states.specs.States.{Settles};
-ghost use Rattle.computed_changes.specs.Stopped.{down_done, world_at_down};
-ghost use Rattle.letters.specs.Again.{sent_again};
-ghost use Rattle.number_ranges.specs.HasRoom.{HasRoom};
+ghost use Rattle.message_wires.specs.computed_changes.specs.Stopped.{down_done, world_at_down};
+ghost use Rattle.message_wires.specs.letters.specs.Again.{sent_again};
+ghost use Rattle.number_laws.specs.number_ranges.specs.HasRoom.{HasRoom};
 ghost use Rattle.message_wires.specs.Play.{after_noted, noted_by, notes_from, tick_played};
 ghost use Rattle.message_wires.specs.Wires.{paid_between, wires_again};
 ghost use Rattle.world_copies.specs.Room.{AllWatchersHaveRoom};
@@ -11,7 +11,7 @@ ghost use Rattle.pair_machine.specs.Room.{AreCounted, AreCountedAfter};
 use crate::whole::MachineParts;
 use gd_words::{List, NoMemory};
 use machine_states::Effect;
-use sendings::Sending;
+use posted_letters::Sending;
 
 impl MachineParts {
     /// The tick of a node: it marks what has stopped, and puts on the bus again what it sent that is owed and not

@@ -61,7 +61,7 @@ impl MachineParts {
         self.wires.none_owed(self.world.stopped())
             && self.world.none_enters()
             && self.world.none_runs()
-            && self.world.none_waits()
+            && self.world.none_awaits_taking()
             && self.world.all_marked()
     }
 

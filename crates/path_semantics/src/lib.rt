@@ -23,5 +23,5 @@ pub use laws::{
     path_fixes_its_stand, places_are_told, quiet_programs_are_bounded, successors_differ,
 };
 pub use paths::{breaks_there, entry_number, leads_somewhere};
-pub use process_semantics;
+pub use process_semantics::Entry;
 pub use reason::{Reason, RefusalFault};

@@ -4,7 +4,7 @@ use Rattle.std.proofs.lemmas.List.{append_assoc}
 use Rattle.tal_tree.specs.declared.program.Program.{Program}
 use Rattle.tal_tree.specs.declared.statement.Statement.{Statement}
 use Rattle.tal_tree.specs.declared.statement.What.{What, What-F, out-What}
-use Rattle.tal_values.specs.Value.{cell_of}
+use Rattle.process_semantics.specs.tal_values.specs.Value.{cell_of}
 use Rattle.process_semantics.specs.State.{Entry, Run, Test, Last, ProgramState, runs_of, memory_of}
 use Rattle.process_semantics.specs.Steps.{inner_in, tested_in, counted_in, inner_entry, or_ends}
 use Rattle.path_semantics.specs.declared.dues.Dues.{Dues}

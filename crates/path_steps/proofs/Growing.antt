@@ -11,9 +11,9 @@ use Rattle.tal_tree.specs.declared.expression.Variable.{Variable}
 use Rattle.tal_tree.specs.declared.expression.Variable.TheVariants as variable
 use Rattle.tal_tree.specs.declared.statement.Statement.{Statement}
 use Rattle.tal_tree.specs.declared.statement.What.{What, What-F}
-use Rattle.tal_values.specs.declared.memory.Cell.{Cell}
-use Rattle.tal_values.specs.declared.memory.Cell.TheVariants as cell
-use Rattle.tal_values.specs.Value.{Memory, cell_of}
+use Rattle.process_semantics.specs.tal_values.specs.declared.memory.Cell.{Cell}
+use Rattle.process_semantics.specs.tal_values.specs.declared.memory.Cell.TheVariants as cell
+use Rattle.process_semantics.specs.tal_values.specs.Value.{Memory, cell_of}
 use Rattle.process_semantics.specs.State.{ProgramState, words_of}
 use Rattle.process_semantics.specs.Changes.{with_word, variable_cell}
 use Rattle.path_semantics.specs.declared.dues.Dues.{Dues}

@@ -7,9 +7,9 @@ use Rattle.tal_tree.specs.declared.program.Procedure.{Procedure}
 use Rattle.tal_tree.specs.declared.expression.Variable.{Variable}
 use Rattle.tal_tree.specs.declared.statement.Statement.{Statement}
 use Rattle.tal_tree.specs.declared.statement.What.{What, What-F, out-What}
-use Rattle.tal_values.specs.declared.memory.Cell.{Cell}
-use Rattle.tal_values.specs.declared.memory.Cell.TheVariants as cell
-use Rattle.tal_values.specs.Value.{cell_of}
+use Rattle.process_semantics.specs.tal_values.specs.declared.memory.Cell.{Cell}
+use Rattle.process_semantics.specs.tal_values.specs.declared.memory.Cell.TheVariants as cell
+use Rattle.process_semantics.specs.tal_values.specs.Value.{cell_of}
 use Rattle.process_semantics.specs.State.{Entry, Run, Test, Last, Frame, ProgramState, runs_of, first_of, words_of}
 use Rattle.process_semantics.specs.State.{memory_of}
 use Rattle.process_semantics.specs.Changes.{local_set, with_word, with_words, without_next, put_before, done, before}

@@ -10,22 +10,23 @@ use Rattle.tal_tree.specs.declared.site.Who.{Who}
 use Rattle.tal_tree.specs.declared.site.Who.TheVariants as who
 use Rattle.tal_tree.specs.declared.statement.Statement.{Statement}
 use Rattle.tal_tree.specs.declared.statement.What.{What, What-F}
-use Rattle.process_semantics.specs.declared.point.Point.{Point}
-use Rattle.process_semantics.specs.declared.point.Point.TheVariants as point
-use Rattle.process_semantics.specs.Process as process
-use Rattle.process_semantics.proofs.Points.{AtCall, at_reply, stands-at}
-use Rattle.whole_states.specs.Processes.{IsDiscAt, IsWholeProcess}
-use Rattle.whole_states.proofs.Discs.{disc-at}
+use Rattle.plain_semantics.specs.process_semantics.specs.declared.point.Point.{Point}
+use Rattle.plain_semantics.specs.process_semantics.specs.declared.point.Point.TheVariants as point
+use Rattle.plain_semantics.specs.process_semantics.specs.Process as process
+use Rattle.plain_semantics.specs.process_semantics.proofs.Points.{AtCall, at_reply, stands-at}
+use Rattle.process_histories.specs.whole_states.specs.Processes.{IsDiscAt, IsWholeProcess}
+use Rattle.process_histories.specs.whole_states.proofs.Discs.{disc-at}
 use Rattle.plain_semantics.specs.Machine.{Plain, PlainProcess, Made, made, slot_at, slot_of, step_made, step_at}
 use Rattle.plain_semantics.specs.Machine.{got_made, take_made, take_at, take_slot}
 use Rattle.plain_semantics.specs.Openers.{openers_of, opener_of}
 use Rattle.plain_semantics.specs.declared.slot.Opener.{Opener}
 use Rattle.plain_semantics.specs.declared.slot.Slot.{Slot}
 use Rattle.plain_semantics.specs.declared.slot.Slot.TheVariants.{Empty, Waiting, Taken, Answered}
-use Rattle.world_semantics.specs.Core.{Core, Deed, Went, Checkpointed, Took, Asked, Got, Answered as Replied, Acted}
-use Rattle.world_semantics.specs.Core.{goes, marks, takes, asks, gets, answers, acts}
-use Rattle.world_semantics.specs.Own.{found_on}
-use Rattle.world_semantics.proofs.Lists.{some-same}
+use Rattle.process_histories.specs.world_semantics.specs.Core.{Core, Deed, Went, Checkpointed, Took, Asked, Got}
+use Rattle.process_histories.specs.world_semantics.specs.Core.{Answered as Replied, Acted}
+use Rattle.process_histories.specs.world_semantics.specs.Core.{goes, marks, takes, asks, gets, answers, acts}
+use Rattle.process_histories.specs.world_semantics.specs.Own.{found_on}
+use Rattle.process_histories.specs.world_semantics.proofs.Lists.{some-same}
 use Rattle.process_histories.specs.Bounds.{AreBounded}
 use Rattle.process_histories.specs.Devices.{sectors_after}
 use Rattle.process_histories.specs.Histories.{HasDone, nothing_done, one_more}

@@ -11,8 +11,8 @@ use Rattle.plain_semantics.specs.Openers.{opener_of}
 use Rattle.plain_semantics.specs.declared.slot.Opener.{Opener}
 use Rattle.plain_semantics.specs.declared.slot.Slot.{Slot}
 use Rattle.plain_semantics.specs.declared.slot.Slot.TheVariants.{Empty}
-use Rattle.world_semantics.specs.Core.{Deed}
-use Rattle.world_semantics.proofs.Lists.{some-same}
+use Rattle.process_histories.specs.world_semantics.specs.Core.{Deed}
+use Rattle.process_histories.specs.world_semantics.proofs.Lists.{some-same}
 use Rattle.process_histories.specs.Words.{take_from, answer_to, ask_on, get_on}
 use Rattle.plain_histories.specs.Agreeing.{StandsFor, Agrees, HasSlotOf}
 use Rattle.plain_histories.specs.Ledgers.{Ledger, with_deed}

@@ -9,16 +9,16 @@ use Rattle.tal_tree.specs.declared.site.Site.{Site}
 use Rattle.tal_tree.specs.declared.site.TerminalSpec.{TerminalSpec}
 use Rattle.tal_tree.specs.declared.site.Who.{Who}
 use Rattle.tal_tree.specs.declared.site.Who.TheVariants as who
-use Rattle.process_semantics.specs.State.{zeros}
+use Rattle.plain_semantics.specs.process_semantics.specs.State.{zeros}
 use Rattle.plain_semantics.specs.Machine.{PlainProcess, process_at_first, processes_at_first, plain_start}
 use Rattle.plain_semantics.specs.Machine.{sectors_at_first, slot_at}
 use Rattle.plain_semantics.specs.Openers.{openers_of}
 use Rattle.plain_semantics.specs.declared.slot.Opener.{Opener}
 use Rattle.plain_semantics.specs.declared.slot.Slot.TheVariants.{Empty}
-use Rattle.disc_device.specs.Sectors.{Stored, blank}
-use Rattle.world_semantics.specs.Core.{core_at_boot}
-use Rattle.world_semantics.specs.World.{device_at_boot}
-use Rattle.world_semantics.proofs.Lists.{some-same}
+use Rattle.process_histories.specs.disc_device.specs.Sectors.{Stored, blank}
+use Rattle.process_histories.specs.world_semantics.specs.Core.{core_at_boot}
+use Rattle.process_histories.specs.world_semantics.specs.World.{device_at_boot}
+use Rattle.process_histories.specs.world_semantics.proofs.Lists.{some-same}
 use Rattle.process_histories.specs.Histories.{nothing_done}
 use Rattle.plain_histories.specs.Agreeing.{Agrees, HasSlotOf}
 use Rattle.plain_histories.specs.Ledgers.{empty_ledger}

@@ -5,7 +5,7 @@ use Rattle.std.proofs.lemmas.Bool.Decides.{eqb_tells}
 use Rattle.tal_tree.specs.declared.site.Who.{Who}
 use Rattle.tal_tree.specs.declared.site.Who.TheVariants as who
 use Rattle.plain_semantics.specs.declared.slot.Opener.{Opener}
-use Rattle.world_semantics.specs.Core.{Deed}
+use Rattle.process_histories.specs.world_semantics.specs.Core.{Deed}
 use Rattle.process_histories.specs.Words.{take_from, answer_to, ask_on, get_on}
 use Rattle.plain_histories.specs.Ledgers.{changed_at, Ledger, with_deed, with_deeds, requests_of, taken_of, answered_of}
 use Rattle.plain_histories.specs.Ledgers.{replies_of}

@@ -10,8 +10,9 @@ use Rattle.tal_tree.specs.declared.site.ProcessSpec.{ProcessSpec}
 use Rattle.tal_tree.specs.declared.site.Site.{Site}
 use Rattle.tal_tree.specs.declared.site.Who.{Who}
 use Rattle.tal_tree.specs.declared.site.Who.TheVariants as who
-use Rattle.world_semantics.specs.Core.{Core, Deed, Went, Checkpointed, Took, Asked, Got, Answered, Acted}
-use Rattle.world_semantics.specs.Kept.{is_own, own_acts}
+use Rattle.process_histories.specs.world_semantics.specs.Core.{Core, Deed, Went, Checkpointed, Took, Asked, Got}
+use Rattle.process_histories.specs.world_semantics.specs.Core.{Answered, Acted}
+use Rattle.process_histories.specs.world_semantics.specs.Kept.{is_own, own_acts}
 use Rattle.process_histories.specs.Bounds.{IsShort, AreShort}
 use Rattle.process_histories.specs.Histories.{HasDone, one_more}
 use Rattle.process_histories.specs.Words.{requests_on}

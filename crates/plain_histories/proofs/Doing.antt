@@ -10,18 +10,19 @@ use Rattle.tal_tree.specs.declared.site.ProcessSpec.{ProcessSpec}
 use Rattle.tal_tree.specs.declared.site.Site.{Site}
 use Rattle.tal_tree.specs.declared.site.Who.{Who}
 use Rattle.tal_tree.specs.declared.site.Who.TheVariants as who
-use Rattle.process_semantics.specs.Process as process
+use Rattle.plain_semantics.specs.process_semantics.specs.Process as process
 use Rattle.plain_semantics.specs.Machine.{Plain, PlainProcess, made, slot_at, with_process, with_slot, written_by}
 use Rattle.plain_semantics.specs.Openers.{openers_of, opener_of}
 use Rattle.plain_semantics.specs.declared.slot.Opener.{Opener}
 use Rattle.plain_semantics.specs.declared.slot.Slot.{Slot}
 use Rattle.plain_semantics.specs.declared.slot.Slot.TheVariants.{Empty, Waiting, Taken, Answered}
-use Rattle.whole_states.specs.Processes.{IsRegularKind}
-use Rattle.disc_device.specs.Sectors.{Stored}
-use Rattle.world_semantics.specs.checkpoint_image.specs.Receive.{is_place}
-use Rattle.world_semantics.specs.Core.{Core, Deed, Went, Checkpointed, Took, Asked, Got, Answered as Replied, Acted}
-use Rattle.world_semantics.specs.Core.{Advances, goes, marks, takes, asks, gets, answers, acts}
-use Rattle.world_semantics.proofs.Lists.{some-same}
+use Rattle.process_histories.specs.whole_states.specs.Processes.{IsRegularKind}
+use Rattle.process_histories.specs.disc_device.specs.Sectors.{Stored}
+use Rattle.process_histories.specs.world_semantics.specs.checkpoint_image.specs.Receive.{is_place}
+use Rattle.process_histories.specs.world_semantics.specs.Core.{Core, Deed, Went, Checkpointed, Took, Asked, Got}
+use Rattle.process_histories.specs.world_semantics.specs.Core.{Answered as Replied, Acted}
+use Rattle.process_histories.specs.world_semantics.specs.Core.{Advances, goes, marks, takes, asks, gets, answers, acts}
+use Rattle.process_histories.specs.world_semantics.proofs.Lists.{some-same}
 use Rattle.process_histories.specs.Devices.{sectors_after, after_call, FoundWhatStood}
 use Rattle.process_histories.specs.Histories.{HasDone, one_more}
 use Rattle.process_histories.specs.Words.{take_from, answer_to, ask_on, get_on, requests_on, replies_on, awaits_on}

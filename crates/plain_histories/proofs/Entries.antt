@@ -8,9 +8,9 @@ use Rattle.tal_tree.specs.declared.site.Who.TheVariants as who
 use Rattle.plain_semantics.specs.declared.slot.Opener.{Opener}
 use Rattle.plain_semantics.specs.declared.slot.Slot.{Slot}
 use Rattle.plain_semantics.specs.declared.slot.Slot.TheVariants.{Waiting, Answered}
-use Rattle.world_semantics.specs.Core.{Deed}
-use Rattle.world_semantics.specs.Laws.{HasGrown}
-use Rattle.world_semantics.proofs.Lists.{grown-none, grown-one}
+use Rattle.process_histories.specs.world_semantics.specs.Core.{Deed}
+use Rattle.process_histories.specs.world_semantics.specs.Laws.{HasGrown}
+use Rattle.process_histories.specs.world_semantics.proofs.Lists.{grown-none, grown-one}
 use Rattle.process_histories.specs.Words.{answer_to, ask_on}
 use Rattle.plain_histories.specs.Ledgers.{changed_at, Ledger, with_deed, with_entered, requests_of, answered_of}
 use Rattle.plain_histories.specs.Slots.{IsSlot, is_empty, is_waiting, is_taken, is_answered, IsEntry, is_newest}

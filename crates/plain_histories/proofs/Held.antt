@@ -10,7 +10,8 @@ use Rattle.tal_tree.specs.declared.site.Who.{Who}
 use Rattle.tal_tree.specs.declared.site.Who.TheVariants as who
 use Rattle.plain_semantics.specs.Openers.{openers_of, opener_of}
 use Rattle.plain_semantics.specs.declared.slot.Opener.{Opener}
-use Rattle.world_semantics.specs.Core.{Core, Deed, Went, Took, Advances, goes, marks, takes, asks, gets, answers, acts}
+use Rattle.process_histories.specs.world_semantics.specs.Core.{Core, Deed, Went, Took, Advances, goes, marks, takes}
+use Rattle.process_histories.specs.world_semantics.specs.Core.{asks, gets, answers, acts}
 use Rattle.process_histories.specs.Histories.{HasDone, one_more}
 use Rattle.process_histories.specs.Words.{ask_on, awaits_on, one_if}
 use Rattle.process_histories.proofs.Counts.{asked-count}

@@ -9,7 +9,8 @@ use Rattle.tal_tree.specs.declared.act.Shown.TheVariants.{Reply}
 use Rattle.tal_tree.specs.declared.site.Site.{Site}
 use Rattle.plain_semantics.specs.Machine.{Plain, made_before, made_all, plain_start}
 use Rattle.plain_semantics.proofs.Runs.{made_all-snoc}
-use Rattle.world_semantics.specs.Core.{Deed, Went, Checkpointed, Took, Asked, Got, Answered, Acted}
+use Rattle.process_histories.specs.world_semantics.specs.Core.{Deed, Went, Checkpointed, Took, Asked, Got, Answered}
+use Rattle.process_histories.specs.world_semantics.specs.Core.{Acted}
 use Rattle.plain_histories.specs.Agreeing.{AreRegular, Agrees}
 use Rattle.plain_histories.specs.Booking.{act_of, shown_of, AreBooked, none_booked, deed_booked, entry_booked}
 use Rattle.plain_histories.specs.Booking.{reply_booked}

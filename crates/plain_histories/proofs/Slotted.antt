@@ -5,7 +5,7 @@ use Rattle.std.proofs.lemmas.Bool.Decides.{eqb_tells}
 use Rattle.plain_semantics.specs.declared.slot.Opener.{Opener}
 use Rattle.plain_semantics.specs.declared.slot.Slot.{Slot}
 use Rattle.plain_semantics.specs.Machine.{Plain, PlainProcess, slot_at, with_process, with_slot, slot_put}
-use Rattle.world_semantics.proofs.Lists.{some-same, set-there, set-other}
+use Rattle.process_histories.specs.world_semantics.proofs.Lists.{some-same, set-there, set-other}
 
 -- two processes are the same but for their slots
 pub record AreAlike (one other : PlainProcess) : Type 0 where

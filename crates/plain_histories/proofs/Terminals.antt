@@ -13,7 +13,7 @@ use Rattle.plain_semantics.specs.Openers.{opener_of}
 use Rattle.plain_semantics.specs.declared.slot.Opener.{Opener}
 use Rattle.plain_semantics.specs.declared.slot.Slot.{Slot}
 use Rattle.plain_semantics.specs.declared.slot.Slot.TheVariants.{Empty, Waiting, Answered}
-use Rattle.world_semantics.proofs.Lists.{some-same, set-there, set-other}
+use Rattle.process_histories.specs.world_semantics.proofs.Lists.{some-same, set-there, set-other}
 use Rattle.plain_histories.specs.Agreeing.{Agrees, HasSlotOf}
 use Rattle.plain_histories.specs.Ledgers.{Ledger, with_entered, with_printed, requests_of, answered_of, replies_of}
 use Rattle.plain_histories.proofs.Agreeing.{AreSlotsOf, slots-moved, slot-entered, stands-alike}

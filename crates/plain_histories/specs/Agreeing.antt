@@ -8,8 +8,8 @@ use Rattle.plain_semantics.specs.declared.slot.Opener.{Opener}
 use Rattle.plain_semantics.specs.declared.slot.Slot.{Slot}
 use Rattle.plain_semantics.specs.Machine.{Plain, PlainProcess, slot_at}
 use Rattle.plain_semantics.specs.Openers.{opener_of}
-use Rattle.whole_states.specs.Processes.{IsRegularKind}
-use Rattle.world_semantics.specs.Core.{Core, Deed}
+use Rattle.process_histories.specs.whole_states.specs.Processes.{IsRegularKind}
+use Rattle.process_histories.specs.world_semantics.specs.Core.{Core, Deed}
 use Rattle.process_histories.specs.Devices.{sectors_after, FoundWhatStood}
 use Rattle.process_histories.specs.Histories.{HasDone}
 use Rattle.plain_histories.specs.Ledgers.{Ledger, requests_of, taken_of, answered_of, replies_of}

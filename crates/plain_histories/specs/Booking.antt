@@ -11,8 +11,8 @@ use Rattle.tal_tree.specs.declared.site.Who.TheVariants as who
 use Rattle.plain_semantics.specs.declared.slot.Opener.{Opener}
 use Rattle.plain_semantics.specs.Machine.{next_request, shown_by_device}
 use Rattle.plain_semantics.specs.Openers.{openers_of, opener_of}
-use Rattle.world_semantics.specs.Core.{Core, Deed, Went, Took, Got, Acted, Advances}
-use Rattle.world_semantics.specs.Own.{found_on}
+use Rattle.process_histories.specs.world_semantics.specs.Core.{Core, Deed, Went, Took, Got, Acted, Advances}
+use Rattle.process_histories.specs.world_semantics.specs.Own.{found_on}
 use Rattle.process_histories.specs.Devices.{sectors_after}
 use Rattle.process_histories.specs.Histories.{HasDone}
 use Rattle.plain_histories.specs.Ledgers.{Ledger, empty_ledger, with_deed, with_entered, with_printed, requests_of}

@@ -3,7 +3,7 @@ use Rattle.std.specs.Prelude.{ℕ, ◌==◌, ℤ, if◌then◌else◌, List, [],
 use Rattle.tal_tree.specs.declared.site.Who.{Who}
 use Rattle.tal_tree.specs.declared.site.Who.TheVariants as who
 use Rattle.plain_semantics.specs.declared.slot.Opener.{Opener}
-use Rattle.world_semantics.specs.Core.{Deed}
+use Rattle.process_histories.specs.world_semantics.specs.Core.{Deed}
 use Rattle.process_histories.specs.Words.{taken_from, answered_to, requests_on, replies_on}
 
 -- the deeds of each process, and the words that each terminal entered and printed

@@ -3,7 +3,7 @@ ghost use Rattle.tal_tree.specs.declared.act.Act.TheVariants.{Step, Take, Enter}
 ghost use Rattle.tal_tree.specs.declared.act.Shown.{Shown};
 ghost use Rattle.tal_tree.specs.declared.act.Shown.TheVariants.{Reply, Write};
 ghost use Rattle.plain_semantics.specs.declared.slot.Slot.TheVariants.{Empty, Waiting, Taken, Answered};
-ghost use Rattle.world_semantics.specs.Core.{Deed, Took};
+ghost use Rattle.process_histories.specs.world_semantics.specs.Core.{Deed, Took};
 ghost use Rattle.process_histories.specs.Served.{disc_site, sector_with};
 ghost use Rattle.plain_histories.specs.Booking.{AreBooked, AreHeld, AreShortRequests};
 ghost use Rattle.plain_histories.specs.Ledgers.{Ledger, empty_ledger};

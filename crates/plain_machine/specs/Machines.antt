@@ -3,7 +3,7 @@ use Rattle.std.specs.Prelude.{ℕ, List, [], ◌∷◌, Option, Some, None}
 use Rattle.tal_tree.specs.declared.act.Shown.{Shown}
 use Rattle.tal_tree.specs.declared.site.Site.{Site}
 use Rattle.process_semantics.specs.declared.point.Point.{Point}
-use Rattle.process_semantics.specs.declared.point.Point.TheVariants.{Device}
+use Rattle.process_semantics.specs.declared.point.Point.TheVariants as point
 use Rattle.process_semantics.specs.Process as process
 use Rattle.plain_semantics.specs.Machine.{Made, Plain, PlainProcess, shown_by_device}
 
@@ -24,5 +24,11 @@ shown_of (Some m) = m.shown
 
 -- what the step of a process at this point shows
 abbrev pub shown_at : ℕ → PlainProcess → Point → List Shown
-shown_at number one Device = shown_by_device number (process.call_of one.state)
-shown_at number one _ = []
+shown_at number one point.Device = shown_by_device number (process.call_of one.state)
+shown_at number one point.Inner = []
+shown_at number one point.Take = []
+shown_at number one point.Ask = []
+shown_at number one point.Await = []
+shown_at number one point.Answer = []
+shown_at number one point.AtCheckpoint = []
+shown_at number one point.Ended = []

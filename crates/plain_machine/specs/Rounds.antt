@@ -37,7 +37,13 @@ waiting_from number (_ ∷ slots) = waiting_from (number + 1) slots
 -- the Take or Step of a process at this point
 abbrev pub move_at : ℕ → List Slot → Point → Act
 move_at number slots point.Take = Take number (waiting_from 0 slots)
-move_at number slots _ = Step number
+move_at number slots point.Inner = Step number
+move_at number slots point.Ask = Step number
+move_at number slots point.Await = Step number
+move_at number slots point.Answer = Step number
+move_at number slots point.AtCheckpoint = Step number
+move_at number slots point.Device = Step number
+move_at number slots point.Ended = Step number
 
 -- the Take or Step that a process may make next
 abbrev pub move_of : ℕ → Option PlainProcess → Act

@@ -3,7 +3,7 @@
 use Rattle.std.specs.Prelude.{ℕ, ◌+◌, ◌*◌, ◌<◌, max, List, [], ◌∷◌, length}
 use Rattle.checkpoint_image.specs.Behaving.{last_write_of}
 use Rattle.schedule.specs.declared.line.Line.{Line}
-use Rattle.schedule.specs.declared.line.Line.TheVariants.{One, Many, Drain}
+use Rattle.schedule.specs.declared.line.Line.TheVariants.{One, Many, Drain, Mix, Mute, Until}
 use Rattle.tal_tree.specs.declared.site.Site.{Site}
 use Rattle.plain_semantics.specs.Machine.{Plain, PlainProcess}
 
@@ -20,12 +20,14 @@ HasRoomFor acts plain = most_write plain.processes + acts < 4294967296
 abbrev pub round_acts : Site → ℕ
 round_acts site = length site.terminals + length site.processes + length site.terminals
 
--- how many acts a line makes at most
+-- how many acts a line makes at most; what it asks for that this machine has not makes none
 abbrev pub line_acts : Site → Line → ℕ
 line_acts site (One event) = 1
 line_acts site (Many event times) = times
 line_acts site (Drain rounds) = rounds * round_acts site
-line_acts site _ = 0
+line_acts site (Mix start rounds) = 0
+line_acts site (Mute node rounds) = 0
+line_acts site (Until writes count rounds) = 0
 
 -- how many acts lines make at most
 abbrev pub lines_acts : Site → List Line → ℕ

@@ -16,4 +16,5 @@ pub use laws::{acts_follow_acts, front_is_possible, impossible_stays, shown_begi
 pub use limits::keeps_site_limits;
 pub use opening::{files_of, opener_of, openers};
 pub use placed::opener_at;
+pub use process_semantics::Point;
 pub use slot::{Opener, Slot};

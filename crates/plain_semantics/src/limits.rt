@@ -3,7 +3,7 @@ ghost use Rattle.plain_semantics.specs.Counted.{have_few_files, have_few_request
 ghost use Rattle.plain_semantics.specs.SiteLimits.{KeepsSiteLimits};
 
 use crate::opening::files_of;
-use process_semantics::tal_tree::{ProcessSpec, Site, TerminalSpec};
+use process_semantics::{ProcessSpec, Site, TerminalSpec};
 
 #[tactic(auto, using(crate::proofs::Small::small_keeps))]
 /// Whether a site keeps the limits on which its places rest. It takes no memory.

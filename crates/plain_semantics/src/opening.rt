@@ -6,9 +6,8 @@ ghost use Rattle.plain_semantics.specs.Openers.{terminals_from, openers_of, same
 ghost use Rattle.plain_semantics.specs.Openers.{server_of, server_by, opener_at, opener_of};
 
 use crate::slot::Opener;
-use process_semantics::gd_words::{List, Name, NoMemory};
-use process_semantics::tal_tree::{
-    FileUse, Kind, OpenerSpec, ProcessSpec, Site, Target, TerminalSpec, Who,
+use process_semantics::{
+    FileUse, Kind, List, Name, NoMemory, OpenerSpec, ProcessSpec, Site, Target, TerminalSpec, Who,
 };
 use std::alloc::Global;
 

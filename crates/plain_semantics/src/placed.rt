@@ -6,8 +6,7 @@ ghost use Rattle.plain_semantics.specs.SiteLimits.{KeepsSiteLimits};
 ghost use Rattle.plain_semantics.specs.Sought.{sought};
 
 use crate::opening::{files_of, opens};
-use process_semantics::gd_words::Name;
-use process_semantics::tal_tree::{FileUse, ProcessSpec, Site, TerminalSpec, Who};
+use process_semantics::{FileUse, Name, ProcessSpec, Site, TerminalSpec, Who};
 
 /// What came of looking for a place among openers: the one there, or how many places are left past the last one.
 pub enum Sought {

@@ -1,4 +1,4 @@
-use process_semantics::gd_words::Words;
+use process_semantics::Words;
 
 /// What a process has from one of its openers.
 #[derive(Drop)]

@@ -6,7 +6,7 @@ use Rattle.std.proofs.Common.{is_some}
 use Rattle.std.proofs.lemmas.Grind.{common_steps}
 use Rattle.std.proofs.lemmas.List.{at_drop_more, set_past}
 use Rattle.std.specs.List.{position_or_len}
-use Rattle.message_wires.specs.Wires.{Sent, has_room, is_due, is_of, is_on, put_again, put_on}
+use Rattle.message_wires.specs.Wires.{Sent, has_room, is_due, is_sending, is_on, put_again, put_on}
 use Rattle.posted_letters.specs.Rising.{RisesWithin, Rises}
 use Rattle.posted_letters.proofs.Places.{lower_differs}
 
@@ -30,7 +30,8 @@ one_further false x y z same = same
 added : (bus : List Sent) (packet : Sent) (number : ℕ)
     → is_on (bus ++ packet ∷ []) number ≡ (is_on bus number || (packet.number == number))
 added [] packet number = or_false (packet.number == number)
-added (one ∷ bus) packet number = one_further (is_of number one) (is_on (bus ++ packet ∷ []) number) (is_on bus number)
+added (one ∷ bus) packet number =
+    one_further (is_sending number one) (is_on (bus ++ packet ∷ []) number) (is_on bus number)
     (packet.number == number) (added bus packet number)
 
 same_mark : (bus : List Sent) (packet : Sent) (number : ℕ) → (packet.number == number) ≡ false
@@ -59,11 +60,13 @@ set_next : (b : Bool) (bs : List Bool) (k : ℕ) → b ∷ set bs k true ≡ set
 set_next b bs k = let next : suc k ≡ 1 + k = omega arith in ap (λ n. set (b ∷ bs) n true) next
 
 -- a packet marks the letter of its number
-mark : (x : Bool) (low high : ℕ) (bus : List Sent) (packet one : Sent) (rest : List Sent) → is_of packet.number one ≡ x
+mark : (x : Bool) (low high : ℕ) (bus : List Sent) (packet one : Sent) (rest : List Sent)
+    → is_sending packet.number one ≡ x
     → RisesWithin low high (one ∷ rest)
-    → marks_of (bus ++ packet ∷ []) rest ≡ set (marks_of bus rest) (position_or_len (is_of packet.number) rest) true
+    → marks_of (bus ++ packet ∷ []) rest
+    ≡ set (marks_of bus rest) (position_or_len (is_sending packet.number) rest) true
     → marks_of (bus ++ packet ∷ []) (one ∷ rest)
-    ≡ set (marks_of bus (one ∷ rest)) (cond (not x) (1 + position_or_len (is_of packet.number) rest) 0) true
+    ≡ set (marks_of bus (one ∷ rest)) (cond (not x) (1 + position_or_len (is_sending packet.number) rest) 0) true
 mark true low high bus packet one rest same rising also =
     ap₂ (λ b bs. b ∷ bs)
     (added bus packet one.number ∙ ap (λ b. is_on bus one.number || b) (turned one.number packet.number true same)
@@ -71,13 +74,13 @@ mark true low high bus packet one rest same rising also =
     (unmarked (one.number + 1) high bus packet rest (at_most one.number packet.number same) rising.1)
 mark false low high bus packet one rest same rising also =
     ap₂ (λ b bs. b ∷ bs) (same_mark bus packet one.number (turned one.number packet.number false same)) also
-    ∙ set_next (is_on bus one.number) (marks_of bus rest) (position_or_len (is_of packet.number) rest)
+    ∙ set_next (is_on bus one.number) (marks_of bus rest) (position_or_len (is_sending packet.number) rest)
 
 pub marked : (low high : ℕ) (bus : List Sent) (packet : Sent) (all : List Sent) → RisesWithin low high all
-    → marks_of (bus ++ packet ∷ []) all ≡ set (marks_of bus all) (position_or_len (is_of packet.number) all) true
+    → marks_of (bus ++ packet ∷ []) all ≡ set (marks_of bus all) (position_or_len (is_sending packet.number) all) true
 marked low high bus packet [] rising = refl
 marked low high bus packet (one ∷ rest) rising =
-    mark (is_of packet.number one) low high bus packet one rest refl rising
+    mark (is_sending packet.number one) low high bus packet one rest refl rising
     (marked (one.number + 1) high bus packet rest rising.1)
 
 -- on an empty bus no letter has one
@@ -155,7 +158,8 @@ take_past zero (one ∷ bus) same = absurd (true≢false (ap is_some same))
 take_past (suc k) (one ∷ bus) same = ap (λ xs. one ∷ xs) (take_past k bus same)
 
 further : (k : ℕ) (bus : List Sent) (packet : Sent) (all : List Sent) → Rises all → slice_get bus k ≡ Some packet
-    → marks_of (take (k + 1) bus) all ≡ set (marks_of (take k bus) all) (position_or_len (is_of packet.number) all) true
+    → marks_of (take (k + 1) bus) all
+    ≡ set (marks_of (take k bus) all) (position_or_len (is_sending packet.number) all) true
 further k bus packet all rising there =
     let next : k + 1 ≡ suc k = omega arith in
     ap (λ n. marks_of (take n bus) all) next ∙ ap (λ xs. marks_of xs all) (take_next k bus packet there)
@@ -164,10 +168,10 @@ further k bus packet all rising there =
 -- one packet further: the letter of its number is marked
 pub next_at : (k place : ℕ) (bus : List Sent) (packet : Sent) (all : List Sent) → Rises all
     → slice_get bus k ≡ Some packet
-    → position (is_of packet.number) all ≡ Some place
+    → position (is_sending packet.number) all ≡ Some place
     → marks_of (take (k + 1) bus) all ≡ set (marks_of (take k bus) all) place true
 next_at k place bus packet all rising there at =
-    let same : position_or_len (is_of packet.number) all ≡ place = grind (arith, common_steps, at) in
+    let same : position_or_len (is_sending packet.number) all ≡ place = grind (arith, common_steps, at) in
     further k bus packet all rising there ∙ ap (λ n. set (marks_of (take k bus) all) n true) same
 
 length_map : (f : Sent → Bool) (all : List Sent) → length (map f all) ≡ length all
@@ -176,11 +180,11 @@ length_map f (one ∷ rest) = ap suc (length_map f rest)
 
 -- or none is
 pub next_none : (k : ℕ) (bus : List Sent) (packet : Sent) (all : List Sent) → Rises all → slice_get bus k ≡ Some packet
-    → position (is_of packet.number) all ≡ None → marks_of (take (k + 1) bus) all ≡ marks_of (take k bus) all
+    → position (is_sending packet.number) all ≡ None → marks_of (take (k + 1) bus) all ≡ marks_of (take k bus) all
 next_none k bus packet all rising there at =
-    let past : length all ≤ position_or_len (is_of packet.number) all = grind (arith, common_steps, at) in
+    let past : length all ≤ position_or_len (is_sending packet.number) all = grind (arith, common_steps, at) in
     further k bus packet all rising there ∙ set_past (marks_of (take k bus) all)
-    (position_or_len (is_of packet.number) all) true
+    (position_or_len (is_sending packet.number) all) true
     (omega (arith, past, length_map (λ (one : Sent). is_on (take k bus) one.number) all))
 
 -- past the last packet

@@ -5,7 +5,7 @@ use Rattle.std.proofs.lemmas.Grind.{common_steps}
 use Rattle.std.specs.List.{position_or_len}
 use Rattle.std.specs.List.Sorted.{IsNonDecreasingBy, IsPartitionPoint}
 use Rattle.std.proofs.lemmas.List.Sums.{position_or_len_is}
-use Rattle.message_wires.specs.Wires.{Sent, is_of}
+use Rattle.message_wires.specs.Wires.{Sent, is_sending}
 use Rattle.posted_letters.specs.Rising.{RisesWithin, Rises}
 use Rattle.posted_letters.proofs.Rising.{at_least}
 
@@ -42,42 +42,44 @@ abbrev pub IsParted : ℕ → List Sent → ℕ → Type 0
 IsParted number all place =
     IsPartitionPoint (λ one. ltb one.number number ≡ true) (λ one. ltb one.number number ≡ false) all place
 
-there : (number place : ℕ) (all : List Sent) → position_or_len (is_of number) all ≡ place → place < length all
-    → Some place ≡ position (is_of number) all
+there : (number place : ℕ) (all : List Sent) → position_or_len (is_sending number) all ≡ place → place < length all
+    → Some place ≡ position (is_sending number) all
 there number place all same less = grind (arith, common_steps, same)
 
-nowhere : (number : ℕ) (all : List Sent) → position_or_len (is_of number) all ≡ length all
-    → None ≡ position (is_of number) all
+nowhere : (number : ℕ) (all : List Sent) → position_or_len (is_sending number) all ≡ length all
+    → None ≡ position (is_sending number) all
 nowhere number all same = grind (arith, common_steps, same)
 
 pub found : (number place : ℕ) (all : List Sent) (d : Sent) → IsParted number all place → place < length all
-    → is_of number (get_or all place d) ≡ true
-    → Some place ≡ position (is_of number) all
+    → is_sending number (get_or all place d) ≡ true
+    → Some place ≡ position (is_sending number) all
 found number place all d parted less same =
-    let before : (k : ℕ) → k < place → is_of number (get_or all k d) ≡ false =
+    let before : (k : ℕ) → k < place → is_sending number (get_or all k d) ≡ false =
     λ k below. lower_differs (get_or all k d).number number
     (ltb-true (get_or all k d).number number (parted.0 k d (omega arith) below)) in
-    there number place all (position_or_len_is (is_of number) all place d (omega (arith, less)) before (λ _. same)) less
+    there number place all (position_or_len_is (is_sending number) all place d (omega (arith, less)) before (λ _. same))
+    less
 
 pub missing : (number place : ℕ) (all : List Sent) (d : Sent) → Rises all → IsParted number all place
-    → (place < length all → is_of number (get_or all place d) ≡ false)
-    → None ≡ position (is_of number) all
+    → (place < length all → is_sending number (get_or all place d) ≡ false)
+    → None ≡ position (is_sending number) all
 missing number place all d rising parted other =
-    let before : (k : ℕ) → k < place → is_of number (get_or all k d) ≡ false =
+    let before : (k : ℕ) → k < place → is_sending number (get_or all k d) ≡ false =
     λ k below. lower_differs (get_or all k d).number number
     (ltb-true (get_or all k d).number number (parted.0 k d (omega arith) below)) in
-    let past : (k : ℕ) → place ≤ k → k < length all → is_of number (get_or all k d) ≡ false =
+    let past : (k : ℕ) → place ≤ k → k < length all → is_sending number (get_or all k d) ≡ false =
     λ k above less. higher_differs (get_or all k d).number number (omega (
       arith,
       strictly (get_or all place d).number number (parted.1 place d (omega arith) (omega (arith, above, less)))
           (other (omega (arith, above, less))),
       not_below 0 rising.0 all place k d rising.1 above less,
     )) in
-    nowhere number all (position_or_len_is (is_of number) all (length all) d (omega arith)
+    nowhere number all (position_or_len_is (is_sending number) all (length all) d (omega arith)
     (λ k less. ⊎_elim (λ below. before k below) (λ above. past k above less) (order k place))
     (λ less. absurd (omega (arith, less))))
 
 pub absent : (number place : ℕ) (all : List Sent) → Rises all → IsParted number all place
-    → ((d : Sent) → place < length all → is_of number (get_or all place d) ≡ false) → None ≡ position (is_of number) all
+    → ((d : Sent) → place < length all → is_sending number (get_or all place d) ≡ false)
+    → None ≡ position (is_sending number) all
 absent number place [] rising parted other = refl
 absent number place (one ∷ rest) rising parted other = missing number place (one ∷ rest) one rising parted (other one)

@@ -2,7 +2,7 @@
 use Rattle.std.proofs.Common.{◌≡◌, ℕ, ◌+◌, ◌<◌, ◌≤◌, zero, suc, List, [], ◌∷◌, ◌++◌, length, get_or, arith, Bool, true}
 use Rattle.std.proofs.Common.{false, cond, if◌then◌else◌}
 use Rattle.std.specs.List.{filter}
-use Rattle.message_wires.specs.Wires.{Sent, is_of, without_number}
+use Rattle.message_wires.specs.Wires.{Sent, is_sending, without_number}
 use Rattle.posted_letters.specs.Rising.{RisesWithin}
 
 -- they are at least any lower number too
@@ -29,7 +29,7 @@ pub without : (low high number : ℕ) (all : List Sent) → RisesWithin low high
     → RisesWithin low high (without_number number all)
 without low high number [] rising = rising
 without low high number (one ∷ rest) rising =
-    fewer (is_of number one) low high one rest (without_number number rest) rising
+    fewer (is_sending number one) low high one rest (without_number number rest) rising
     (without (one.number + 1) high number rest rising.1)
 
 kept : (b : Bool) (low high : ℕ) (one : Sent) (less : List Sent) → low ≤ one.number

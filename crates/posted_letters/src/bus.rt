@@ -64,7 +64,7 @@ impl Bus {
     pub(crate) fn has(&self, number: u64) -> bool
         ensures { result ≡ is_on self.now number }
     {
-        self.packets.iter().any(|packet| packet.is_of(number))
+        self.packets.iter().any(|packet| packet.is_sending(number))
     }
 
     /// Puts a packet at the end. Where there is no room it is lost.

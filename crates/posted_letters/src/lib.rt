@@ -12,4 +12,5 @@ pub mod posted;
 pub mod sent;
 
 pub use posted::PostedLetters;
+pub use sendings::{Letter, Message, Sending};
 pub use sent::Sent;

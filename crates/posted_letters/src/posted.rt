@@ -1,6 +1,6 @@
 ghost use Rattle.std.specs.Prelude.{◌≡◌, length, slice_get, slice_set, IfOk, OnOk};
 ghost use Rattle.message_wires.specs.Idle.{none_owed};
-ghost use Rattle.message_wires.specs.Wires.{is_present, paid, paid_between, sent_before, wires_after_post};
+ghost use Rattle.message_wires.specs.Wires.{is_current, paid, paid_between, count_before, wires_after_post};
 ghost use Rattle.message_wires.specs.Wires.{wires_after_reload, wires_again, wires_at_boot, without_packet};
 ghost use Rattle.gd_words.specs.Ranges.{HasNextLong};
 ghost use Rattle.posted_letters.specs.Repeats.{IsRepeated};
@@ -134,16 +134,16 @@ impl PostedLetters {
     }
 
     /// Whether a letter was sent since its sender and its receiver were loaded last.
-    pub fn is_present(&self, one: &Sent) -> bool
-        ensures { result ≡ is_present self.now.before one.now }
+    pub fn is_current(&self, one: &Sent) -> bool
+        ensures { result ≡ is_current self.now.before one.now }
     {
-        self.sent_before(one.sender()) <= one.number()
-            && self.sent_before(one.receiver()) <= one.number()
+        self.count_before(one.sender()) <= one.number()
+            && self.count_before(one.receiver()) <= one.number()
     }
 
     /// How many letters were sent before a node was loaded last.
-    fn sent_before(&self, node: u8) -> u64
-        ensures { result ≡ sent_before self.now.before node }
+    fn count_before(&self, node: u8) -> u64
+        ensures { result ≡ count_before self.now.before node }
     {
         match self.before.get(usize::from(node)) {
             None => 0,

@@ -1,8 +1,8 @@
 ghost use Rattle.std.specs.Prelude.{◌≡◌, ◌&&◌, ◌||◌, not, IfOk};
-ghost use Rattle.letters.specs.Posts.{is_from_or_to};
-ghost use Rattle.letters.specs.Routes.{is_between};
-ghost use Rattle.message_wires.specs.Wires.{is_of};
-ghost use Rattle.world_semantics.specs.World.{is_running};
+ghost use Rattle.message_wires.specs.letters.specs.Posts.{is_from_or_to};
+ghost use Rattle.message_wires.specs.letters.specs.Routes.{is_between};
+ghost use Rattle.message_wires.specs.Wires.{is_sending};
+ghost use Rattle.message_wires.specs.world_semantics.specs.World.{is_running};
 
 use gd_words::NoMemory;
 use sendings::{Letter, is_running};
@@ -72,8 +72,8 @@ impl Sent {
         })
     }
 
-    pub(crate) fn is_of(&self, number: u64) -> bool
-        ensures { result ≡ is_of number self.now }
+    pub(crate) fn is_sending(&self, number: u64) -> bool
+        ensures { result ≡ is_sending number self.now }
     {
         self.number == number
     }

@@ -10,8 +10,8 @@ use Rattle.whole_states.specs.Listing.{files_of}
 use Rattle.whole_states.specs.Processes.{IsWholeProcess}
 use Rattle.whole_states.proofs.Hands.{inner-hand, took-hand, got-hand}
 use Rattle.checkpoint_image.specs.declared.message.FileNumber.{FileNumber}
-use Rattle.sync_ids.specs.Tables.{Remembered, IsSound, nothing_taken}
-use Rattle.world_semantics.specs.Core.{with_files}
+use Rattle.computed_changes.specs.sync_ids.specs.Tables.{Remembered, IsSound, nothing_taken}
+use Rattle.computed_changes.specs.world_semantics.specs.Core.{with_files}
 use Rattle.process_control.specs.Consistent.{IsConsistent, IsInOrder}
 use Rattle.process_control.proofs.Ordered.{whole-order, inner-order, took-order, asked-order, got-order, answered-order}
 use Rattle.process_control.proofs.Ordered.{marked-order, device-order, restored-order, restored-hand, restored-files}

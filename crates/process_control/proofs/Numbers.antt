@@ -7,7 +7,7 @@ use Rattle.checkpoint_image.specs.Receive.{holds, kept_or_old, standing_at, stan
 use Rattle.checkpoint_image.specs.declared.receive.OpenerBlock.{OpenerBlock}
 use Rattle.checkpoint_image.specs.declared.receive.ReceiveBlock.{ReceiveBlock}
 use Rattle.checkpoint_image.specs.declared.receive.RequestStanding.TheVariants.{Next, InHand, Ahead}
-use Rattle.sync_ids.specs.Tables.{last_taken, taken_in}
+use Rattle.computed_changes.specs.sync_ids.specs.Tables.{last_taken, taken_in}
 
 by-tests : (same ahead held : Bool) (kept : Option (List ℤ))
     → (if same then Next else if ahead then Ahead else if held then InHand else kept_or_old kept) ≡ Next → same ≡ true

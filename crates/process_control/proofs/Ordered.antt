@@ -16,8 +16,8 @@ use Rattle.whole_states.proofs.Calls.{took-awake, asked-whole, got-awake, answer
 use Rattle.whole_states.proofs.Awake.{awake-whole}
 use Rattle.whole_states.proofs.Named.{asked-there}
 use Rattle.whole_states.proofs.Processes.{stays-whole, inner-process, listed-there}
-use Rattle.process_images.proofs.Fronts.{mapped}
-use Rattle.process_images.proofs.Programs.{program-stood}
+use Rattle.checkpoint_image.specs.process_images.proofs.Fronts.{mapped}
+use Rattle.checkpoint_image.specs.process_images.proofs.Programs.{program-stood}
 use Rattle.process_control.specs.Consistent.{HoldsAt, IsInOrder}
 
 whole-holds : (at : Point) (request reply : Option (List ℤ)) → IsDiscAt at request reply → HoldsAt at request

@@ -1,17 +1,17 @@
 -- What a checkpoint that came as what changed does to a copy, role by role.
 use Rattle.std.proofs.Common.{◌≡◌, ℕ, ◌+◌, ◌==◌, ◌&&◌, Bool, true, false, List, Option, None, refl, ◌∙◌}
 use Rattle.std.specs.Option.{option_and_then}
-use Rattle.change_layout.specs.Changing.{whole_of, whole_where}
-use Rattle.change_layout.specs.declared.message.ChangeMessage.{ChangeMessage}
+use Rattle.computed_changes.specs.change_layout.specs.Changing.{whole_of, whole_where}
+use Rattle.computed_changes.specs.change_layout.specs.declared.message.ChangeMessage.{ChangeMessage}
 use Rattle.checkpoint_image.specs.declared.message.ImageMessage.{ImageMessage}
-use Rattle.sync_ids.specs.Changes.{add_few, changed, fits_change}
-use Rattle.sync_ids.specs.Tables.{Remembered, fits}
-use Rattle.sync_ids.specs.declared.change.ReceiveChange.{ReceiveChange}
-use Rattle.sync_ids.proofs.Tables.{and-right}
-use Rattle.world_semantics.specs.declared.role.Role.{Role}
-use Rattle.world_semantics.specs.declared.role.Role.TheVariants.{Acting, Watching, Blank, Gone}
-use Rattle.world_semantics.specs.Core.{Core}
-use Rattle.world_semantics.specs.World.{receives}
+use Rattle.computed_changes.specs.sync_ids.specs.Changes.{add_few, changed, fits_change}
+use Rattle.computed_changes.specs.sync_ids.specs.Tables.{Remembered, fits}
+use Rattle.computed_changes.specs.sync_ids.specs.declared.change.ReceiveChange.{ReceiveChange}
+use Rattle.computed_changes.specs.sync_ids.proofs.Tables.{and-right}
+use Rattle.computed_changes.specs.world_semantics.specs.declared.role.Role.{Role}
+use Rattle.computed_changes.specs.world_semantics.specs.declared.role.Role.TheVariants.{Acting, Watching, Blank, Gone}
+use Rattle.computed_changes.specs.world_semantics.specs.Core.{Core}
+use Rattle.computed_changes.specs.world_semantics.specs.World.{receives}
 use Rattle.computed_changes.specs.Changed.{core_as_changed}
 use Rattle.computed_changes.specs.Checkpoints.{core_as, core_where}
 use Rattle.computed_changes.specs.Fitting.{put_fitting}

@@ -6,10 +6,10 @@ use Rattle.tal_tree.specs.declared.site.Kind.{Kind}
 use Rattle.tal_tree.specs.declared.site.Kind.TheVariants as kind
 use Rattle.process_semantics.specs.Process.{ProcessState, in_hand, start_of}
 use Rattle.whole_states.specs.Listing.{files_of}
-use Rattle.plain_semantics.specs.Openers as openers
+use Rattle.computed_changes.specs.plain_semantics.specs.Openers as openers
 use Rattle.checkpoint_image.specs.declared.receive.OpenerBlock.{OpenerBlock}
-use Rattle.sync_ids.specs.Tables.{untaken}
-use Rattle.world_semantics.specs.Core.{Core}
+use Rattle.computed_changes.specs.sync_ids.specs.Tables.{untaken}
+use Rattle.computed_changes.specs.world_semantics.specs.Core.{Core}
 
 pub start-free : (what : Kind) → in_hand (start_of what) ≡ false
 start-free (kind.Disc sectors mirrored) = refl

@@ -6,9 +6,10 @@ use Rattle.process_semantics.specs.Process.{ProcessState}
 use Rattle.checkpoint_image.specs.Receive.{after_answering, last_ones}
 use Rattle.checkpoint_image.specs.declared.receive.OpenerBlock.{OpenerBlock}
 use Rattle.checkpoint_image.specs.declared.receive.ReceiveBlock.{ReceiveBlock}
-use Rattle.sync_ids.specs.Tables.{Remembered, IsSound, are_of_depths, can_hold, last_taken, taken_in}
-use Rattle.sync_ids.proofs.Tables.{and-left, lengths}
-use Rattle.world_semantics.specs.Core.{Core}
+use Rattle.computed_changes.specs.sync_ids.specs.Tables.{Remembered, IsSound, are_of_depths, can_hold, last_taken}
+use Rattle.computed_changes.specs.sync_ids.specs.Tables.{taken_in}
+use Rattle.computed_changes.specs.sync_ids.proofs.Tables.{and-left, lengths}
+use Rattle.computed_changes.specs.world_semantics.specs.Core.{Core}
 use Rattle.process_control.specs.Cores.{answering_at, answering_of, core_answered, core_answering, core_answering_at}
 
 pub found : {A : Type 0} (xs : List A) (k : ℕ) → k < length xs → (x : A) × (slice_get xs k ≡ Some x)

@@ -1,10 +1,10 @@
 -- What a checkpoint that came as what changed does to the core of a copy, told of whether it is the next one, and of
 -- the copy's role. The rules are those of the world of copies.
 use Rattle.std.specs.Prelude.{ℕ, Bool, true, false, List, Option, None}
-use Rattle.change_layout.specs.declared.message.ChangeMessage.{ChangeMessage}
-use Rattle.world_semantics.specs.declared.role.Role.{Role}
-use Rattle.world_semantics.specs.declared.role.Role.TheVariants.{Acting, Watching, Blank, Gone}
-use Rattle.world_semantics.specs.Core.{Core}
+use Rattle.computed_changes.specs.change_layout.specs.declared.message.ChangeMessage.{ChangeMessage}
+use Rattle.computed_changes.specs.world_semantics.specs.declared.role.Role.{Role}
+use Rattle.computed_changes.specs.world_semantics.specs.declared.role.Role.TheVariants.{Acting, Watching, Blank, Gone}
+use Rattle.computed_changes.specs.world_semantics.specs.Core.{Core}
 use Rattle.process_control.specs.Cores.{core_with_change}
 
 abbrev pub changing_where : List ℕ → Core → ChangeMessage → Bool → Option Core

@@ -5,7 +5,7 @@ use Rattle.process_semantics.specs.declared.point.Point.TheVariants.{Take, Answe
 use Rattle.process_semantics.specs.Process.{ProcessState, Runs, Serves, in_hand}
 use Rattle.whole_states.specs.Listing.{files_of}
 use Rattle.whole_states.specs.Processes.{IsWholeProcess}
-use Rattle.sync_ids.specs.Tables.{Remembered, IsSound}
+use Rattle.computed_changes.specs.sync_ids.specs.Tables.{Remembered, IsSound}
 
 -- a disc at AtCheckpoint, at Device and at Answer has a request
 abbrev pub HoldsAt : Point → Option (List ℤ) → Type 0

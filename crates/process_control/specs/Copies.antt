@@ -5,12 +5,12 @@ use Rattle.std.specs.Option.{option_map}
 use Rattle.std.specs.Prelude.{ℕ, ◌+◌, Bool, true, false, List, Option}
 use Rattle.tal_tree.specs.declared.site.OpenerSpec.{OpenerSpec}
 use Rattle.process_semantics.specs.Process.{ProcessState}
-use Rattle.change_layout.specs.declared.message.ChangeMessage.{ChangeMessage}
+use Rattle.computed_changes.specs.change_layout.specs.declared.message.ChangeMessage.{ChangeMessage}
 use Rattle.checkpoint_image.specs.declared.message.ImageMessage.{ImageMessage}
-use Rattle.world_semantics.specs.declared.role.Role.{Role}
-use Rattle.world_semantics.specs.declared.role.Role.TheVariants.{Acting, Watching, Blank}
-use Rattle.world_semantics.specs.Core.{Core, after_passing}
-use Rattle.world_semantics.specs.Passes.{next_checkpoint}
+use Rattle.computed_changes.specs.world_semantics.specs.declared.role.Role.{Role}
+use Rattle.computed_changes.specs.world_semantics.specs.declared.role.Role.TheVariants.{Acting, Watching, Blank}
+use Rattle.computed_changes.specs.world_semantics.specs.Core.{Core, after_passing}
+use Rattle.computed_changes.specs.world_semantics.specs.Passes.{next_checkpoint}
 use Rattle.process_control.specs.Cores.{CoreAndDepths, core_at_start}
 use Rattle.computed_changes.specs.Changed.{core_as_changed}
 use Rattle.computed_changes.specs.Checkpoints.{core_as}

@@ -6,11 +6,11 @@ use Rattle.gd_words.specs.declared.message.Request.{Request}
 use Rattle.tal_tree.specs.declared.site.OpenerSpec.{OpenerSpec}
 use Rattle.process_semantics.specs.Process as process
 use Rattle.checkpoint_image.specs.declared.receive.OpenerBlock.{OpenerBlock}
-use Rattle.change_layout.specs.Changing.{made_whole}
-use Rattle.change_layout.specs.declared.message.ChangeMessage.{ChangeMessage}
+use Rattle.computed_changes.specs.change_layout.specs.Changing.{made_whole}
+use Rattle.computed_changes.specs.change_layout.specs.declared.message.ChangeMessage.{ChangeMessage}
 use Rattle.computed_changes.specs.Fitting.{put_fitting}
-use Rattle.sync_ids.specs.Tables.{last_taken, nothing_taken}
-use Rattle.world_semantics.specs.Core.{Core, core_asked, core_replied, core_taken, next_on}
+use Rattle.computed_changes.specs.sync_ids.specs.Tables.{last_taken, nothing_taken}
+use Rattle.computed_changes.specs.world_semantics.specs.Core.{Core, core_asked, core_replied, core_taken, next_on}
 use Rattle.process_control.specs.declared.told.Asking.{Asking}
 use Rattle.process_control.specs.declared.told.Answering.{Answering}
 

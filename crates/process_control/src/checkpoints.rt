@@ -3,7 +3,7 @@ ghost use Rattle.std.specs.Option.{option_map, unwrap_or};
 ghost use Rattle.gd_words.specs.Ranges.{HasNext};
 ghost use Rattle.process_semantics.specs.declared.point.Point.TheVariants.{AtCheckpoint};
 ghost use Rattle.process_semantics.specs.Process.{point};
-ghost use Rattle.world_semantics.specs.declared.role.Role.TheVariants.{Watching, Gone};
+ghost use Rattle.computed_changes.specs.world_semantics.specs.declared.role.Role.TheVariants.{Watching, Gone};
 ghost use Rattle.computed_changes.specs.Checkpoints.{core_where, is_next_for, is_of_last};
 ghost use Rattle.process_control.specs.Changing.{changing_where};
 ghost use Rattle.process_control.specs.Copies.{copy_applied, copy_applying, copy_changed, copy_changing};
@@ -11,11 +11,10 @@ ghost use Rattle.process_control.specs.Copies.{copy_checkpoint, copy_ending, cop
 ghost use Rattle.process_control.specs.Copies.{copy_taking_over, copy_told};
 
 use crate::control::CopyControl;
-use change_layout::ChangeMessage;
 use checkpoint_image::{Behaviour, ImageMessage, TakenMessage};
+use computed_changes::{ChangeMessage, Role};
 use gd_words::NoMemory;
 use std::alloc::Global;
-use world_semantics::Role;
 
 impl<B: Behaviour> CopyControl<B> {
     /// The checkpoint of where it stands, for the other copy of its process: of everything where it has to send that.

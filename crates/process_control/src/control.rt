@@ -8,21 +8,20 @@ ghost use Rattle.whole_states.specs.Processes.{IsWholeProcess};
 ghost use Rattle.checkpoint_image.specs.Behaving.{last_write_of};
 ghost use Rattle.checkpoint_image.specs.Receive.{standing};
 ghost use Rattle.checkpoint_image.specs.declared.receive.RequestStanding.TheVariants.{Next};
-ghost use Rattle.sync_ids.specs.Tables.{IsDepth};
-ghost use Rattle.world_semantics.specs.Core.{core_acting, core_getting, core_going, next_on};
+ghost use Rattle.computed_changes.specs.sync_ids.specs.Tables.{IsDepth};
+ghost use Rattle.computed_changes.specs.world_semantics.specs.Core.{core_acting, core_getting, core_going, next_on};
 ghost use Rattle.process_control.specs.Cores.{core_taking, asking_of, core_asking, answering_of, core_answering};
 ghost use Rattle.process_control.specs.Copies.{copy_at_start, copy_blank, with_core};
 
 use crate::inside::CopyCore;
 use crate::told::{Answering, Asking};
 use checkpoint_image::{Behaviour, RequestStanding};
+use computed_changes::{Receive, Role};
 use gd_words::{DeviceCall, NoMemory, Request, Sector, Words};
 use process_semantics::Point;
 use std::alloc::Global;
 use std::marker::Model;
-use sync_ids::Receive;
 use tal_tree::OpenerSpec;
-use world_semantics::Role;
 
 /// One copy of a process.
 #[derive(Drop)]

@@ -1,12 +1,12 @@
 ghost use Rattle.std.specs.Prelude.{◌≡◌, IfOk, map, slice_get};
 ghost use Rattle.std.specs.Option.{unwrap_or};
-ghost use Rattle.world_semantics.specs.Core.{with_files};
+ghost use Rattle.computed_changes.specs.world_semantics.specs.Core.{with_files};
 ghost use Rattle.computed_changes.specs.Fitting.{are_files};
 
 use checkpoint_image::FileNumber;
+use computed_changes::Asker;
 use gd_words::{List, NoMemory};
 use std::alloc::Global;
-use sync_ids::Asker;
 
 /// The number of the next request on a file.
 pub fn next_on(asker: &Asker, file: u8) -> u32

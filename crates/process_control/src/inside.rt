@@ -9,22 +9,22 @@ ghost use Rattle.whole_states.specs.Processes.{IsWholeProcess};
 ghost use Rattle.checkpoint_image.specs.Behaving.{last_write_of};
 ghost use Rattle.checkpoint_image.specs.Receive.{standing};
 ghost use Rattle.checkpoint_image.specs.declared.receive.RequestStanding.TheVariants.{Next};
-ghost use Rattle.sync_ids.specs.Tables.{IsDepth};
-ghost use Rattle.world_semantics.specs.Core.{after_passing, carried, carried_by, carried_whole, core_acting};
-ghost use Rattle.world_semantics.specs.Core.{core_getting, core_going, next_on};
+ghost use Rattle.computed_changes.specs.sync_ids.specs.Tables.{IsDepth};
+ghost use Rattle.computed_changes.specs.world_semantics.specs.Core.{after_passing, carried, carried_by, carried_whole};
+ghost use Rattle.computed_changes.specs.world_semantics.specs.Core.{core_acting};
+ghost use Rattle.computed_changes.specs.world_semantics.specs.Core.{core_getting, core_going, next_on};
 ghost use Rattle.process_control.specs.Cores.{core_at_start, core_taking, asking_of, core_asking, answering_of};
 ghost use Rattle.process_control.specs.Cores.{core_answering, core_with_change};
 ghost use Rattle.computed_changes.specs.Fitting.{put_fitting};
 
 use crate::files::{are_files, next_on, numbers_of, put_files};
 use crate::told::{Answering, Asking};
-use change_layout::ChangeMessage;
 use checkpoint_image::{Behaviour, Image};
+use computed_changes::{Asker, ChangeMessage, Receive};
 use gd_words::{DeviceCall, NoMemory, Request, Sector, Words};
 use process_semantics::Point;
 use std::alloc::Global;
 use std::marker::Model;
-use sync_ids::{Asker, Receive};
 use tal_tree::OpenerSpec;
 
 /// What a copy's checkpoints carry: the process, its receive table and the numbers of its files.

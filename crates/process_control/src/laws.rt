@@ -5,8 +5,8 @@ ghost use Rattle.tal_tree.specs.declared.site.Site.{Site};
 ghost use Rattle.process_semantics.specs.Process.{in_hand, start_of};
 ghost use Rattle.whole_states.specs.Listing.{files_of};
 ghost use Rattle.whole_states.specs.Processes.{IsRegularKind, IsWholeProcess};
-ghost use Rattle.plain_semantics.specs.Openers as openers;
-ghost use Rattle.world_semantics.specs.Core.{core_at_boot};
+ghost use Rattle.computed_changes.specs.plain_semantics.specs.Openers as openers;
+ghost use Rattle.computed_changes.specs.world_semantics.specs.Core.{core_at_boot};
 ghost use Rattle.process_control.specs.Cores.{core_at_start};
 
 /// A disc, or a process of a regular program, at its beginning is one that a copy can start with.

@@ -2,8 +2,8 @@
 use Rattle.std.proofs.Common.{◌≡◌, Bool, true, false, nat_lt, [], ◌∷◌, Option, Some, None, is_some, refl, ap, subst}
 use Rattle.std.proofs.Common.{sym}
 use Rattle.std.specs.Option.{option_map}
-use Rattle.checkpoint_image.specs.declared.message.ImageMessage.{ImageMessage}
-use Rattle.checkpoint_image.specs.declared.message.TakenMessage.{TakenMessage}
+use Rattle.world_semantics.specs.checkpoint_image.specs.declared.message.ImageMessage.{ImageMessage}
+use Rattle.world_semantics.specs.checkpoint_image.specs.declared.message.TakenMessage.{TakenMessage}
 use Rattle.world_semantics.specs.declared.which.Which.{Which}
 use Rattle.world_semantics.specs.declared.which.Which.TheVariants.{First, Second}
 use Rattle.world_semantics.specs.Core.{Core}
@@ -12,7 +12,7 @@ use Rattle.world_semantics.specs.Kept.{own_acts}
 use Rattle.world_semantics.specs.Messages.{Taking, sent_at}
 use Rattle.world_semantics.specs.Passes.{point_at, taken_of}
 use Rattle.world_semantics.specs.Shares.{covered_where, covering_where, share_of, with_share}
-use Rattle.computed_changes.specs.Checkpoints.{applied_step, applied_step_where, checkpoint_step}
+use Rattle.node_copies.specs.computed_changes.specs.Checkpoints.{applied_step, applied_step_where, checkpoint_step}
 use Rattle.node_copies.specs.Receiving.{copy_applying}
 use Rattle.world_semantics.specs.Records.{Records}
 use Rattle.node_copies.specs.Seen.{step_sendings}

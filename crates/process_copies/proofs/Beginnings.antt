@@ -5,11 +5,11 @@ use Rattle.tal_tree.specs.declared.site.ProcessSpec.{ProcessSpec}
 use Rattle.tal_tree.specs.declared.site.Site.{Site}
 use Rattle.process_semantics.specs.Process.{start_of}
 use Rattle.plain_semantics.specs.Openers.{files_of, openers_of}
-use Rattle.checkpoint_image.specs.declared.message.ImageMessage.{ImageMessage}
-use Rattle.checkpoint_image.specs.declared.message.TakenMessage.{TakenMessage}
+use Rattle.world_semantics.specs.checkpoint_image.specs.declared.message.ImageMessage.{ImageMessage}
+use Rattle.world_semantics.specs.checkpoint_image.specs.declared.message.TakenMessage.{TakenMessage}
 use Rattle.disc_device.specs.Sectors.{Stored}
 use Rattle.disc_device.specs.mirror.specs.declared.state.DriveState.{DriveState}
-use Rattle.machine_states.specs.Drives.{states_at_boot}
+use Rattle.node_copies.specs.machine_states.specs.Drives.{states_at_boot}
 use Rattle.world_semantics.specs.declared.role.Role.{Role}
 use Rattle.world_semantics.specs.declared.role.Role.TheVariants.{Acting, Watching}
 use Rattle.world_semantics.specs.declared.which.Which.TheVariants.{First}

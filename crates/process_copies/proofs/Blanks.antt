@@ -6,7 +6,7 @@ use Rattle.tal_tree.specs.declared.site.OpenerSpec.{OpenerSpec}
 use Rattle.tal_tree.specs.declared.site.ProcessSpec.{ProcessSpec}
 use Rattle.process_semantics.specs.Process.{start_of}
 use Rattle.plain_semantics.specs.Openers.{files_of, openers_of}
-use Rattle.computed_changes.specs.Fitting.{depths_of}
+use Rattle.node_copies.specs.computed_changes.specs.Fitting.{depths_of}
 use Rattle.world_semantics.specs.Core.{Core}
 use Rattle.world_semantics.specs.Rules.{begun, blank_copy, reloaded_by}
 use Rattle.node_copies.specs.process_control.specs.Cores.{core_at_start}

@@ -1,13 +1,13 @@
 -- A checkpoint that comes to a copy as what changed is the step that is defined.
 use Rattle.std.proofs.Common.{◌≡◌, Bool, true, false, [], ◌∷◌, Option, Some, None, is_some, refl, ap, ◌∙◌}
 use Rattle.std.specs.Option.{option_and_then, option_map}
-use Rattle.change_layout.specs.Changing.{whole_of, whole_where}
-use Rattle.change_layout.specs.declared.message.ChangeMessage.{ChangeMessage}
-use Rattle.checkpoint_image.specs.declared.message.TakenMessage.{TakenMessage}
-use Rattle.computed_changes.specs.Changed.{change_step}
-use Rattle.computed_changes.specs.Checkpoints.{applied_step, checkpoint_step, core_as}
-use Rattle.computed_changes.specs.Fitting.{depths_of}
-use Rattle.sync_ids.specs.Changes.{fits_change}
+use Rattle.node_copies.specs.change_layout.specs.Changing.{whole_of, whole_where}
+use Rattle.node_copies.specs.change_layout.specs.declared.message.ChangeMessage.{ChangeMessage}
+use Rattle.world_semantics.specs.checkpoint_image.specs.declared.message.TakenMessage.{TakenMessage}
+use Rattle.node_copies.specs.computed_changes.specs.Changed.{change_step}
+use Rattle.node_copies.specs.computed_changes.specs.Checkpoints.{applied_step, checkpoint_step, core_as}
+use Rattle.node_copies.specs.computed_changes.specs.Fitting.{depths_of}
+use Rattle.node_copies.specs.sync_ids.specs.Changes.{fits_change}
 use Rattle.world_semantics.specs.declared.which.Which.{Which}
 use Rattle.world_semantics.specs.Core.{Core}
 use Rattle.world_semantics.specs.World.{copy_of}

@@ -12,7 +12,7 @@ use Rattle.tal_tree.specs.declared.site.TerminalSpec.{TerminalSpec}
 use Rattle.tal_tree.specs.declared.site.Who.TheVariants as who
 use Rattle.plain_semantics.specs.Openers.{file_opener, files_from, files_of, opens, openers_by, openers_of}
 use Rattle.plain_semantics.specs.Openers.{processes_from, terminal_opener, terminals_from}
-use Rattle.sync_ids.specs.Tables.{IsDepth}
+use Rattle.node_copies.specs.sync_ids.specs.Tables.{IsDepth}
 use Rattle.process_copies.specs.Starting.{HasDepths}
 
 pub all-there : {A : Type 0} (P : A → Type 0) (xs : List A) (k : ℕ) (x : A) → All P xs → slice_get xs k ≡ Some x → P x

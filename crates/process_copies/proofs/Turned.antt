@@ -7,8 +7,8 @@ use Rattle.disc_device.specs.Sectors.{Stored}
 use Rattle.disc_device.specs.mirror.specs.Mirror.{DriveHeld}
 use Rattle.disc_device.specs.mirror.specs.States.{states_of}
 use Rattle.disc_device.specs.mirror.specs.declared.state.DriveState.{DriveState}
-use Rattle.machine_states.specs.Drives.{Turned, Turns, Rests, Loses, is_of_two}
-use Rattle.machine_states.specs.declared.effect.Effect.{Effect}
+use Rattle.node_copies.specs.machine_states.specs.Drives.{Turned, Turns, Rests, Loses, is_of_two}
+use Rattle.node_copies.specs.machine_states.specs.declared.effect.Effect.{Effect}
 use Rattle.process_copies.specs.Seen.{Placed}
 use Rattle.process_copies.specs.Turning.{TurnsDrives, TurnsPlaced}
 

@@ -5,8 +5,13 @@ pub mod Seen
 pub mod Starting
 pub mod Turning
 pub use Rattle.disc_device
-pub use Rattle.machine_states
+pub use Rattle.node_copies.specs.machine_states
 pub use Rattle.node_copies.specs.message_wires
 pub use Rattle.node_copies
 pub use Rattle.node_copies.specs.number_ranges
 pub use Rattle.node_copies.specs.processes
+pub use Rattle.node_copies.specs.change_layout
+pub use Rattle.node_copies.specs.computed_changes
+pub use Rattle.node_copies.specs.letters
+pub use Rattle.node_copies.specs.sendings
+pub use Rattle.node_copies.specs.sync_ids

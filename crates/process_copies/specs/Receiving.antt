@@ -2,9 +2,9 @@
 use Rattle.std.specs.Prelude.{◌≡◌, ℕ, ◌==◌, Bool, false, List, ◌∷◌, Option}
 use Rattle.gd_words.specs.declared.message.Reply.{Reply}
 use Rattle.process_semantics.specs.Process as process
-use Rattle.change_layout.specs.declared.message.ChangeMessage.{ChangeMessage}
-use Rattle.checkpoint_image.specs.declared.message.ImageMessage.{ImageMessage}
-use Rattle.checkpoint_image.specs.declared.message.TakenMessage.{TakenMessage}
+use Rattle.node_copies.specs.change_layout.specs.declared.message.ChangeMessage.{ChangeMessage}
+use Rattle.world_semantics.specs.checkpoint_image.specs.declared.message.ImageMessage.{ImageMessage}
+use Rattle.world_semantics.specs.checkpoint_image.specs.declared.message.TakenMessage.{TakenMessage}
 use Rattle.tal_tree.specs.declared.act.Act.{Act}
 use Rattle.tal_tree.specs.declared.site.Site.{Site}
 use Rattle.world_semantics.specs.declared.role.Role.{Role}
@@ -12,10 +12,10 @@ use Rattle.world_semantics.specs.declared.role.Role.TheVariants.{Acting, Watchin
 use Rattle.world_semantics.specs.declared.which.Which.{Which}
 use Rattle.world_semantics.specs.Core.{Core}
 use Rattle.world_semantics.specs.World.{Copy, Pair, copy_of, other_of, with_copy}
-use Rattle.computed_changes.specs.Fitting.{depths_of}
-use Rattle.computed_changes.specs.Changed.{core_changing}
-use Rattle.computed_changes.specs.Checkpoints.{core_applying}
-use Rattle.computed_changes.specs.Replies.{awaits}
+use Rattle.node_copies.specs.computed_changes.specs.Fitting.{depths_of}
+use Rattle.node_copies.specs.computed_changes.specs.Changed.{core_changing}
+use Rattle.node_copies.specs.computed_changes.specs.Checkpoints.{core_applying}
+use Rattle.node_copies.specs.computed_changes.specs.Replies.{awaits}
 use Rattle.world_semantics.specs.Shares.{Sharing, covered_count, share_after_cover, share_of, with_share}
 use Rattle.world_semantics.specs.Passes.{point_at}
 use Rattle.world_semantics.specs.Records.{Records}
@@ -76,8 +76,8 @@ pair_covering number k taken kept pair =
 -- Again
 
 -- whether a copy of this role in this processor acts on a node
-abbrev pub acts_at : ℕ → Role → ℕ → Bool
-acts_at node Acting at = at == node
-acts_at node Watching at = false
-acts_at node Blank at = false
-acts_at node Gone at = false
+abbrev pub acts_on_node : ℕ → Role → ℕ → Bool
+acts_on_node node Acting at = at == node
+acts_on_node node Watching at = false
+acts_on_node node Blank at = false
+acts_on_node node Gone at = false

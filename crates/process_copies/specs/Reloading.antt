@@ -1,6 +1,7 @@
--- The blank copies that a process gets in a processor which is loaded again. The rules are those of the world of copies.
+-- The blank copies that a process gets in a processor which is loaded again. The rules are those of the world of
+-- copies.
 use Rattle.std.specs.Prelude.{ℕ, ◌+◌, ◌==◌, Bool, true, false, slice_get, Option, Some, None}
-use Rattle.computed_changes.specs.Fitting.{depths_of}
+use Rattle.node_copies.specs.computed_changes.specs.Fitting.{depths_of}
 use Rattle.world_semantics.specs.Core.{Core}
 use Rattle.world_semantics.specs.declared.which.Which.TheVariants.{First, Second}
 use Rattle.world_semantics.specs.Rules.{begun, blank_copy, reloaded_at, renewed}
@@ -42,8 +43,8 @@ abbrev pub blanks_of : ℕ → Placed → BlankCopies
 blanks_of processor placed =
     blanks_by placed (placed.pair.first.processor == processor) (placed.pair.second.processor == processor)
 
--- a process with these blank copies in the places of its own: a copy that stays has to send everything to the other one,
--- and leads
+-- a process with these blank copies in the places of its own: a copy that stays has to send everything to the other
+-- one, and leads
 abbrev pub pair_with_blanks : Option CopyAndDepths → Option CopyAndDepths → Pair → Pair
 pair_with_blanks None None pair = pair
 pair_with_blanks (Some first) None pair =

@@ -6,12 +6,12 @@ use Rattle.tal_tree.specs.declared.site.Kind.{Kind}
 use Rattle.tal_tree.specs.declared.site.Kind.TheVariants as kind
 use Rattle.tal_tree.specs.declared.site.ProcessSpec.{ProcessSpec}
 use Rattle.tal_tree.specs.declared.site.Site.{Site}
-use Rattle.machine_states.specs.Drives.{states_at_boot}
+use Rattle.node_copies.specs.machine_states.specs.Drives.{states_at_boot}
 use Rattle.plain_semantics.specs.declared.slot.Opener.{Opener}
 use Rattle.plain_semantics.specs.Openers.{files_of}
 use Rattle.plain_semantics.specs.SiteLimits.{KeepsSiteLimits}
 use Rattle.node_copies.specs.processes.specs.Seen.{IsLoadableKind}
-use Rattle.sync_ids.specs.Tables.{IsDepth}
+use Rattle.node_copies.specs.sync_ids.specs.Tables.{IsDepth}
 use Rattle.world_semantics.specs.World.{pair_at_boot}
 use Rattle.process_copies.specs.Seen.{Placed}
 

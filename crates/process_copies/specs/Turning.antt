@@ -2,9 +2,9 @@
 -- states.
 use Rattle.std.specs.Prelude.{◌≡◌, ℕ, List}
 use Rattle.disc_device.specs.mirror.specs.declared.state.DriveState.{DriveState}
-use Rattle.machine_states.specs.Drives.{Turned, Turns, Rests, Loses}
-use Rattle.machine_states.specs.declared.effect.Effect.{Effect}
-use Rattle.machine_states.specs.declared.effect.Effect.TheVariants.{Done, Skipped, WouldLoseDisc}
+use Rattle.node_copies.specs.machine_states.specs.Drives.{Turned, Turns, Rests, Loses}
+use Rattle.node_copies.specs.machine_states.specs.declared.effect.Effect.{Effect}
+use Rattle.node_copies.specs.machine_states.specs.declared.effect.Effect.TheVariants.{Done, Skipped, WouldLoseDisc}
 use Rattle.process_copies.specs.Seen.{Placed}
 
 -- the answer for the device of the process of this number, and how its drives stand then

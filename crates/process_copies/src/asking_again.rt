@@ -3,29 +3,28 @@ ghost use Rattle.tal_tree.specs.declared.site.Who.TheVariants as who;
 ghost use Rattle.process_semantics.specs.declared.point.Point.TheVariants.{Await};
 ghost use Rattle.process_semantics.specs.Process as process;
 ghost use Rattle.plain_semantics.specs.Openers.{opener_of};
-ghost use Rattle.computed_changes.specs.Fitting.{depths_of};
-ghost use Rattle.computed_changes.specs.Replies.{is_to};
+ghost use Rattle.node_copies.specs.computed_changes.specs.Fitting.{depths_of};
+ghost use Rattle.node_copies.specs.computed_changes.specs.Replies.{is_to};
 ghost use Rattle.node_copies.specs.sendings.specs.letters.specs.Again.{awaited_at, awaited_by};
-ghost use Rattle.node_copies.specs.message_wires.specs.Idle.{waits_as, waits_at_mark};
-ghost use Rattle.sync_ids.specs.Tables.{IsSound};
+ghost use Rattle.node_copies.specs.message_wires.specs.Idle.{awaits_taking_as, awaits_taking};
+ghost use Rattle.node_copies.specs.sync_ids.specs.Tables.{IsSound};
 ghost use Rattle.world_semantics.specs.Core.{next_on};
 ghost use Rattle.world_semantics.specs.World.{copy_of};
-ghost use Rattle.process_copies.specs.Receiving.{acts_at};
+ghost use Rattle.process_copies.specs.Receiving.{acts_on_node};
 
 use crate::copies::ProcessCopies;
-use checkpoint_image::ReceiveBlock;
 use gd_words::{NoMemory, Reply, Request, Words};
-use node_copies::Address;
-use node_copies::process_control::Asking;
 use node_copies::sending::{address_in, request_to};
+use node_copies::{Address, Asking};
 use process_semantics::Point;
 use std::alloc::Global;
-use world_semantics::{Role, Which};
+use world_semantics::{ReceiveBlock, Role, Which};
 
 impl ProcessCopies {
     /// Whether a copy acts, and is in this processor.
     pub fn acts_on(&self, which: Which, node: u8) -> bool
-        ensures { result ≡ acts_at node (copy_of which self.now.pair).role (copy_of which self.now.pair).processor }
+        ensures { result
+            ≡ acts_on_node node (copy_of which self.now.pair).role (copy_of which self.now.pair).processor }
     {
         match self.role(which) {
             Role::Acting => self.processor(which) == node,
@@ -56,11 +55,11 @@ impl ProcessCopies {
     }
 
     /// Whether a copy acts and waits at a checkpoint, its checkpoint sent.
-    pub fn waits_at_mark(&self) -> bool
-        ensures { result ≡ (waits_at_mark self.now.pair.first || waits_at_mark self.now.pair.second) }
+    pub fn awaits_taking(&self) -> bool
+        ensures { result ≡ (awaits_taking self.now.pair.first || awaits_taking self.now.pair.second) }
     {
-        waits_as(self.first.role(), self.first.sent())
-            || waits_as(self.second.role(), self.second.sent())
+        awaits_taking_as(self.first.role(), self.first.sent())
+            || awaits_taking_as(self.second.role(), self.second.sent())
     }
 
     /// The request that the process of a copy asked last.
@@ -124,8 +123,8 @@ impl ProcessCopies {
     }
 }
 
-fn waits_as(role: Role, sent: bool) -> bool
-    ensures { result ≡ waits_as role sent }
+fn awaits_taking_as(role: Role, sent: bool) -> bool
+    ensures { result ≡ awaits_taking_as role sent }
 {
     match role {
         Role::Acting => sent,

@@ -6,13 +6,11 @@ ghost use Rattle.process_semantics.specs.Process.{point};
 ghost use Rattle.plain_semantics.specs.Openers.{openers_of};
 ghost use Rattle.world_semantics.specs.World.{copy_of, is_acting, is_pair_of, is_watching};
 ghost use Rattle.node_copies.specs.sendings.specs.letters.specs.Routes.{other_end};
-ghost use Rattle.computed_changes.specs.Changed.{one_before};
-ghost use Rattle.computed_changes.specs.Handed.{copy_in};
+ghost use Rattle.node_copies.specs.computed_changes.specs.Changed.{one_before};
+ghost use Rattle.node_copies.specs.computed_changes.specs.Handed.{copy_in};
 
 use crate::sent::SentCheckpoints;
-use checkpoint_image::{ImageMessage, TakenMessage};
-use disc_device::mirror::DriveState;
-use disc_device::{Disc, Stored};
+use disc_device::{Disc, DriveState, Stored};
 use gd_words::List;
 use ghost_logs::GhostLog;
 use node_copies::{Address, NodeCopy};
@@ -20,11 +18,11 @@ use process_semantics::Point;
 use std::marker::Model;
 use std::snapshot::Snapshot;
 use tal_tree::{OpenerSpec, Site};
-use world_semantics::{Role, Which};
+use world_semantics::{ImageMessage, Role, TakenMessage, Which};
 
 /// A process in its place in a site: its two copies in their processors, which of them leads, how many kept acts the
-/// last checkpoint covers, the last two checkpoints that its copies sent, and its device, if it is a disc. All that they
-/// ever sent, and which of them were taken, are seen by contracts alone.
+/// last checkpoint covers, the last two checkpoints that its copies sent, and its device, if it is a disc. All that
+/// they ever sent, and which of them were taken, are seen by contracts alone.
 #[derive(Drop)]
 pub struct ProcessCopies {
     pub(crate) site: Snapshot<Site>,
@@ -45,7 +43,7 @@ impl Model for ProcessCopies {
     ghost use Rattle.std.specs.Coded.{codes};
     ghost use Rattle.tal_tree.specs.contracts.statement.Statement as statement;
     ghost use Rattle.plain_semantics.specs.Openers.{openers_of};
-    ghost use Rattle.computed_changes.specs.Fitting.{depths_of};
+    ghost use Rattle.node_copies.specs.computed_changes.specs.Fitting.{depths_of};
     ghost use Rattle.node_copies.specs.Seen.{drives_on, openers_on, sectors_on};
     ghost use Rattle.process_copies.specs.Seen.{Placed};
 

@@ -3,19 +3,21 @@ ghost use Rattle.process_semantics.specs.declared.point.Point.TheVariants.{Await
 ghost use Rattle.process_semantics.specs.Process as process;
 ghost use Rattle.node_copies.specs.file_calls.specs.Queue.{sent_again};
 ghost use Rattle.plain_semantics.specs.Openers.{openers_of};
-ghost use Rattle.checkpoint_image.specs.Receive.{repeated};
+ghost use Rattle.world_semantics.specs.checkpoint_image.specs.Receive.{repeated};
 ghost use Rattle.world_semantics.specs.Shares.{covered_count, share_of, with_share};
 ghost use Rattle.node_copies.specs.number_ranges.specs.HasRoom.{CopyHasRoom, PairHasRoom};
 ghost use Rattle.node_copies.specs.sendings.specs.Seen.{message_of};
 ghost use Rattle.world_semantics.specs.World.{copy_of, other_of};
 ghost use Rattle.world_semantics.specs.Messages.{Replying, Taking, sent_at};
 ghost use Rattle.world_semantics.specs.Passes.{after_told, point_at, taken_of};
-ghost use Rattle.computed_changes.specs.Changed.{change_step, change_step_on};
-ghost use Rattle.computed_changes.specs.Checkpoints.{checkpoint_step, is_of_last, taken_step, taken_step_where};
-ghost use Rattle.computed_changes.specs.Handed.{step_by, step_on};
-ghost use Rattle.computed_changes.specs.Laws.{NamesOpener};
-ghost use Rattle.computed_changes.specs.Replies.{awaits, got_step, reply_step, reply_step_where};
-ghost use Rattle.computed_changes.specs.Requests.{after_early_request, after_request, repeated_at, request_step};
+ghost use Rattle.node_copies.specs.computed_changes.specs.Changed.{change_step, change_step_on};
+ghost use Rattle.node_copies.specs.computed_changes.specs.Checkpoints.{checkpoint_step, is_of_last, taken_step};
+ghost use Rattle.node_copies.specs.computed_changes.specs.Checkpoints.{taken_step_where};
+ghost use Rattle.node_copies.specs.computed_changes.specs.Handed.{step_by, step_on};
+ghost use Rattle.node_copies.specs.computed_changes.specs.Laws.{NamesOpener};
+ghost use Rattle.node_copies.specs.computed_changes.specs.Replies.{awaits, got_step, reply_step, reply_step_where};
+ghost use Rattle.node_copies.specs.computed_changes.specs.Requests.{after_early_request, after_request, repeated_at};
+ghost use Rattle.node_copies.specs.computed_changes.specs.Requests.{request_step};
 ghost use Rattle.node_copies.specs.Receiving.{copy_applying, copy_changing};
 ghost use Rattle.world_semantics.specs.Records as happened;
 ghost use Rattle.node_copies.specs.Seen.{step_sendings};
@@ -24,14 +26,10 @@ ghost use Rattle.process_copies.specs.Receiving.{pair_covering, placed_with, tak
 ghost use Rattle.process_copies.specs.Seen.{placed_after, records_after, sent_by};
 
 use crate::copies::ProcessCopies;
-use change_layout::ChangeMessage;
-use checkpoint_image::{ImageMessage, TakenMessage};
 use gd_words::{NoMemory, Reply, Request};
-use node_copies::file_calls::Arrival;
-use node_copies::sendings::{Message, Sending};
-use node_copies::{Records, StepOutcome};
+use node_copies::{Arrival, ChangeMessage, Message, Records, Sending, StepOutcome};
 use process_semantics::Point;
-use world_semantics::{Role, Which};
+use world_semantics::{ImageMessage, Role, TakenMessage, Which};
 
 impl ProcessCopies {
     /// A message that is for this process comes to it at a node.

@@ -19,11 +19,13 @@ mod telling;
 mod turning;
 
 pub use copies::ProcessCopies;
-pub use disc_device;
-pub use machine_states;
-pub use node_copies;
-pub use node_copies::{file_calls, kept_acts, process_control, processes};
+pub use disc_device::{Disc, DriveState};
+pub use node_copies::{
+    Address, ChangeMessage, CopyControl, CopyShare, Downs, Effect, Message, NodeCopy, Process,
+    Records, Sending, StepOutcome, TERMINAL_NODE, Waiting, all_that_close_make_the_closed_run,
+    copy_request, is_running,
+};
 pub use reloading::BlankCopies;
-pub use schedule;
+pub use schedule::DriveEvent;
 pub use sent::SentCheckpoints;
 pub use starting::address_of;

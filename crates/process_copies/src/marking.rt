@@ -10,8 +10,7 @@ ghost use Rattle.world_semantics.specs.Shares.{let_go};
 
 use crate::copies::{ProcessCopies, is_watching};
 use gd_words::{List, NoMemory};
-use node_copies::Records;
-use node_copies::sendings::Sending;
+use node_copies::{Records, Sending};
 use world_semantics::Which;
 
 impl ProcessCopies {

@@ -1,7 +1,7 @@
 ghost use Rattle.std.specs.Prelude.{◌≡◌, ◌<◌, length, IfOk, None, Some};
 ghost use Rattle.std.specs.Option.{IfSome};
 ghost use Rattle.gd_words.specs.Ranges.{HasNext};
-ghost use Rattle.computed_changes.specs.Fitting.{depths_of};
+ghost use Rattle.node_copies.specs.computed_changes.specs.Fitting.{depths_of};
 ghost use Rattle.node_copies.specs.number_ranges.specs.HasRoom.{PairHasRoom};
 ghost use Rattle.process_copies.specs.Reloading.{blank_after, blanks_by, blanks_of};
 ghost use Rattle.process_copies.specs.Reloading.{pair_with_blanks, placed_reloaded};
@@ -14,7 +14,8 @@ use std::alloc::Global;
 use tal_tree::Site;
 use world_semantics::Which;
 
-/// The blank copies that a process gets in a processor which is loaded again: one for each of its copies that was there.
+/// The blank copies that a process gets in a processor which is loaded again: one for each of its copies that was
+/// there.
 #[derive(Drop)]
 pub struct BlankCopies {
     first: Option<NodeCopy>,

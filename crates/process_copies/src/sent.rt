@@ -1,14 +1,14 @@
 ghost use Rattle.std.specs.Prelude.{◌≡◌, [], ◌∷◌, OnErr, OnOk};
 ghost use Rattle.std.specs.Option.{option_copied};
-ghost use Rattle.computed_changes.specs.Changed.{one_before};
+ghost use Rattle.node_copies.specs.computed_changes.specs.Changed.{one_before};
 
-use checkpoint_image::ImageMessage;
 use gd_words::NoMemory;
 use ghost_logs::GhostLog;
 use logs::Shared;
 use std::alloc::Global;
 use std::marker::Model;
 use std::mem;
+use world_semantics::ImageMessage;
 
 /// The checkpoints that the copies of a process ever sent. The last two are kept, so that the next one can go as what
 /// changed; contracts alone see the others.
@@ -22,8 +22,8 @@ pub struct SentCheckpoints {
 impl Model for SentCheckpoints {
     ghost use Rattle.std.specs.Prelude.{◌≡◌, List};
     ghost use Rattle.std.specs.Coded.{codes};
-    ghost use Rattle.checkpoint_image.specs.declared.message.ImageMessage as checkpoint;
-    ghost use Rattle.computed_changes.specs.Changed.{last_of, one_before};
+    ghost use Rattle.world_semantics.specs.checkpoint_image.specs.declared.message.ImageMessage as checkpoint;
+    ghost use Rattle.node_copies.specs.computed_changes.specs.Changed.{last_of, one_before};
 
     ghost Value = { List checkpoint.ImageMessage };
 

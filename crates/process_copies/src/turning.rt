@@ -2,14 +2,13 @@ ghost use Rattle.std.specs.Prelude.{◌≡◌, ◌<◌, length};
 ghost use Rattle.std.specs.Bool.{OnTrue};
 ghost use Rattle.disc_device.specs.mirror.specs.Mirror.{content};
 ghost use Rattle.disc_device.specs.mirror.specs.States.{states_of};
-ghost use Rattle.machine_states.specs.Drives.{is_of_two, turned, turned_by};
+ghost use Rattle.node_copies.specs.machine_states.specs.Drives.{is_of_two, turned, turned_by};
 ghost use Rattle.node_copies.specs.Seen.{drives_on, sectors_on};
 ghost use Rattle.process_copies.specs.Turning.{TurnsDrives, TurnsPlaced};
 
 use crate::copies::ProcessCopies;
-use disc_device::Disc;
-use disc_device::mirror::Failing;
-use machine_states::Effect;
+use disc_device::{Disc, Failing};
+use node_copies::Effect;
 use schedule::DriveChange;
 
 impl ProcessCopies {

@@ -7,10 +7,10 @@ use Rattle.tal_tree.specs.declared.program.FileUse.{FileUse}
 use Rattle.tal_tree.specs.declared.site.OpenerSpec.{OpenerSpec}
 use Rattle.tal_tree.specs.declared.site.ProcessSpec.{ProcessSpec}
 use Rattle.tal_tree.specs.declared.site.Site.{Site}
-use Rattle.process_semantics.specs.declared.point.Point.{Point}
-use Rattle.process_semantics.specs.declared.point.Point.TheVariants as point
-use Rattle.process_semantics.specs.Process as process
-use Rattle.process_semantics.specs.Process.{ProcessState}
+use Rattle.world_semantics.specs.process_semantics.specs.declared.point.Point.{Point}
+use Rattle.world_semantics.specs.process_semantics.specs.declared.point.Point.TheVariants as point
+use Rattle.world_semantics.specs.process_semantics.specs.Process as process
+use Rattle.world_semantics.specs.process_semantics.specs.Process.{ProcessState}
 use Rattle.world_semantics.specs.plain_semantics.specs.Openers.{files_of, openers_of}
 use Rattle.world_semantics.specs.whole_states.specs.Processes.{IsRegularKind}
 use Rattle.world_semantics.specs.checkpoint_image.specs.declared.receive.OpenerBlock.{OpenerBlock}

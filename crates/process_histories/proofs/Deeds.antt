@@ -3,9 +3,9 @@ use Rattle.std.proofs.Common.{◌≡◌, ℕ, List, [], ◌∷◌, ◌++◌, ref
 use Rattle.tal_tree.specs.declared.site.OpenerSpec.{OpenerSpec}
 use Rattle.tal_tree.specs.declared.site.ProcessSpec.{ProcessSpec}
 use Rattle.tal_tree.specs.declared.site.Site.{Site}
-use Rattle.process_semantics.specs.declared.point.Point.{Point}
-use Rattle.process_semantics.specs.declared.point.Point.TheVariants as point
-use Rattle.process_semantics.specs.Process as process
+use Rattle.world_semantics.specs.process_semantics.specs.declared.point.Point.{Point}
+use Rattle.world_semantics.specs.process_semantics.specs.declared.point.Point.TheVariants as point
+use Rattle.world_semantics.specs.process_semantics.specs.Process as process
 use Rattle.world_semantics.specs.plain_semantics.specs.Openers.{openers_of}
 use Rattle.world_semantics.specs.Core.{Core, Deed, Went, Checkpointed, Took, Asked, Got, Answered, Acted, Advances}
 use Rattle.world_semantics.specs.Core.{goes, marks, takes, asks, gets, answers, acts}

@@ -5,8 +5,8 @@ use Rattle.tal_tree.specs.declared.site.Kind.{Kind}
 use Rattle.tal_tree.specs.declared.site.Kind.TheVariants as kind
 use Rattle.tal_tree.specs.declared.site.ProcessSpec.{ProcessSpec}
 use Rattle.tal_tree.specs.declared.site.Site.{Site}
-use Rattle.process_semantics.specs.Process as process
-use Rattle.process_semantics.specs.Process.{ProcessState, Runs, Serves}
+use Rattle.world_semantics.specs.process_semantics.specs.Process as process
+use Rattle.world_semantics.specs.process_semantics.specs.Process.{ProcessState, Runs, Serves}
 use Rattle.world_semantics.specs.Core.{Core, Deed, goes, marks, takes, asks, gets, answers, acts, next_on}
 use Rattle.tal_tree.specs.declared.program.FileUse.{FileUse}
 use Rattle.tal_tree.specs.declared.program.Program.{Program}

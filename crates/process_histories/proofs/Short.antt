@@ -10,12 +10,13 @@ use Rattle.tal_tree.specs.declared.site.ProcessSpec.{ProcessSpec}
 use Rattle.tal_tree.specs.declared.site.Site.{Site}
 use Rattle.tal_tree.specs.declared.statement.Statement.{Statement}
 use Rattle.tal_tree.specs.declared.statement.What.{What, What-F, out-What}
-use Rattle.process_semantics.specs.tal_values.specs.Value.{value_of}
-use Rattle.process_semantics.specs.Calls as calls
-use Rattle.process_semantics.specs.Process as process
-use Rattle.process_semantics.specs.Process.{ProcessState, Runs, Serves}
-use Rattle.process_semantics.specs.State.{ProgramState, Entry, Run, Test, Last, memory_of, words_of, good_count}
-use Rattle.process_semantics.specs.State.{count_of, in_entry, next_of}
+use Rattle.world_semantics.specs.process_semantics.specs.tal_values.specs.Value.{value_of}
+use Rattle.world_semantics.specs.process_semantics.specs.Calls as calls
+use Rattle.world_semantics.specs.process_semantics.specs.Process as process
+use Rattle.world_semantics.specs.process_semantics.specs.Process.{ProcessState, Runs, Serves}
+use Rattle.world_semantics.specs.process_semantics.specs.State.{ProgramState, Entry, Run, Test, Last, memory_of}
+use Rattle.world_semantics.specs.process_semantics.specs.State.{words_of, good_count}
+use Rattle.world_semantics.specs.process_semantics.specs.State.{count_of, in_entry, next_of}
 use Rattle.world_semantics.specs.Core.{Core, Deed, goes, marks, takes, asks, gets, answers, acts}
 use Rattle.process_histories.specs.Histories.{HasDone, nothing_done, one_more}
 use Rattle.process_histories.specs.Words.{requests_on}

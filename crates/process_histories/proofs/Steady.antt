@@ -5,11 +5,11 @@ use Rattle.tal_tree.specs.declared.site.Kind.{Kind}
 use Rattle.tal_tree.specs.declared.site.Kind.TheVariants as kind
 use Rattle.tal_tree.specs.declared.site.ProcessSpec.{ProcessSpec}
 use Rattle.tal_tree.specs.declared.site.Site.{Site}
-use Rattle.process_semantics.specs.declared.point.Point.{Point}
-use Rattle.process_semantics.specs.declared.point.Point.TheVariants as point
-use Rattle.process_semantics.specs.Changes.{with_waiting}
-use Rattle.process_semantics.specs.Process as process
-use Rattle.process_semantics.specs.Process.{ProcessState, Runs, Serves}
+use Rattle.world_semantics.specs.process_semantics.specs.declared.point.Point.{Point}
+use Rattle.world_semantics.specs.process_semantics.specs.declared.point.Point.TheVariants as point
+use Rattle.world_semantics.specs.process_semantics.specs.Changes.{with_waiting}
+use Rattle.world_semantics.specs.process_semantics.specs.Process as process
+use Rattle.world_semantics.specs.process_semantics.specs.Process.{ProcessState, Runs, Serves}
 use Rattle.world_semantics.specs.whole_states.specs.Processes.{IsRegularKind}
 use Rattle.world_semantics.specs.whole_states.specs.Whole.{IsWhole}
 use Rattle.world_semantics.specs.whole_states.proofs.Awake.{IsAwake, awake-at, awake-whole, awake-away, waits-at}

@@ -14,9 +14,9 @@ use Rattle.tal_tree.specs.declared.site.Kind.{Kind}
 use Rattle.tal_tree.specs.declared.site.Kind.TheVariants as kind
 use Rattle.tal_tree.specs.declared.site.ProcessSpec.{ProcessSpec}
 use Rattle.tal_tree.specs.declared.site.Site.{Site}
-use Rattle.process_semantics.specs.Disc as disc
-use Rattle.process_semantics.specs.Process as process
-use Rattle.process_semantics.specs.Process.{ProcessState, Runs, Serves}
+use Rattle.world_semantics.specs.process_semantics.specs.Disc as disc
+use Rattle.world_semantics.specs.process_semantics.specs.Process as process
+use Rattle.world_semantics.specs.process_semantics.specs.Process.{ProcessState, Runs, Serves}
 use Rattle.world_semantics.specs.disc_device.specs.Sectors.{Stored, blank, is_of_write, is_written}
 use Rattle.world_semantics.specs.checkpoint_image.specs.Behaving.{last_write_of}
 use Rattle.world_semantics.specs.Core.{Core, Deed, Went, Checkpointed, Took, Asked, Got, Answered, Acted, goes, marks}

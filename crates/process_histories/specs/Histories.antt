@@ -4,7 +4,7 @@ use Rattle.tal_tree.specs.declared.site.Kind.{Kind}
 use Rattle.tal_tree.specs.declared.site.Kind.TheVariants as kind
 use Rattle.tal_tree.specs.declared.site.ProcessSpec.{ProcessSpec}
 use Rattle.tal_tree.specs.declared.site.Site.{Site}
-use Rattle.process_semantics.specs.Process.{ProcessState, Runs, Serves}
+use Rattle.world_semantics.specs.process_semantics.specs.Process.{ProcessState, Runs, Serves}
 use Rattle.world_semantics.specs.plain_semantics.specs.Openers.{openers_of}
 use Rattle.world_semantics.specs.Core.{Core, Deed, Advances, core_at_boot}
 

@@ -4,8 +4,8 @@ use Rattle.gd_words.specs.declared.device.DeviceCall.TheVariants.{Write}
 use Rattle.tal_tree.specs.declared.site.Kind.TheVariants as kind
 use Rattle.tal_tree.specs.declared.site.ProcessSpec.{ProcessSpec}
 use Rattle.tal_tree.specs.declared.site.Site.{Site}
-use Rattle.process_semantics.specs.Disc.{disc_start}
-use Rattle.process_semantics.specs.Process.{Serves}
+use Rattle.world_semantics.specs.process_semantics.specs.Disc.{disc_start}
+use Rattle.world_semantics.specs.process_semantics.specs.Process.{Serves}
 use Rattle.world_semantics.specs.Core.{Core, Deed, Checkpointed, Took, Answered, Acted}
 
 -- a disc of two sectors

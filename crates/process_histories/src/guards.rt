@@ -1,9 +1,9 @@
 ghost use Rattle.std.specs.Prelude.{◌≡◌, ℕ, pos, true, false, List, [], ◌∷◌};
 ghost use Rattle.gd_words.specs.declared.device.DeviceCall.TheVariants.{Read, Write};
 ghost use Rattle.tal_tree.specs.declared.site.Kind.TheVariants as kind;
-ghost use Rattle.process_semantics.specs.declared.point.Point.TheVariants as point;
-ghost use Rattle.process_semantics.specs.Disc.{disc_start};
-ghost use Rattle.process_semantics.specs.Process.{Serves};
+ghost use Rattle.world_semantics.specs.process_semantics.specs.declared.point.Point.TheVariants as point;
+ghost use Rattle.world_semantics.specs.process_semantics.specs.Disc.{disc_start};
+ghost use Rattle.world_semantics.specs.process_semantics.specs.Process.{Serves};
 ghost use Rattle.world_semantics.specs.disc_device.specs.Sectors.{blank};
 ghost use Rattle.world_semantics.specs.Core.{Core, Deed, Went, Asked, Got, Took, Answered, Acted, core_at_boot};
 ghost use Rattle.process_histories.specs.Histories.{HasDone};

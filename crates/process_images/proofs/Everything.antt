@@ -2,19 +2,19 @@
 use Rattle.std.proofs.Common.{◌≡◌, inl, inr, ℕ, zero, suc, ◌+◌, Bool, true, false, if◌then◌else◌, List, [], ◌∷◌, Some}
 use Rattle.std.proofs.Common.{slice_get, refl, ap, sym, subst, ◌∙◌, arith}
 use Rattle.std.proofs.lemmas.Option.{same_Some}
-use Rattle.gd_words.specs.Members.{IsAmong, AreDistinct}
-use Rattle.tal_tree.specs.Named.{IsProcess}
-use Rattle.tal_tree.specs.Regular.{MayBeListed}
-use Rattle.tal_tree.specs.Shapes.{has_words}
-use Rattle.tal_tree.specs.declared.program.FileUse.{FileUse}
-use Rattle.tal_tree.specs.declared.program.Item.{Item}
-use Rattle.tal_tree.specs.declared.program.Program.{Program}
-use Rattle.tal_tree.specs.declared.program.Target.{Target}
-use Rattle.tal_tree.specs.declared.program.Target.TheVariants as target
-use Rattle.process_semantics.specs.declared.point.Point.TheVariants as point
-use Rattle.process_semantics.specs.Image.{imaged, image_of, restored}
-use Rattle.process_semantics.specs.Process as process
-use Rattle.process_semantics.specs.Process.{ProcessState, Runs, Serves}
+use Rattle.whole_states.specs.gd_words.specs.Members.{IsAmong, AreDistinct}
+use Rattle.whole_states.specs.tal_tree.specs.Named.{IsProcess}
+use Rattle.whole_states.specs.tal_tree.specs.Regular.{MayBeListed}
+use Rattle.whole_states.specs.tal_tree.specs.Shapes.{has_words}
+use Rattle.whole_states.specs.tal_tree.specs.declared.program.FileUse.{FileUse}
+use Rattle.whole_states.specs.tal_tree.specs.declared.program.Item.{Item}
+use Rattle.whole_states.specs.tal_tree.specs.declared.program.Program.{Program}
+use Rattle.whole_states.specs.tal_tree.specs.declared.program.Target.{Target}
+use Rattle.whole_states.specs.tal_tree.specs.declared.program.Target.TheVariants as target
+use Rattle.whole_states.specs.process_semantics.specs.declared.point.Point.TheVariants as point
+use Rattle.whole_states.specs.process_semantics.specs.Image.{imaged, image_of, restored}
+use Rattle.whole_states.specs.process_semantics.specs.Process as process
+use Rattle.whole_states.specs.process_semantics.specs.Process.{ProcessState, Runs, Serves}
 use Rattle.whole_states.specs.Listing.{MayList}
 use Rattle.whole_states.specs.Processes.{IsWholeProcess}
 use Rattle.process_images.specs.Images.{AreOfOne, AgreeBut, Agrees, listable_from, everything_of, asks_a_process}

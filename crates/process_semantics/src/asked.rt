@@ -1,6 +1,6 @@
 ghost use Rattle.std.specs.Prelude.{◌≡◌, []};
 
-use tal_values::gd_words::Words;
+use tal_values::Words;
 
 /// What a WRITEREAD asks: the number of its file, and the words of the request.
 #[derive(Drop)]

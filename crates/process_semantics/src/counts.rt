@@ -4,7 +4,7 @@ ghost use Rattle.process_semantics.specs.Points.{where_good, where_both_good};
 ghost use Rattle.process_semantics.specs.Calls.{first_words};
 
 use crate::point::Point;
-use tal_values::gd_words::Words;
+use tal_values::Words;
 
 /// The point of a call with this count: Inner where there is none, since the call traps.
 pub fn where_good(point: Point, count: Option<usize>) -> Point

@@ -1,4 +1,4 @@
-use tal_values::tal_tree::Statement;
+use tal_values::Statement;
 
 /// What is to be done in a procedure.
 #[derive(Clone, Copy)]

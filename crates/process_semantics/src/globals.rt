@@ -3,8 +3,7 @@ ghost use Rattle.tal_values.specs.tal_tree.specs.Shapes.{width};
 ghost use Rattle.process_semantics.specs.State.{zeros};
 
 use std::alloc::Global;
-use tal_values::gd_words::{List, NoMemory};
-use tal_values::tal_tree::{Item, Shape};
+use tal_values::{Item, List, NoMemory, Shape};
 
 /// Puts items over those at the start of a list.
 pub fn overwrite<T: Copy>(cells: &mut List<T>, items: &[T])

@@ -23,5 +23,8 @@ pub use disc::DiscState;
 pub use entry::Entry;
 pub use laws::what_remains_is_told;
 pub use point::Point;
-pub use tal_values::{gd_words, tal_tree};
+pub use tal_values::{
+    Cell, DeviceCall, FileUse, Kind, List, Memory, Name, NoMemory, OpenerSpec, ProcessSpec, Sector,
+    Site, Target, TerminalSpec, Who, Words,
+};
 pub use variable::variable_cell;

@@ -1,8 +1,7 @@
 ghost use Rattle.std.specs.Prelude.{◌≡◌};
 ghost use Rattle.process_semantics.specs.Changes.{variable_cell};
 
-use tal_values::Cell;
-use tal_values::tal_tree::Variable;
+use tal_values::{Cell, Variable};
 
 /// The cell of a simple variable.
 pub fn variable_cell(variable: Variable) -> Cell

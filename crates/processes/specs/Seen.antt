@@ -1,11 +1,11 @@
 -- The state of a process of either kind, where it stands, and which processes can be loaded.
 use Rattle.std.specs.Prelude.{ℕ}
 use Rattle.tal_interp.specs.Sound.{IsLoadable}
-use Rattle.tal_tree.specs.declared.site.Kind.{Kind}
-use Rattle.tal_tree.specs.declared.site.Kind.TheVariants as kind
-use Rattle.process_semantics.specs.Process.{ProcessState, Runs, Serves}
-use Rattle.process_semantics.specs.Rests.{next_number}
-use Rattle.process_semantics.specs.State.{rest_of}
+use Rattle.tal_interp.specs.tal_tree.specs.declared.site.Kind.{Kind}
+use Rattle.tal_interp.specs.tal_tree.specs.declared.site.Kind.TheVariants as kind
+use Rattle.tal_interp.specs.process_semantics.specs.Process.{ProcessState, Runs, Serves}
+use Rattle.tal_interp.specs.process_semantics.specs.Rests.{next_number}
+use Rattle.tal_interp.specs.process_semantics.specs.State.{rest_of}
 use Rattle.processes.specs.declared.process.Process.{Process}
 use Rattle.processes.specs.declared.process.Process.TheVariants as process
 

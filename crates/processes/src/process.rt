@@ -1,15 +1,11 @@
 ghost use Rattle.std.specs.Prelude.{◌≡◌, IfOk};
-ghost use Rattle.checkpoint_image.specs.Behaving.{last_write_of};
-ghost use Rattle.process_semantics.specs.Process.{asked_file, asked_words, start_of};
+ghost use Rattle.disc_process.specs.checkpoint_image.specs.Behaving.{last_write_of};
+ghost use Rattle.tal_interp.specs.process_semantics.specs.Process.{asked_file, asked_words, start_of};
 ghost use Rattle.processes.specs.Seen.{IsLoadableKind, next_number_of, state_of};
 
-use checkpoint_image::{Behaviour, Listed};
-use disc_process::DiscProcess;
-use gd_words::{DeviceCall, List, NoMemory, Sector, Words};
-use process_semantics::{Asked, Point};
+use disc_process::{Behaviour, DiscProcess, Listed};
 use std::alloc::Global;
-use tal_interp::TalProcess;
-use tal_tree::Kind;
+use tal_interp::{Asked, DeviceCall, Kind, List, NoMemory, Point, Sector, TalProcess, Words};
 
 /// A process of either kind.
 #[derive(Drop)]

@@ -4,8 +4,8 @@ use Rattle.std.proofs.Common.{◌≡◌, ℤ, List, [], ◌∷◌, drop, Option,
 use Rattle.tal_tree.specs.declared.program.Program.{Program}
 use Rattle.tal_tree.specs.declared.statement.Statement.{Statement}
 use Rattle.tal_tree.specs.declared.statement.What.{What, What-F, out-What}
-use Rattle.tal_values.specs.declared.memory.Cell.{Cell}
-use Rattle.tal_values.specs.declared.memory.Cell.TheVariants as cell
+use Rattle.process_semantics.specs.tal_values.specs.declared.memory.Cell.{Cell}
+use Rattle.process_semantics.specs.tal_values.specs.declared.memory.Cell.TheVariants as cell
 use Rattle.process_semantics.specs.Changes.{done, left}
 use Rattle.process_semantics.specs.State.{Entry, Run, Test, Last, Frame, ProgramState, rest_of, first_of}
 use Rattle.process_semantics.specs.Steps.{assigned, given, given_in, given_to, returned}

@@ -7,13 +7,14 @@ use Rattle.tal_tree.specs.declared.expression.Variable.TheVariants as variable
 use Rattle.tal_tree.specs.declared.program.Program.{Program}
 use Rattle.tal_tree.specs.declared.statement.Statement.{Statement}
 use Rattle.tal_tree.specs.declared.statement.What.{What, What-F, out-What}
-use Rattle.tal_values.specs.Value.{Memory, value_of, cell_of, truth_of, both, result_of as operated}
-use Rattle.tal_values.proofs.ValueSteps.{value-read, value-two}
+use Rattle.process_semantics.specs.tal_values.specs.Value.{Memory, value_of, cell_of, truth_of, both}
+use Rattle.process_semantics.specs.tal_values.specs.Value.{result_of as operated}
+use Rattle.process_semantics.specs.tal_values.proofs.ValueSteps.{value-read, value-two}
 use Rattle.process_semantics.specs.Changes.{variable_cell, variable_of}
 use Rattle.process_semantics.specs.State.{Entry, Run, Test, Last, Frame, ProgramState, memory_of, rest_of, runs_of}
 use Rattle.process_semantics.specs.Steps.{tested, for_begun, counted, tested_in, counted_in, goes_round, inner_in}
 use Rattle.process_semantics.specs.Steps.{inner, or_ends, result_of}
-use Rattle.tal_values.specs.Spots.{spot_of}
+use Rattle.process_semantics.specs.tal_values.specs.Spots.{spot_of}
 use Rattle.program_deeds.specs.Deed.{Deed, deed_run, counts_by, deed_test, deed_last, deed_of}
 use Rattle.program_deeds.specs.Doing.{stored, chosen, deed_inner}
 use Rattle.program_deeds.proofs.Given.{assigned-goes, returned-gives}

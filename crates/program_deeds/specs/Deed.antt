@@ -10,7 +10,7 @@ use Rattle.tal_tree.specs.declared.expression.Spot.{Spot}
 use Rattle.tal_tree.specs.declared.expression.Variable.{Variable}
 use Rattle.tal_tree.specs.declared.statement.Statement.{Statement}
 use Rattle.tal_tree.specs.declared.statement.What.{What, What-F, out-What}
-use Rattle.tal_values.specs.Spots.{spot_of}
+use Rattle.process_semantics.specs.tal_values.specs.Spots.{spot_of}
 use Rattle.process_semantics.specs.State.{Entry, Run, Test, Last, runs_of}
 use Rattle.process_semantics.specs.Steps.{bound_by}
 

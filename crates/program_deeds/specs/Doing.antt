@@ -1,8 +1,8 @@
 -- What a deed does to the state of a program, at each point, and what it tells there.
 use Rattle.std.specs.Prelude.{ℕ, ℤ, Bool, true, false, if◌then◌else◌, List, [], ◌∷◌, drop, Option, Some, None}
 use Rattle.tal_tree.specs.declared.program.Program.{Program}
-use Rattle.tal_values.specs.Value.{value_of, truth_of, cell_of}
-use Rattle.tal_values.specs.declared.memory.Cell.{Cell}
+use Rattle.process_semantics.specs.tal_values.specs.Value.{value_of, truth_of, cell_of}
+use Rattle.process_semantics.specs.tal_values.specs.declared.memory.Cell.{Cell}
 use Rattle.process_semantics.specs.Calls.{received, first_words}
 use Rattle.process_semantics.specs.Changes.{done, left, ends, with_hand, with_waiting, with_word}
 use Rattle.process_semantics.specs.Points.{where_good, where_both_good}

@@ -1,6 +1,6 @@
 ghost use Rattle.std.specs.Prelude.{◌≡◌, ℤ, List, drop, Option};
 ghost use Rattle.tal_tree.specs.declared.program.Program.{Program};
-ghost use Rattle.tal_values.specs.declared.memory.Cell.{Cell};
+ghost use Rattle.process_semantics.specs.tal_values.specs.declared.memory.Cell.{Cell};
 ghost use Rattle.process_semantics.specs.Calls.{after_took, asked_file, asked_words, after_got, answer_of};
 ghost use Rattle.process_semantics.specs.Changes.{done};
 ghost use Rattle.process_semantics.specs.Image.{listed_items, listed_files};

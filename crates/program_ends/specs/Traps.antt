@@ -60,14 +60,40 @@ trap_in_statement m What-F.Stop = None
 
 -- of a FOR's test: its variable stands before its limit
 abbrev pub trap_in_test : Memory → What-F What Statement → Option ValueTrap
+trap_in_test m (What-F.Assign to value) = None
+trap_in_test m (What-F.AssignCall to procedure arguments) = None
+trap_in_test m (What-F.If test first second) = None
+trap_in_test m (What-F.While test body) = None
 trap_in_test m (What-F.For variable from to down step body last) =
     option_or (trap_of_variable m variable) (trap_of m to)
-trap_in_test m _ = None
+trap_in_test m (What-F.DoUntil body test) = None
+trap_in_test m (What-F.Call procedure arguments) = None
+trap_in_test m (What-F.Return value) = None
+trap_in_test m (What-F.ReadUpdate buffer most got) = None
+trap_in_test m (What-F.Reply buffer count) = None
+trap_in_test m (What-F.WriteRead file buffer send room got) = None
+trap_in_test m (What-F.Checkpoint items files) = None
+trap_in_test m What-F.CheckMonitor = None
+trap_in_test m (What-F.Open file) = None
+trap_in_test m What-F.Stop = None
 
 -- of a FOR's last assignment
 abbrev pub trap_in_count : Memory → What-F What Statement → Option ValueTrap
+trap_in_count m (What-F.Assign to value) = None
+trap_in_count m (What-F.AssignCall to procedure arguments) = None
+trap_in_count m (What-F.If test first second) = None
+trap_in_count m (What-F.While test body) = None
 trap_in_count m (What-F.For variable from to down step body last) = trap_of_variable m variable
-trap_in_count m _ = None
+trap_in_count m (What-F.DoUntil body test) = None
+trap_in_count m (What-F.Call procedure arguments) = None
+trap_in_count m (What-F.Return value) = None
+trap_in_count m (What-F.ReadUpdate buffer most got) = None
+trap_in_count m (What-F.Reply buffer count) = None
+trap_in_count m (What-F.WriteRead file buffer send room got) = None
+trap_in_count m (What-F.Checkpoint items files) = None
+trap_in_count m What-F.CheckMonitor = None
+trap_in_count m (What-F.Open file) = None
+trap_in_count m What-F.Stop = None
 
 -- a statement that works out values as it comes. If it calls a procedure, that is there
 abbrev pub WorksOut : Program → What-F What Statement → Type 0
@@ -102,8 +128,21 @@ trap_of_count m buffer count = trap_of_number (words_of m.globals buffer) (value
 
 -- of the element that gets the word which a call gives
 abbrev pub trap_of_target : Memory → What-F What Statement → Option ValueTrap
+trap_of_target m (What-F.Assign to value) = None
 trap_of_target m (What-F.AssignCall to procedure arguments) = trap_of_spot m to
-trap_of_target m _ = None
+trap_of_target m (What-F.If test first second) = None
+trap_of_target m (What-F.While test body) = None
+trap_of_target m (What-F.For variable from to down step body last) = None
+trap_of_target m (What-F.DoUntil body test) = None
+trap_of_target m (What-F.Call procedure arguments) = None
+trap_of_target m (What-F.Return value) = None
+trap_of_target m (What-F.ReadUpdate buffer most got) = None
+trap_of_target m (What-F.Reply buffer count) = None
+trap_of_target m (What-F.WriteRead file buffer send room got) = None
+trap_of_target m (What-F.Checkpoint items files) = None
+trap_of_target m What-F.CheckMonitor = None
+trap_of_target m (What-F.Open file) = None
+trap_of_target m What-F.Stop = None
 
 -- of the call that a procedure runs for; the memory is that of the procedure that made it
 abbrev pub trap_of_call : Memory → Option Entry → Option ValueTrap

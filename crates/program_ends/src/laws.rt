@@ -60,8 +60,8 @@ pub fn a_trap_that_is_told_is_one()
 {}
 
 /// If nothing comes of a statement that works out values, a trap is told of it, and so it is of the test of a FOR and
-/// of its last assignment. If nothing comes of a RETURN, a trap is told of its word or of the target of the call; and if
-/// nothing comes of a procedure's end, of that target.
+/// of its last assignment. If nothing comes of a RETURN, a trap is told of its word or of the target of the call; and
+/// if nothing comes of a procedure's end, of that target.
 pub fn each_trap_is_told()
     ensures statement { (program : Program) (s : ProgramState) (statement : Statement) (layer : What-F What Statement)
         → WorksOut program layer → inner_in program s statement layer ≡ None

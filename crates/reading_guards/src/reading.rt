@@ -1,6 +1,6 @@
 ghost use Rattle.std.specs.Prelude.{◌≡◌, [], ◌∷◌, ◌++◌, codes, false, true, Some, None, Ok, Err};
 ghost use Rattle.tal_tree.specs.declared.act.Act.TheVariants.{Step, Take, Enter, Print};
-ghost use Rattle.trace_print.specs.declared.closing.End.TheVariants.{Idle, Cut, Second};
+ghost use Rattle.report_reader.specs.trace_print.specs.declared.closing.End.TheVariants.{Idle, Cut, Second};
 ghost use Rattle.report_reader.specs.DeckEnds.{deck_end};
 ghost use Rattle.report_reader.specs.Reading.{read_report};
 ghost use Rattle.report_reader.specs.Telling.{may_follow, told_by};

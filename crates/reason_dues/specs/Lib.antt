@@ -1,2 +1,3 @@
 pub mod Amounts
 pub mod Sets
+pub use Rattle.path_semantics

@@ -7,8 +7,7 @@ ghost use Rattle.path_semantics.specs.Dues.{global_of_spot, global_of, changed_b
 ghost use Rattle.reason_dues.specs.Amounts.{clears, adds, adds_changed, one_more, after_what, after_changed};
 ghost use Rattle.reason_dues.specs.Amounts.{after_entry, may_break_at, depth_in, most_of};
 
-use path_semantics::process_semantics::Entry;
-use path_semantics::{Reason, asks, may_break};
+use path_semantics::{Entry, Reason, asks, may_break};
 use tal_tree::{FileUse, Program, Spot, Variable, What};
 
 /// How much is due after an entry.

@@ -12,4 +12,5 @@ pub mod reasons;
 
 pub use amount::{after_entry, after_return, cut_changed, may_break_at, most_of};
 pub use number_set::Numbers;
+pub use path_semantics::Reason;
 pub use reasons::Reasons;

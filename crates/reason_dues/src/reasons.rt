@@ -12,8 +12,7 @@ ghost use Rattle.reason_dues.specs.Sets.{has_number, AreNumbers, AreReasons, IsN
 
 use crate::amount::reads;
 use crate::number_set::Numbers;
-use path_semantics::process_semantics::Entry;
-use path_semantics::{Reason, sends};
+use path_semantics::{Entry, Reason, sends};
 use tal_tree::{Spot, Variable, What};
 
 /// A set of reasons that speak of globals and files below 64: at a node those of which something may be due there.

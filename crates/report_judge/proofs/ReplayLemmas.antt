@@ -20,8 +20,8 @@ use Rattle.report_judge.specs.Replays.{GoesOn, IsActRefusal, IsEndedAs, IsEndRef
 use Rattle.report_judge.specs.Replays.{IsTextRefusal, text_told}
 use Rattle.report_judge.specs.Reported.{IsReported}
 use Rattle.report_judge.specs.Verdicts.{IsFirstImpossible, IsNotIdleAt, IsVerdictOn, text_of_acts}
-use Rattle.report_judge.specs.declared.judge.VerifyRefusal.{VerifyRefusal}
-use Rattle.report_judge.specs.declared.judge.VerifyRefusal.TheVariants as refusal
+use Rattle.report_judge.specs.declared.judge.VerifyFault.{VerifyFault}
+use Rattle.report_judge.specs.declared.judge.VerifyFault.TheVariants as refusal
 use Rattle.report_judge.specs.declared.judge.Why.TheVariants as why
 use Rattle.report_judge.specs.declared.replay.Replay.{Replay}
 use Rattle.report_judge.proofs.NamedLines.{are-named}
@@ -162,7 +162,7 @@ text-same site reading acts replay told is =
     (shown-told site (acts_in reading.told) replay is)
 
 -- what an act's refusal says of the report
-pub act-refused : (site : Site) (report : List ℕ) (reading : Reading) (why : VerifyRefusal)
+pub act-refused : (site : Site) (report : List ℕ) (reading : Reading) (why : VerifyFault)
     → IsActRefusal site reading.told why → IsVerdictOn site report reading (Err why)
 act-refused site report reading (refusal.Rejected number why.Act) is = is
 act-refused site report reading (refusal.Rejected number why.Form) is = absurd is
@@ -174,7 +174,7 @@ module _ (site : Site) (report : List ℕ) (reading : Reading) (acts : List Act)
     (told : acts ≡ acts_in reading.told)
     (is : IsReplayOf site (acts_in reading.told) replay) where
   -- what a difference says of it
-  pub text-refused : (why : VerifyRefusal) → IsTextRefusal report (text_told site replay reading acts) why
+  pub text-refused : (why : VerifyFault) → IsTextRefusal report (text_told site replay reading acts) why
       → IsVerdictOn site report reading (Err why)
   text-refused (refusal.Rejected number why.Differs) first = record {
     possible = is-possible site (acts_in reading.told) replay is;
@@ -207,7 +207,7 @@ module _ (site : Site) (report : List ℕ) (reading : Reading) (acts : List Act)
             of_some e = cc
 
     -- what an act that is left says of it
-    pub end-refused : (why : VerifyRefusal) → IsEndRefusal reading.told reading.end replay why
+    pub end-refused : (why : VerifyFault) → IsEndRefusal reading.told reading.end replay why
         → IsVerdictOn site report reading (Err why)
     end-refused (refusal.Rejected number why.NotIdle) ends = left number ends
     end-refused (refusal.Rejected number why.Form) ends = absurd ends

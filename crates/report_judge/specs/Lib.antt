@@ -5,3 +5,5 @@ pub mod Verdicts
 pub use Rattle.report_reader
 pub use Rattle.report_reader.specs.site_advice
 pub use Rattle.report_reader.specs.trace_print
+pub use Rattle.plain_machine
+pub use Rattle.report_reader.specs.verdicts

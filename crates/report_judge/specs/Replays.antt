@@ -14,8 +14,8 @@ use Rattle.report_reader.specs.declared.told.Told.{Told}
 use Rattle.report_reader.specs.declared.told.Told.TheVariants as told
 use Rattle.report_judge.specs.Lines.{IsFirstDifference, lines_of}
 use Rattle.report_judge.specs.Verdicts.{IsFirstImpossible}
-use Rattle.report_judge.specs.declared.judge.VerifyRefusal.{VerifyRefusal}
-use Rattle.report_judge.specs.declared.judge.VerifyRefusal.TheVariants as refusal
+use Rattle.report_judge.specs.declared.judge.VerifyFault.{VerifyFault}
+use Rattle.report_judge.specs.declared.judge.VerifyFault.TheVariants as refusal
 use Rattle.report_judge.specs.declared.judge.Why.TheVariants as why
 use Rattle.report_judge.specs.declared.replay.Replay.{Replay}
 
@@ -46,7 +46,7 @@ GoesOn (told.Act act) old new went = GoesOnBy act old new went
 GoesOn _ old new went = (went ≡ true) × (new ≡ old)
 
 -- an act that a line tells isn't possible
-abbrev pub IsActRefusal : Site → List Told → VerifyRefusal → Type 0
+abbrev pub IsActRefusal : Site → List Told → VerifyFault → Type 0
 IsActRefusal site lines (refusal.Rejected number why.Act) = IsFirstImpossible site lines number
 IsActRefusal site lines (refusal.NoMemory memory) = Unit {0}
 IsActRefusal site lines _ = ⊥
@@ -57,7 +57,7 @@ text_told site replay reading acts =
     report_text site replay.shown (sectors_after site replay.shown) (stops_in reading.told) acts reading.end
 
 -- the report differs from the text
-abbrev pub IsTextRefusal : List ℕ → List ℕ → VerifyRefusal → Type 0
+abbrev pub IsTextRefusal : List ℕ → List ℕ → VerifyFault → Type 0
 IsTextRefusal report text (refusal.Rejected number why.Differs) =
     IsFirstDifference (lines_of report) (lines_of text) number
 IsTextRefusal report text (refusal.NoMemory memory) = Unit {0}
@@ -73,6 +73,6 @@ pub record IsLeft (lines : List Told) (end : End) (replay : Replay) (number : �
   pub left : IsStill replay.plain.site replay.plain.state → ⊥
   pub last : number ≡ length lines
 
-abbrev pub IsEndRefusal : List Told → End → Replay → VerifyRefusal → Type 0
+abbrev pub IsEndRefusal : List Told → End → Replay → VerifyFault → Type 0
 IsEndRefusal lines end replay (refusal.Rejected number why.NotIdle) = IsLeft lines end replay number
 IsEndRefusal lines end replay _ = ⊥

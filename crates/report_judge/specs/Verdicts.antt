@@ -13,8 +13,8 @@ use Rattle.report_reader.specs.declared.told.Told.{Told}
 use Rattle.report_reader.specs.declared.told.Told.TheVariants as told
 use Rattle.report_judge.specs.Lines.{IsFirstDifference, lines_of}
 use Rattle.report_judge.specs.Reported.{IsReported}
-use Rattle.report_judge.specs.declared.judge.VerifyRefusal.{VerifyRefusal}
-use Rattle.report_judge.specs.declared.judge.VerifyRefusal.TheVariants as refusal
+use Rattle.report_judge.specs.declared.judge.VerifyFault.{VerifyFault}
+use Rattle.report_judge.specs.declared.judge.VerifyFault.TheVariants as refusal
 use Rattle.report_judge.specs.declared.judge.Why.{Why}
 use Rattle.report_judge.specs.declared.judge.Why.TheVariants as why
 
@@ -55,7 +55,7 @@ IsRejectedOn site report reading number why.Differs = DiffersAt site report read
 IsRejectedOn site report reading number why.NotIdle = IsNotIdleAt site report reading number
 
 -- how a report is judged whose lines tell this: it is one of the site with so many acts, or why it is rejected
-abbrev pub IsVerdictOn : Site → List ℕ → Reading → Result ℕ VerifyRefusal → Type 0
+abbrev pub IsVerdictOn : Site → List ℕ → Reading → Result ℕ VerifyFault → Type 0
 IsVerdictOn site report reading (Ok count) =
     IsReported site report (acts_in reading.told) (stops_in reading.told) reading.end
     × (length (acts_in reading.told) ≡ count)
@@ -63,7 +63,7 @@ IsVerdictOn site report reading (Err (refusal.Rejected number cause)) = IsReject
 IsVerdictOn site report reading (Err (refusal.NoMemory memory)) = Unit {0}
 
 -- a line has no form where it stands, or the report is judged by what its lines tell
-abbrev pub IsVerdict : Site → List ℕ → Result ℕ VerifyRefusal → Type 0
+abbrev pub IsVerdict : Site → List ℕ → Result ℕ VerifyFault → Type 0
 IsVerdict site report (Err (refusal.Rejected number why.Form)) = read_report site report ≡ Err number
 IsVerdict site report (Err (refusal.NoMemory memory)) = Unit {0}
 IsVerdict site report verdict =

@@ -10,8 +10,7 @@ use crate::difference::first_difference;
 use crate::replay::{Replay, replayed};
 use crate::text::{acts_of, text_of};
 use gd_words::NoMemory;
-use report_reader::trace_print::End;
-use report_reader::{Reading, ReportFault, Told, read_report};
+use report_reader::{End, Reading, ReportFault, Told, read_report};
 use std::alloc::Global;
 use tal_tree::{Act, Site};
 
@@ -30,24 +29,24 @@ pub enum Why {
 
 /// Why a report isn't verified: it is rejected at the line of this number, from 1, or memory ran out.
 #[derive(Drop)]
-pub enum VerifyRefusal {
+pub enum VerifyFault {
     Rejected { line: u32, why: Why },
     NoMemory(NoMemory),
 }
 
-impl From<NoMemory> for VerifyRefusal {
+impl From<NoMemory> for VerifyFault {
     ghost use Rattle.std.specs.Prelude.{◌≡◌};
-    ghost use Rattle.report_judge.specs.declared.judge.VerifyRefusal.TheVariants as refusal;
+    ghost use Rattle.report_judge.specs.declared.judge.VerifyFault.TheVariants as refusal;
 
     ghost from_gives = { λ memory answered. answered ≡ refusal.NoMemory memory };
 
-    fn from(memory: NoMemory) -> VerifyRefusal {
-        VerifyRefusal::NoMemory(memory)
+    fn from(memory: NoMemory) -> VerifyFault {
+        VerifyFault::NoMemory(memory)
     }
 }
 
 /// How many acts the report of a run of this site tells, or why it isn't one.
-pub fn verify(alloc: Global, site: &Site, report: &[u8]) -> Result<u32, VerifyRefusal>
+pub fn verify(alloc: Global, site: &Site, report: &[u8]) -> Result<u32, VerifyFault>
     requires playable { IsPlayable site.now }
     requires short { length report.now < 4294967295 }
     ensures { IsVerdict site.now report.now result }
@@ -56,13 +55,13 @@ pub fn verify(alloc: Global, site: &Site, report: &[u8]) -> Result<u32, VerifyRe
         Ok(reading) => judge(alloc, site, report, &reading),
         Err(ReportFault::Formless(line)) => {
             let why = Why::Form;
-            Err(VerifyRefusal::Rejected { line, why })
+            Err(VerifyFault::Rejected { line, why })
         }
-        Err(ReportFault::NoMemory(memory)) => Err(VerifyRefusal::NoMemory(memory)),
+        Err(ReportFault::NoMemory(memory)) => Err(VerifyFault::NoMemory(memory)),
     }
 }
 
-fn judge(alloc: Global, site: &Site, report: &[u8], reading: &Reading) -> Result<u32, VerifyRefusal>
+fn judge(alloc: Global, site: &Site, report: &[u8], reading: &Reading) -> Result<u32, VerifyFault>
     requires playable { IsPlayable site.now }
     requires short { length report.now < 4294967295 }
     requires few { length reading.now.told < 4294967295 }
@@ -86,7 +85,7 @@ fn compare(
     replay: &Replay<'_>,
     reading: &Reading,
     acts: &[Act],
-) -> Result<(), VerifyRefusal>
+) -> Result<(), VerifyFault>
     requires limits { KeepsSiteLimits site.now }
     requires short { length report.now < 4294967295 }
     ensures ok { OnOk result (report.now ≡ text_told site.now replay.now reading.now acts.now) }
@@ -98,13 +97,13 @@ fn compare(
         None => Ok(()),
         Some(line) => {
             let why = Why::Differs;
-            Err(VerifyRefusal::Rejected { line, why })
+            Err(VerifyFault::Rejected { line, why })
         }
     }
 }
 
 /// Whether no act is left where the report tells that the run ended idle.
-fn judge_end(replay: &Replay<'_>, told: &[Told], end: End) -> Result<(), VerifyRefusal>
+fn judge_end(replay: &Replay<'_>, told: &[Told], end: End) -> Result<(), VerifyFault>
     requires { length told.now < 4294967295 }
     ensures ok { OnOk result (IsEndedAs end replay.now) }
     ensures err { IfErr result (IsEndRefusal told.now end replay.now) }
@@ -116,7 +115,7 @@ fn judge_end(replay: &Replay<'_>, told: &[Told], end: End) -> Result<(), VerifyR
             } else {
                 let line = told.len() as u32;
                 let why = Why::NotIdle;
-                Err(VerifyRefusal::Rejected { line, why })
+                Err(VerifyFault::Rejected { line, why })
             }
         }
         _ => Ok(()),

@@ -11,6 +11,9 @@ pub mod judge;
 pub mod replay;
 pub mod text;
 
-pub use judge::{VerifyRefusal, Why, verify};
-pub use report_reader;
-pub use report_reader::{site_advice, trace_print};
+pub use judge::{VerifyFault, Why, verify};
+pub use report_reader::{
+    Closing, End, LoadCounts, MirrorDrives, PairAdvice, RefusedProgram, SiteAdvice, advise_all,
+    deck_end, write_advised, write_checked, write_fault, write_load_report, write_refusal,
+    write_rejected, write_report, write_sweep, write_usage, write_verified,
+};

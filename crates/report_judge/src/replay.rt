@@ -7,7 +7,7 @@ ghost use Rattle.plain_semantics.specs.Machine.{IsStill};
 ghost use Rattle.report_reader.specs.Reading.{acts_in};
 ghost use Rattle.report_judge.specs.Replays.{GoesOn, GoesOnBy, IsActRefusal, IsBegun, IsReplayOf};
 
-use crate::judge::{VerifyRefusal, Why};
+use crate::judge::{VerifyFault, Why};
 use gd_words::{List, NoMemory};
 use plain_machine::{ActFault, Plain};
 use report_reader::Told;
@@ -26,7 +26,7 @@ pub(crate) fn replayed<'a>(
     alloc: Global,
     site: &'a Site,
     told: &[Told],
-) -> Result<Replay<'a>, VerifyRefusal>
+) -> Result<Replay<'a>, VerifyFault>
     requires playable { IsPlayable site.now }
     requires few { length told.now < 4294967295 }
     ensures ok { IfOk result (IsReplayOf site.now (acts_in told.now)) }
@@ -37,7 +37,7 @@ pub(crate) fn replayed<'a>(
         if !replay.goes_on(*one)? {
             let line = at as u32 + 1;
             let why = Why::Act;
-            return Err(VerifyRefusal::Rejected { line, why });
+            return Err(VerifyFault::Rejected { line, why });
         }
     }
     Ok(replay)

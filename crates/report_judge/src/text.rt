@@ -7,8 +7,7 @@ ghost use Rattle.report_reader.specs.trace_print.specs.ReportText.{report_text};
 
 use gd_io::{Sink, TextSink, WriteFault};
 use gd_words::{List, NoMemory};
-use report_reader::Told;
-use report_reader::trace_print::{Closing, End, write_report};
+use report_reader::{Closing, End, Told, write_report};
 use shown_sectors::sectors_after;
 use std::alloc::Global;
 use tal_tree::{Act, Shown, Site};

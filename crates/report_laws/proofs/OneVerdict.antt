@@ -6,16 +6,16 @@ use Rattle.plain_semantics.proofs.Runs.{front-possible}
 use Rattle.plain_semantics.specs.Machine.{IsPossible}
 use Rattle.tal_tree.specs.declared.act.Act.{Act}
 use Rattle.tal_tree.specs.declared.site.Site.{Site}
-use Rattle.report_reader.specs.Reading.{acts_in, read_report, stops_in}
-use Rattle.report_reader.specs.declared.reading.Reading.{Reading}
-use Rattle.report_reader.specs.declared.told.Told.{Told}
-use Rattle.report_reader.specs.declared.told.Told.TheVariants as told
+use Rattle.report_judge.specs.report_reader.specs.Reading.{acts_in, read_report, stops_in}
+use Rattle.report_judge.specs.report_reader.specs.declared.reading.Reading.{Reading}
+use Rattle.report_judge.specs.report_reader.specs.declared.told.Told.{Told}
+use Rattle.report_judge.specs.report_reader.specs.declared.told.Told.TheVariants as told
 use Rattle.report_judge.proofs.ReplayLemmas.{acts-append}
 use Rattle.report_judge.specs.Lines.{IsFirstDifference, first_in, lines_of}
 use Rattle.report_judge.specs.Reported.{IsReported}
 use Rattle.report_judge.specs.Verdicts.{IsFirstImpossible, IsRejectedOn, IsVerdict, IsVerdictOn}
-use Rattle.report_judge.specs.declared.judge.VerifyRefusal.{VerifyRefusal}
-use Rattle.report_judge.specs.declared.judge.VerifyRefusal.TheVariants as refusal
+use Rattle.report_judge.specs.declared.judge.VerifyFault.{VerifyFault}
+use Rattle.report_judge.specs.declared.judge.VerifyFault.TheVariants as refusal
 use Rattle.report_judge.specs.declared.judge.Why.{Why}
 use Rattle.report_judge.specs.declared.judge.Why.TheVariants as why
 use Rattle.report_laws.specs.OneVerdict.{IsSameVerdict}
@@ -175,7 +175,7 @@ module _ (site : Site) (report : List ℕ) (reading : Reading) where
       absurd (same-texts _ _ other second.first (ap lines_of is.text))
   one-rejection number other why.NotIdle why.NotIdle is second = (is.last ∙ sym second.last, refl)
 
-  same-on : (one other : Result ℕ VerifyRefusal) → IsVerdictOn site report reading one
+  same-on : (one other : Result ℕ VerifyFault) → IsVerdictOn site report reading one
       → IsVerdictOn site report reading other → IsSameVerdict one other
   same-on (Ok count) (Ok later) is second = ap Ok (sym is.1 ∙ second.1)
   same-on (Ok count) (Err (refusal.Rejected number cause)) is second = absurd (not-rejected number cause is.0 second)
@@ -188,14 +188,14 @@ module _ (site : Site) (report : List ℕ) (reading : Reading) where
   same-on (Err (refusal.NoMemory memory)) other is second = tt
 
 -- how a report is judged: a line has no form, or by a reading
-data Judged (site : Site) (report : List ℕ) (verdict : Result ℕ VerifyRefusal) : Type 0 where
+data Judged (site : Site) (report : List ℕ) (verdict : Result ℕ VerifyFault) : Type 0 where
   formless : (number : ℕ) → read_report site report ≡ Err number → verdict ≡ Err (refusal.Rejected number why.Form)
       → Judged site report verdict
   by_lines : (reading : Reading) → read_report site report ≡ Ok reading → IsVerdictOn site report reading verdict
       → Judged site report verdict
   no_memory : (memory : _) → verdict ≡ Err (refusal.NoMemory memory) → Judged site report verdict
 
-judged : (site : Site) (report : List ℕ) (verdict : Result ℕ VerifyRefusal) → IsVerdict site report verdict
+judged : (site : Site) (report : List ℕ) (verdict : Result ℕ VerifyFault) → IsVerdict site report verdict
     → Judged site report verdict
 judged site report (Ok count) is = by_lines is.0 is.1 is.2
 judged site report (Err (refusal.Rejected number why.Form)) is = formless number is refl
@@ -204,12 +204,12 @@ judged site report (Err (refusal.Rejected number why.Differs)) is = by_lines is.
 judged site report (Err (refusal.Rejected number why.NotIdle)) is = by_lines is.0 is.1 is.2
 judged site report (Err (refusal.NoMemory memory)) is = no_memory memory refl
 
-either-memory : (one : Result ℕ VerifyRefusal) (memory : _) → IsSameVerdict one (Err (refusal.NoMemory memory))
+either-memory : (one : Result ℕ VerifyFault) (memory : _) → IsSameVerdict one (Err (refusal.NoMemory memory))
 either-memory (Ok count) memory = tt
 either-memory (Err (refusal.Rejected number cause)) memory = tt
 either-memory (Err (refusal.NoMemory other)) memory = tt
 
-itself : (one : Result ℕ VerifyRefusal) → IsSameVerdict one one
+itself : (one : Result ℕ VerifyFault) → IsSameVerdict one one
 itself (Ok count) = refl
 itself (Err (refusal.Rejected number cause)) = refl
 itself (Err (refusal.NoMemory memory)) = tt
@@ -217,12 +217,12 @@ itself (Err (refusal.NoMemory memory)) = tt
 err-ok : (number : ℕ) (reading : Reading) → ◌≡◌ {A = Result Reading ℕ} (Err number) (Ok reading) → ⊥
 err-ok number reading e = cc
 
-pub one-verdict : (site : Site) (report : List ℕ) (one other : Result ℕ VerifyRefusal) → IsVerdict site report one
+pub one-verdict : (site : Site) (report : List ℕ) (one other : Result ℕ VerifyFault) → IsVerdict site report one
     → IsVerdict site report other → IsSameVerdict one other
 one-verdict site report one other is second = by (judged site report one is) (judged site report other second)
   where
     by : Judged site report one → Judged site report other → IsSameVerdict one other
-    by (no_memory memory e) later = subst (λ (v : Result ℕ VerifyRefusal). IsSameVerdict v other) (sym e) tt
+    by (no_memory memory e) later = subst (λ (v : Result ℕ VerifyFault). IsSameVerdict v other) (sym e) tt
     by first (no_memory memory e) = subst (IsSameVerdict one) (sym e) (either-memory one memory)
     by (formless number read e) (formless later again f) =
         let same : number ≡ later = of_err (sym read ∙ again) in
@@ -240,7 +240,7 @@ one-verdict site report one other is second = by (judged site report one is) (ju
         of_ok : {m n : Reading} → ◌≡◌ {A = Result Reading ℕ} (Ok m) (Ok n) → m ≡ n
         of_ok e = cc
 
-pub verified : (site : Site) (report : List ℕ) (reading : Reading) (verdict : Result ℕ VerifyRefusal)
+pub verified : (site : Site) (report : List ℕ) (reading : Reading) (verdict : Result ℕ VerifyFault)
     → read_report site report ≡ Ok reading
     → IsReported site report (acts_in reading.told) (stops_in reading.told) reading.end → IsVerdict site report verdict
     → IsSameVerdict verdict (Ok (length (acts_in reading.told)))

@@ -6,3 +6,4 @@ pub mod Reading
 pub mod Telling
 pub use Rattle.trace_print.specs.site_advice
 pub use Rattle.trace_print
+pub use Rattle.trace_print.specs.verdicts

@@ -16,5 +16,8 @@ pub mod told;
 pub use deck_ends::deck_end;
 pub use reading::{Reading, ReportFault, read_report};
 pub use told::Told;
-pub use trace_print;
-pub use trace_print::site_advice;
+pub use trace_print::{
+    Closing, End, LoadCounts, MirrorDrives, PairAdvice, RefusedProgram, SiteAdvice, advise_all,
+    write_advised, write_checked, write_fault, write_load_report, write_refusal, write_rejected,
+    write_report, write_sweep, write_usage, write_verified,
+};

@@ -10,7 +10,7 @@ use Rattle.plain_semantics.specs.Machine.{shown_by}
 use Rattle.player.specs.declared.stop.ProcessorStop.{ProcessorStop}
 use Rattle.report_judge.specs.Reported.{AreRising, IsEndOfRun, IsReported}
 use Rattle.report_judge.specs.Verdicts.{IsVerdict}
-use Rattle.report_judge.specs.declared.judge.VerifyRefusal.{VerifyRefusal}
+use Rattle.report_judge.specs.declared.judge.VerifyFault.{VerifyFault}
 use Rattle.report_laws.specs.OneVerdict.{IsSameVerdict}
 use Rattle.deck_forms.specs.shown_forms.proofs.Possible.{acts-named, sectors-shown, shown-formed}
 use Rattle.shown_sectors.specs.Sectors.{sectors_after}
@@ -63,7 +63,7 @@ reported-form bytes deck text acts stopped how decks is =
     }
 
 pub every-report-verified : (bytes : List ℕ) (deck : Deck) (stop : Option ProcessorStop) (report : Report) (end : End)
-    (verdict : Result ℕ VerifyRefusal)
+    (verdict : Result ℕ VerifyFault)
     → Decks bytes deck → AreUnmirrored deck.site.processes → IsReportOf deck stop report
     → closing_of report.run.ran.ending ≡ Ended end → report.tells ≡ Lines true
     → IsVerdict deck.site (text_of_run report) verdict

@@ -17,8 +17,8 @@ use Rattle.agendas.specs.Agendas.{Agenda}
 use Rattle.computed_changes.specs.Entered.{enter_done}
 use Rattle.computed_changes.specs.Stopped.{reload_done, stop_done}
 use Rattle.machine_states.specs.States.{Makes, Played, Skips, State, Would, SecondStop, DiscLoss}
-use Rattle.packet_wires.specs.Play.{Packeted, Underway, acted, begun, deliver_acted, ended, fail_acted, line_of}
-use Rattle.packet_wires.specs.Play.{lose_acted, made_by, packet_at, play, pulled, pulled_first, pulls, pulls_its}
+use Rattle.packet_wires.specs.Play.{Packeted, Underway, acted, underway, deliver_acted, ended, fail_acted, line_of}
+use Rattle.packet_wires.specs.Play.{lose_acted, made_by, packet_at, play, pulled, pulled_running, pulls, pulls_its}
 use Rattle.packet_wires.specs.Play.{reload_acted, repeat_acted, stop_acted, taken_off, tick_acted}
 use Rattle.packet_wires.specs.Runs.{IsPlayed, played_none, played_more, skipped}
 use Rattle.packet_wires.specs.Wires.{Midst, Wires, bus_named, ticked}
@@ -115,7 +115,7 @@ tick-there node s = by (is_running s.world.stopped node)
     at midst processor (Some false) is = first (stop_done processor s.world)
       where
         first : (done : Option Done)
-            → StopsThere s (pulled_first node processor (record s { wires = midst }) done)
+            → StopsThere s (pulled_running node processor (record s { wires = midst }) done)
         first None = slice_get_within s.world.stopped processor false is
         first (Some done) = tt
 
@@ -129,23 +129,23 @@ tick-there node s = by (is_running s.world.stopped node)
         (line_of node (record s { wires = ticked s.site.processors node s.wires }))
     by false = tt
 
-acted-there : (s : Packeted) (event : Event) → StopsThere (begun s) (acted s event)
-acted-there s (Run number) = made-there (begun s) (run_done s.site number s.world)
-acted-there s (Enter number) = made-there (begun s) (enter_done s.site number s.world)
-acted-there s (Deliver y k) = deliver-there (bus_named y) (begun s) (packet_at s (bus_named y) k)
-acted-there s (Lose y k) = lose-there (begun s) (packet_at s (bus_named y) k)
-acted-there s (Repeat y k) = repeat-there (bus_named y) (begun s) (packet_at s (bus_named y) k)
-acted-there s (Tick node) = tick-there node (begun s)
+acted-there : (s : Packeted) (event : Event) → StopsThere (underway s) (acted s event)
+acted-there s (Run number) = made-there (underway s) (run_done s.site number s.world)
+acted-there s (Enter number) = made-there (underway s) (enter_done s.site number s.world)
+acted-there s (Deliver y k) = deliver-there (bus_named y) (underway s) (packet_at s (bus_named y) k)
+acted-there s (Lose y k) = lose-there (underway s) (packet_at s (bus_named y) k)
+acted-there s (Repeat y k) = repeat-there (bus_named y) (underway s) (packet_at s (bus_named y) k)
+acted-there s (Tick node) = tick-there node (underway s)
 acted-there s (Fail processor) =
-    fail-there processor (begun s) (slice_get s.world.stopped processor) refl
-acted-there s (Reload processor) = reload-there processor (begun s) (reload_done s.site processor s.world)
+    fail-there processor (underway s) (slice_get s.world.stopped processor) refl
+acted-there s (Reload processor) = reload-there processor (underway s) (reload_done s.site processor s.world)
 acted-there s (Drive event) =
-    drive-cases event (begun s) (StopsThere (begun s)) (λ drives. tt) tt (λ process. tt)
+    drive-cases event (underway s) (StopsThere (underway s)) (λ drives. tt) tt (λ process. tt)
 
 play-there : (s : Packeted) (event : Event) → StopsThere s (play s event)
 play-there s event = by (acted s event) (acted-there s event)
   where
-    by : (all : Played Midst) → StopsThere (begun s) all → StopsThere s (ended (taken_off event s.wires) all)
+    by : (all : Played Midst) → StopsThere (underway s) all → StopsThere s (ended (taken_off event s.wires) all)
     by Skips there = tt
     by (Makes next) there = tt
     by (Would (SecondStop processor)) there = there

@@ -6,7 +6,7 @@ use Rattle.plain_semantics.specs.Machine.{shown_by}
 use Rattle.player.specs.declared.stop.ProcessorStop.{ProcessorStop}
 use Rattle.report_judge.specs.Reported.{IsReported}
 use Rattle.report_judge.specs.Verdicts.{IsVerdict}
-use Rattle.report_judge.specs.declared.judge.VerifyRefusal.{VerifyRefusal}
+use Rattle.report_judge.specs.declared.judge.VerifyFault.{VerifyFault}
 use Rattle.report_laws.proofs.OneVerdict.{verified}
 use Rattle.report_laws.specs.OneVerdict.{IsSameVerdict}
 use Rattle.report_reader.specs.Reading.{acts_in, read_report, stops_in}
@@ -26,7 +26,7 @@ use Rattle.trace_print.specs.declared.closing.Closing.TheVariants.{Ended}
 use Rattle.reported_runs.specs.Unmirrored.{AreUnmirrored}
 
 pub run-verified : (deck : Deck) (stop : Option ProcessorStop) (report : Report) (how : End)
-    (verdict : Result ℕ VerifyRefusal) → AreUnmirrored deck.site.processes
+    (verdict : Result ℕ VerifyFault) → AreUnmirrored deck.site.processes
     → IsReportOf deck stop report → closing_of report.run.ran.ending ≡ Ended how → report.tells ≡ Lines true
     → TellsNamesApart deck.site
     → IsInForm deck.site (shown_by deck.site (acts_of_run report.run))

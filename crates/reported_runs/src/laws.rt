@@ -8,7 +8,7 @@ ghost use Rattle.player.specs.declared.stop.ProcessorStop.{ProcessorStop};
 ghost use Rattle.plain_semantics.specs.Machine.{shown_by};
 ghost use Rattle.report_judge.specs.Reported.{IsReported};
 ghost use Rattle.report_judge.specs.Verdicts.{IsVerdict};
-ghost use Rattle.report_judge.specs.declared.judge.VerifyRefusal.{VerifyRefusal};
+ghost use Rattle.report_judge.specs.declared.judge.VerifyFault.{VerifyFault};
 ghost use Rattle.report_laws.specs.OneVerdict.{IsSameVerdict};
 ghost use Rattle.command_dues.specs.Decided.{IsDue, IsReportOf};
 ghost use Rattle.command_dues.specs.RunEnds.{acts_of_run, closing_of};
@@ -49,7 +49,7 @@ pub fn what_a_run_writes_is_reported()
 /// with all its acts, unless memory runs out.
 pub fn a_report_of_a_run_in_form_is_verified()
     ensures { (deck : Deck) (stop : Option ProcessorStop) (report : Report) (end : End)
-        (verdict : Result ℕ VerifyRefusal) → AreUnmirrored deck.site.processes
+        (verdict : Result ℕ VerifyFault) → AreUnmirrored deck.site.processes
         → IsReportOf deck stop report → closing_of report.run.ran.ending ≡ Ended end → report.tells ≡ Lines true
         → TellsNamesApart deck.site
         → IsInForm deck.site (shown_by deck.site (acts_of_run report.run))
@@ -63,7 +63,7 @@ pub fn a_report_of_a_run_in_form_is_verified()
 /// memory runs out.
 pub fn every_report_of_a_run_is_verified()
     ensures { (bytes : List ℕ) (deck : Deck) (stop : Option ProcessorStop) (report : Report) (end : End)
-        (verdict : Result ℕ VerifyRefusal) → Decks bytes deck → AreUnmirrored deck.site.processes
+        (verdict : Result ℕ VerifyFault) → Decks bytes deck → AreUnmirrored deck.site.processes
         → IsReportOf deck stop report → closing_of report.run.ran.ending ≡ Ended end → report.tells ≡ Lines true
         → IsVerdict deck.site (text_of_run report) verdict
         → IsSameVerdict verdict (Ok (length (acts_of_run report.run))) }

@@ -1,7 +1,7 @@
 -- The report of a run tells what the laws say of it.
 use Rattle.std.proofs.Common.{◌≡◌, ℕ, Bool, List, Option, ap, ◌∙◌}
 use Rattle.accepted_decks.specs.Left.{KeepsPossibleActs}
-use Rattle.deck_reader.specs.declared.deck.Deck.{Deck}
+use Rattle.command_dues.specs.deck_reader.specs.declared.deck.Deck.{Deck}
 use Rattle.player.specs.declared.stop.ProcessorStop.{ProcessorStop}
 use Rattle.command_dues.specs.packet_runs.specs.Ends.{IsRunOf}
 use Rattle.shown_sectors.specs.Sectors.{sectors_after}
@@ -9,10 +9,10 @@ use Rattle.shown_sectors.specs.declared.sectors.SectorWords.{SectorWords}
 use Rattle.tal_tree.specs.declared.act.Act.{Act}
 use Rattle.tal_tree.specs.declared.act.Shown.{Shown}
 use Rattle.tal_tree.specs.declared.site.Site.{Site}
-use Rattle.trace_print.specs.ReportText.{load_report_text, run_text}
-use Rattle.trace_print.specs.declared.closing.Closing.{Closing}
-use Rattle.trace_print.specs.declared.load.LoadCounts.{LoadCounts}
-use Rattle.trace_print.specs.declared.mirrors.MirrorDrives.{MirrorDrives}
+use Rattle.command_dues.specs.trace_print.specs.ReportText.{load_report_text, run_text}
+use Rattle.command_dues.specs.trace_print.specs.declared.closing.Closing.{Closing}
+use Rattle.command_dues.specs.trace_print.specs.declared.load.LoadCounts.{LoadCounts}
+use Rattle.command_dues.specs.trace_print.specs.declared.mirrors.MirrorDrives.{MirrorDrives}
 use Rattle.command_dues.specs.Decided.{IsReportOf}
 use Rattle.command_dues.specs.RunEnds.{closing_of, load_counts, shown_in}
 use Rattle.command_dues.specs.Mirrors.{mirrors_from}

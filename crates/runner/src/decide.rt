@@ -18,10 +18,11 @@ use crate::verified::due_of_verify;
 use accepted_decks::{
     a_run_of_an_accepted_site_keeps_possible_acts, an_accepted_deck_meets_the_premises,
 };
-use command_dues::packet_runs::run;
-use command_dues::{AdvisedSite, Due, RefusedSite, Report, RunEnd, Task, Telling};
+use command_dues::{
+    AdvisedSite, Deck, Due, RefusedSite, Report, RunEnd, SiteAdvice, Task, Telling, advise_all,
+    read_deck, run,
+};
 use command_words::{Command, asked_by};
-use deck_reader::{Deck, read_deck};
 use gd_io::{Source, SourceFault, read_all};
 use gd_words::NoMemory;
 use load_deck::load_text;
@@ -30,7 +31,6 @@ use player::ProcessorStop;
 use shown_sectors::sectors_after;
 use std::alloc::Global;
 use tal_tree::DeckFault;
-use trace_print::site_advice::{SiteAdvice, advise_all};
 use verdicts::first_refused;
 
 /// A deck has at most this many bytes.

@@ -8,16 +8,15 @@ ghost use Rattle.command_dues.specs.Written.{CanBeWritten, cause_of};
 ghost use Rattle.command_dues.specs.declared.outcome.Outcome.{Outcome};
 
 use crate::decide::decide;
-use command_dues::report_judge::Why;
-use command_dues::{Due, Outcome, RefusedSite, Report, RunEnd, Status, Telling};
+use command_dues::{
+    Closing, Due, End, Outcome, RefusedSite, Report, RunEnd, Status, Telling, Why, write_advised,
+    write_checked, write_fault, write_load_report, write_refusal, write_rejected, write_report,
+    write_sweep, write_usage, write_verified,
+};
 use gd_io::{Sink, Source, WriteFault};
 use schedule_loop::Ending;
 use std::alloc::Global;
 use tal_tree::Act;
-use trace_print::{
-    Closing, End, write_advised, write_checked, write_fault, write_load_report, write_refusal,
-    write_rejected, write_report, write_sweep, write_usage, write_verified,
-};
 use verdicts::RefusedProgram;
 
 /// Runs one command as `command` does, and answers the number of its status, with which the program ends.

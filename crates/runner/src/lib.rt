@@ -14,5 +14,4 @@ mod stopped;
 mod sweep;
 mod verified;
 
-pub use command_dues;
 pub use entry::{command, exit_number};

@@ -2,11 +2,10 @@ ghost use Rattle.std.specs.Prelude.{◌≡◌, ◌<◌, ◌≤◌, [], ◌++◌,
 ghost use Rattle.std.specs.Option.{unwrap_or};
 ghost use Rattle.command_dues.specs.Mirrors.{mirror_at, mirrors_from};
 
-use command_dues::site_machine::Machine;
+use command_dues::{Machine, MirrorDrives};
 use gd_words::{List, NoMemory};
 use std::alloc::Global;
 use tal_tree::{Kind, Site};
-use trace_print::MirrorDrives;
 
 /// How the drives of the mirrored discs of a site stand, in deck order.
 pub(crate) fn mirrors_of(

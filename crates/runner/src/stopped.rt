@@ -1,7 +1,7 @@
 ghost use Rattle.std.specs.Prelude.{◌≡◌, IfOk};
 ghost use Rattle.command_dues.specs.Stopped.{stopped_from};
 
-use command_dues::site_machine::Machine;
+use command_dues::Machine;
 use gd_words::{List, NoMemory};
 use std::alloc::Global;
 

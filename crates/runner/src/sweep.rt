@@ -4,8 +4,7 @@ ghost use Rattle.command_dues.specs.schedule_sweeps.specs.Sweeps.{IsSweepOf};
 ghost use Rattle.verdicts.specs.Refused.{AreAccepted};
 
 use accepted_decks::an_accepted_deck_meets_the_premises;
-use command_dues::schedule_sweeps::sweep;
-use deck_reader::Deck;
+use command_dues::{Deck, sweep};
 use gd_words::NoMemory;
 use logs::Shared;
 use run_table::Table;

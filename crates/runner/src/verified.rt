@@ -1,17 +1,14 @@
 //! What is due of a deck and the report that follows it.
 ghost use Rattle.std.specs.Prelude.{◌≢◌, ◌<◌, ◌≤◌, length};
 ghost use Rattle.std.specs.Io.KnownBytes.{IsAtEnd};
-ghost use Rattle.plain_machine.specs.Standing.{IsPlayable};
+ghost use Rattle.command_dues.specs.plain_machine.specs.Standing.{IsPlayable};
 ghost use Rattle.command_dues.specs.Decided.{IsDueOfVerify, IsOfWholeDeck, IsSpelt};
 ghost use Rattle.command_dues.specs.Verified.{IsDueOfInput, IsDueOfJudged, IsDueOfReport};
 ghost use Rattle.command_dues.specs.Written.{CanBeWritten};
 
 use crate::decide::due_of_fault;
 use accepted_decks::an_accepted_deck_meets_the_premises;
-use command_dues::report_judge::{VerifyRefusal, verify};
-use command_dues::report_reader::deck_end;
-use command_dues::{Due, RefusedSite};
-use deck_reader::{Deck, read_deck};
+use command_dues::{Deck, Due, RefusedSite, VerifyFault, deck_end, read_deck, verify};
 use gd_io::{Source, SourceFault, read_all};
 use std::alloc::Global;
 use tal_tree::{DeckFault, Site};
@@ -72,7 +69,7 @@ fn due_of_report(alloc: Global, site: &Site, report: &[u8]) -> Due
 {
     match verify(alloc, site, report) {
         Ok(acts) => Due::Verified(acts),
-        Err(VerifyRefusal::Rejected { line, why }) => Due::Rejected { line, why },
-        Err(VerifyRefusal::NoMemory(memory)) => Due::NoMemory(memory),
+        Err(VerifyFault::Rejected { line, why }) => Due::Rejected { line, why },
+        Err(VerifyFault::NoMemory(memory)) => Due::NoMemory(memory),
     }
 }

@@ -6,7 +6,7 @@ use Rattle.schedule.specs.declared.event.Event.{Event}
 use Rattle.schedule.specs.declared.line.Line.{Line}
 use Rattle.schedule.specs.declared.line.Line.TheVariants.{One, Many, Drain, Mix, Mute, Until}
 use Rattle.player.specs.declared.stop.ProcessorStop.{ProcessorStop}
-use Rattle.message_wires.specs.Play.{MachineState}
+use Rattle.schedule_runs.specs.message_wires.specs.Play.{MachineState}
 use Rattle.schedule_runs.specs.Runs.{Agenda, PlaysSchedule}
 use Rattle.deck_reader.specs.Limits.{IsWithinDeckLimits}
 use Rattle.deck_reader.specs.Schedules.{singles_in, singles_of, rounds_in, rounds_of}

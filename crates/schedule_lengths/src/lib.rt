@@ -8,6 +8,7 @@
 
 pub mod laws;
 
+pub use deck_reader::{Deck, a_deck_keeps_the_limits};
 pub use laws::{
     a_bus_has_room_for_its_packets, a_schedule_asks_for_few_events,
     a_schedule_asks_for_so_many_events,

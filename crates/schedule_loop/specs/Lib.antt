@@ -5,3 +5,4 @@ pub mod Playing
 pub mod Rules
 pub mod Seen
 pub use Rattle.machine_states
+pub use Rattle.machine_states.specs.world_semantics

@@ -6,8 +6,7 @@ ghost use Rattle.machine_states.specs.declared.effect.Effect.TheVariants as effe
 ghost use Rattle.player.specs.declared.player.Player.{Player as AnyPlayer};
 ghost use Rattle.schedule_loop.specs.Rules.{Rules};
 
-use gd_words::NoMemory;
-use machine_states::Effect;
+use machine_states::{Effect, NoMemory};
 use player::Player;
 use schedule::{Counts, Event};
 

@@ -4,8 +4,7 @@ ghost use Rattle.schedule_loop.specs.Ends.{CanBePlayed, IsEndBy, IsRunOn, IsTrie
 use crate::agenda::Schedule;
 use crate::machine::ScheduleMachine;
 use crate::ran::{Ending, Ran};
-use gd_words::NoMemory;
-use machine_states::Effect;
+use machine_states::{Effect, NoMemory};
 use player::{ProcessorStop, Sizes};
 use schedule::{Event, Line};
 

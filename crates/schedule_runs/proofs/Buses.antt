@@ -8,20 +8,24 @@ use Rattle.tal_tree.specs.declared.site.Site.{Site}
 use Rattle.schedule.specs.declared.event.Event.{Event}
 use Rattle.schedule.specs.declared.event.Event.TheVariants.{Run, Enter, Deliver, Lose, Repeat, Tick, Fail, Reload}
 use Rattle.schedule.specs.declared.event.Event.TheVariants.{Drive}
-use Rattle.world_semantics.specs.Running.{Done, run_done}
-use Rattle.world_semantics.specs.World.{is_running}
-use Rattle.computed_changes.specs.Entered.{enter_done}
-use Rattle.computed_changes.specs.Handed.{handed_done}
-use Rattle.computed_changes.specs.Stopped.{stop_done, down_done, reload_done}
-use Rattle.letters.specs.Routes.{Letter, letters_of}
-use Rattle.letters.specs.Again.{sent_again}
+use Rattle.machine_states.specs.world_semantics.specs.Running.{Done, run_done}
+use Rattle.machine_states.specs.world_semantics.specs.World.{is_running}
+use Rattle.pair_machine.specs.computed_changes.specs.Entered.{enter_done}
+use Rattle.pair_machine.specs.computed_changes.specs.Handed.{handed_done}
+use Rattle.pair_machine.specs.computed_changes.specs.Stopped.{stop_done, down_done, reload_done}
+use Rattle.pair_machine.specs.letters.specs.Routes.{Letter, letters_of}
+use Rattle.pair_machine.specs.letters.specs.Again.{sent_again}
 use Rattle.machine_states.specs.States.{Played, Makes, Skips, Would, SecondStop}
-use Rattle.message_wires.specs.Wires.{Sent, Wires, has_room, put_on, wires_after_post, wires_after_posts, paid}
-use Rattle.message_wires.specs.Wires.{paid_between, without_packet, is_due, put_again, is_present}
-use Rattle.message_wires.specs.Play.{MachineState, after_done, made_by, after_any, state_after_handing, comes_in}
-use Rattle.message_wires.specs.Play.{deliver_played, lose_played, repeat_played, stop_played, fail_played, noted_by}
-use Rattle.message_wires.specs.Play.{notes_from, state_after_tick, tick_played, packet_at, play, reload_played}
-use Rattle.message_wires.specs.Runs.{IsPlayed, played_none, played_more, skipped}
+use Rattle.pair_machine.specs.message_wires.specs.Wires.{Sent, Wires, has_room, put_on, wires_after_post}
+use Rattle.pair_machine.specs.message_wires.specs.Wires.{wires_after_posts, paid}
+use Rattle.pair_machine.specs.message_wires.specs.Wires.{paid_between, without_packet, is_due, put_again, is_current}
+use Rattle.pair_machine.specs.message_wires.specs.Play.{MachineState, after_done, made_by, after_any}
+use Rattle.pair_machine.specs.message_wires.specs.Play.{state_after_handing, is_admitted}
+use Rattle.pair_machine.specs.message_wires.specs.Play.{deliver_played, lose_played, repeat_played, stop_played}
+use Rattle.pair_machine.specs.message_wires.specs.Play.{fail_played, noted_by}
+use Rattle.pair_machine.specs.message_wires.specs.Play.{notes_from, state_after_tick, tick_played, packet_at, play}
+use Rattle.pair_machine.specs.message_wires.specs.Play.{reload_played}
+use Rattle.pair_machine.specs.message_wires.specs.Runs.{IsPlayed, played_none, played_more, skipped}
 use Rattle.schedule_runs.specs.Runs.{IsPlay}
 use Rattle.machine_states.proofs.Turning.{drive-cases}
 
@@ -75,7 +79,7 @@ deliver-few : (k : ℕ) (s : MachineState) (packet : Option Sent) → IsFew s.wi
     → IsFewPlayed (deliver_played k s packet)
 deliver-few k s None few = tt
 deliver-few k s (Some packet) few =
-    by (is_present s.wires.before packet && comes_in (record s { wires = without_packet k s.wires }) packet.letter)
+    by (is_current s.wires.before packet && is_admitted (record s { wires = without_packet k s.wires }) packet.letter)
   where
     by : (test : Bool)
         → IsFew (if test then state_after_handing packet (record s { wires = without_packet k s.wires }) else record s

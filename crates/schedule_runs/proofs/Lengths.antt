@@ -5,7 +5,7 @@ use Rattle.schedule.specs.declared.event.Event.{Event}
 use Rattle.schedule.specs.declared.line.Line.{Line}
 use Rattle.player.specs.declared.player.Player.{Player}
 use Rattle.player.specs.declared.stop.ProcessorStop.{ProcessorStop}
-use Rattle.message_wires.specs.Play.{MachineState, machine_at_boot}
+use Rattle.pair_machine.specs.message_wires.specs.Play.{MachineState, machine_at_boot}
 use Rattle.schedule_loop.specs.Plans.{PlaysSeen}
 use Rattle.schedule_loop.proofs.Plain.{plays-on, plays-seen}
 use Rattle.line_lengths.specs.Lengths.{KeepsTo}

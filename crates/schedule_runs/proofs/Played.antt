@@ -4,8 +4,8 @@ use Rattle.tal_tree.specs.declared.site.Site.{Site}
 use Rattle.schedule.specs.declared.event.Event.{Event}
 use Rattle.schedule.specs.declared.line.Line.{Line}
 use Rattle.player.specs.declared.stop.ProcessorStop.{ProcessorStop}
-use Rattle.message_wires.specs.Play.{MachineState}
-use Rattle.message_wires.specs.Runs.{IsPlayed, played_none, played_more, skipped}
+use Rattle.pair_machine.specs.message_wires.specs.Play.{MachineState}
+use Rattle.pair_machine.specs.message_wires.specs.Runs.{IsPlayed, played_none, played_more, skipped}
 use Rattle.schedule_runs.specs.Runs.{Agenda, PlaysSchedule, plays_none, plays_on}
 
 pub played : {site : Site} {lines : List Line} {stop : Option ProcessorStop} {events : List Event} {agenda : Agenda}

@@ -5,8 +5,8 @@ use Rattle.schedule.specs.declared.event.Event.{Event}
 use Rattle.schedule.specs.declared.line.Line.{Line}
 use Rattle.player.specs.declared.standing.Sizes.{Sizes}
 use Rattle.player.specs.declared.stop.ProcessorStop.{ProcessorStop}
-use Rattle.message_wires.specs.Play.{MachineState, machine_at_boot}
-use Rattle.message_wires.specs.Wires.{Wires}
+use Rattle.pair_machine.specs.message_wires.specs.Play.{MachineState, machine_at_boot}
+use Rattle.pair_machine.specs.message_wires.specs.Wires.{Wires}
 use Rattle.pair_machine.specs.number_laws.proofs.Counts.{letters-within}
 use Rattle.pair_machine.specs.number_laws.proofs.Played.{room-within}
 use Rattle.pair_machine.specs.number_laws.proofs.Requests.{openers-there}

@@ -4,8 +4,8 @@ use Rattle.tal_tree.specs.declared.site.Site.{Site}
 use Rattle.schedule.specs.declared.event.Event.{Event}
 use Rattle.schedule.specs.declared.line.Line.{Line}
 use Rattle.player.specs.declared.stop.ProcessorStop.{ProcessorStop}
-use Rattle.message_wires.specs.Idle.{is_idle}
-use Rattle.message_wires.specs.Play.{MachineState}
+use Rattle.pair_machine.specs.message_wires.specs.Idle.{is_idle}
+use Rattle.pair_machine.specs.message_wires.specs.Play.{MachineState}
 use Rattle.pair_machine.specs.Seen.{closed_state}
 use Rattle.schedule_loop.specs.declared.ran.Ending as loop
 use Rattle.schedule_loop.specs.declared.ran.Ending.TheVariants as ends

@@ -1,7 +1,7 @@
 -- The machine over whole messages, as a schedule is played on it.
-use Rattle.message_wires.specs.Idle.{is_idle}
-use Rattle.message_wires.specs.Play.{MachineState, play}
-use Rattle.message_wires.specs.Wires.{Wires}
+use Rattle.pair_machine.specs.message_wires.specs.Idle.{is_idle}
+use Rattle.pair_machine.specs.message_wires.specs.Play.{MachineState, play}
+use Rattle.pair_machine.specs.message_wires.specs.Wires.{Wires}
 use Rattle.pair_machine.specs.number_ranges.specs.HasRoom.{HasRoom, HasRoomForLetters}
 use Rattle.pair_machine.specs.Room.{OpenersAreThere}
 use Rattle.pair_machine.specs.Seen.{closed_state}

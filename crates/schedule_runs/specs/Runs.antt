@@ -10,8 +10,8 @@ use Rattle.player.specs.declared.stop.ProcessorStop.{ProcessorStop}
 pub use Rattle.agendas.specs.Agendas.{Agenda, Plan, PlaysOn, plays_none, plays_on}
 pub use Rattle.agendas.specs.Agendas.{agenda_of, coming, planned_by, stopped_by, upcoming, upcoming_after}
 use Rattle.machine_states.specs.States.{Makes, Skips, Would, Harm}
-use Rattle.message_wires.specs.Idle.{is_idle}
-use Rattle.message_wires.specs.Play.{MachineState, play, machine_at_boot}
+use Rattle.pair_machine.specs.message_wires.specs.Idle.{is_idle}
+use Rattle.pair_machine.specs.message_wires.specs.Play.{MachineState, play, machine_at_boot}
 use Rattle.pair_machine.specs.node_copies.specs.ShownCounts.{replies_in, writes_in}
 
 -- What is counted before an event

@@ -3,8 +3,8 @@ ghost use Rattle.tal_tree.specs.declared.site.Site.{Site};
 ghost use Rattle.schedule.specs.declared.event.Event.{Event};
 ghost use Rattle.schedule.specs.declared.line.Line.{Line};
 ghost use Rattle.player.specs.declared.stop.ProcessorStop.{ProcessorStop};
-ghost use Rattle.message_wires.specs.Play.{MachineState};
-ghost use Rattle.message_wires.specs.Runs.{IsPlayed};
+ghost use Rattle.pair_machine.specs.message_wires.specs.Play.{MachineState};
+ghost use Rattle.pair_machine.specs.message_wires.specs.Runs.{IsPlayed};
 ghost use Rattle.schedule_runs.specs.Runs.{Agenda, PlaysSchedule};
 ghost use Rattle.std.specs.Prelude.{List, Option};
 

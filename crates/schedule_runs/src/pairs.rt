@@ -1,6 +1,6 @@
 ghost use Rattle.std.specs.Prelude.{◌≡◌, false, IfOk};
-ghost use Rattle.message_wires.specs.Play.{machine_at_boot};
-ghost use Rattle.message_wires.specs.Wires as wires;
+ghost use Rattle.pair_machine.specs.message_wires.specs.Play.{machine_at_boot};
+ghost use Rattle.pair_machine.specs.message_wires.specs.Wires as wires;
 ghost use Rattle.pair_machine.specs.process_copies.specs.Starting.{IsStartable};
 ghost use Rattle.schedule_runs.specs.Rules.{CanGoOn, pair_rules};
 ghost use Rattle.schedule_runs.specs.Runs.{counts_of};

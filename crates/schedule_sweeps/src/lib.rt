@@ -7,6 +7,5 @@
 
 pub mod rows;
 
-pub use packet_runs;
-pub use packet_runs::site_machine;
+pub use packet_runs::{Machine, Ran, run};
 pub use rows::sweep;

@@ -2,7 +2,7 @@ ghost use Rattle.std.specs.Prelude.{◌≡◌, IfOk};
 ghost use Rattle.sendings.specs.Seen.{message_of};
 
 use crate::message::Message;
-use gd_words::NoMemory;
+use logs::NoMemory;
 use std::marker::Model;
 
 /// A letter: a message on its way from a node to a node.

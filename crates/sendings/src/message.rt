@@ -1,9 +1,8 @@
 ghost use Rattle.std.specs.Prelude.{◌≡◌, IfOk};
 ghost use Rattle.sendings.specs.Seen.{message_of};
 
-use gd_words::{NoMemory, Reply, Request};
-use letters::checkpoint_image::{ImageMessage, TakenMessage};
-use logs::Shared;
+use letters::{ImageMessage, TakenMessage};
+use logs::{NoMemory, Reply, Request, Shared};
 
 /// A message from a node to a node. A checkpoint is held together with the others who have it.
 #[derive(Drop)]

@@ -27,8 +27,8 @@ use Rattle.world_semantics.specs.Rules.{by_stop, by_mark, by_reload, entered_req
 use Rattle.world_semantics.proofs.Becoming.{acting-gets-none}
 use Rattle.world_semantics.proofs.Lists.{some-same, Changed, is_new, is_same, changed}
 use Rattle.world_semantics.proofs.Reached.{one-acts}
-use Rattle.process_histories.proofs.Steady.{calm-away, got-calm}
-use Rattle.plain_histories.proofs.Openers.{opener-one}
+use Rattle.letter_laws.specs.process_histories.proofs.Steady.{calm-away, got-calm}
+use Rattle.letter_laws.specs.plain_histories.proofs.Openers.{opener-one}
 use Rattle.letter_laws.specs.takeover_laws.specs.Fit.{IsFit}
 use Rattle.letter_laws.specs.takeover_laws.proofs.Kept.{IsGood}
 use Rattle.letter_laws.specs.awaited_requests.specs.Awaited.{IsAwaited, by_copy, by_terminal}

@@ -15,7 +15,7 @@ use Rattle.world_semantics.proofs.Lists.{some-same}
 use Rattle.letter_laws.specs.takeover_laws.specs.Fit.{IsFit}
 use Rattle.letter_laws.specs.takeover_laws.specs.Invariant.{IsAsked}
 use Rattle.letter_laws.specs.takeover_laws.proofs.Kept.{IsGood}
-use Rattle.computed_changes.specs.Laws.{IsSent}
+use Rattle.letter_laws.specs.computed_changes.specs.Laws.{IsSent}
 use Rattle.letters.specs.Posts.{Post, after_change}
 use Rattle.letters.specs.Routes.{Letter, route_of, home_of, letters_of}
 use Rattle.letter_laws.specs.awaited_requests.specs.Awaited.{IsAwaited}

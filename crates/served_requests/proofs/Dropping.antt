@@ -19,7 +19,7 @@ use Rattle.world_semantics.specs.World.{Pair, World, is_running, copy_of, receiv
 use Rattle.world_semantics.proofs.Reached.{gone-is}
 use Rattle.world_semantics.proofs.Running.{enters-as}
 use Rattle.letter_laws.specs.takeover_laws.proofs.Kept.{IsGood}
-use Rattle.computed_changes.specs.Laws.{IsSent}
+use Rattle.letter_laws.specs.computed_changes.specs.Laws.{IsSent}
 use Rattle.letters.specs.Posts.{IsTaken, takes_first, takes_later}
 use Rattle.letters.specs.Routes.{Letter, route_of}
 use Rattle.letters.proofs.Owed.{taken-there}

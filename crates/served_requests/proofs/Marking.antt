@@ -19,7 +19,7 @@ use Rattle.world_semantics.specs.Rules.{Change, by_own, by_checkpoint, by_reques
 use Rattle.world_semantics.specs.Rules.{by_stop, by_mark, by_reload}
 use Rattle.world_semantics.specs.World.{Pair, World, has_noted, copy_of}
 use Rattle.world_semantics.proofs.Roles.{both-true}
-use Rattle.plain_histories.proofs.Openers.{opener-is}
+use Rattle.letter_laws.specs.plain_histories.proofs.Openers.{opener-is}
 use Rattle.letter_laws.specs.takeover_laws.specs.Fit.{IsFit}
 use Rattle.letter_laws.specs.takeover_laws.proofs.Changing.{acts_by, causes-one, passes-one}
 use Rattle.letter_laws.specs.takeover_laws.proofs.Kept.{IsGood}

@@ -19,13 +19,13 @@ use Rattle.world_semantics.specs.Core.{next_on}
 use Rattle.world_semantics.specs.World.{Pair, World, copy_of}
 use Rattle.world_semantics.proofs.Lists.{some-same}
 use Rattle.world_semantics.proofs.Reached.{one-acts}
-use Rattle.process_histories.specs.Words.{taken_from, answered_to, one_if}
-use Rattle.process_histories.proofs.Counts.{taken-number, taken-count}
-use Rattle.process_histories.proofs.Kept.{kept-last}
-use Rattle.plain_histories.specs.Ledgers.{requests_of}
-use Rattle.plain_histories.proofs.Entries.{entry-most}
-use Rattle.plain_histories.proofs.Openers.{opener-one}
-use Rattle.plain_histories.proofs.Possible.{booked-ran}
+use Rattle.letter_laws.specs.process_histories.specs.Words.{taken_from, answered_to, one_if}
+use Rattle.letter_laws.specs.process_histories.proofs.Counts.{taken-number, taken-count}
+use Rattle.letter_laws.specs.process_histories.proofs.Kept.{kept-last}
+use Rattle.letter_laws.specs.plain_histories.specs.Ledgers.{requests_of}
+use Rattle.letter_laws.specs.plain_histories.proofs.Entries.{entry-most}
+use Rattle.letter_laws.specs.plain_histories.proofs.Openers.{opener-one}
+use Rattle.letter_laws.specs.plain_histories.proofs.Possible.{booked-ran}
 use Rattle.letter_laws.specs.takeover_laws.specs.Fit.{IsFit}
 use Rattle.letter_laws.specs.takeover_laws.specs.Invariant.{IsAsked}
 use Rattle.letter_laws.specs.takeover_laws.proofs.Kept.{IsGood}

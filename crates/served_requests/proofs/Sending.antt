@@ -11,7 +11,7 @@ use Rattle.plain_semantics.specs.Openers.{opener_of}
 use Rattle.world_semantics.specs.World.{World}
 use Rattle.world_semantics.specs.Messages.{Message, Replying, Sending, sent_at}
 use Rattle.world_semantics.proofs.Lists.{some-same}
-use Rattle.plain_histories.proofs.Openers.{opener-is}
+use Rattle.letter_laws.specs.plain_histories.proofs.Openers.{opener-is}
 use Rattle.letters.specs.Posts.{Post}
 use Rattle.letters.specs.Routes.{home_of, receiver_of, letter_of, letters_of}
 use Rattle.letter_laws.specs.awaited_requests.specs.Served.{reply_of}

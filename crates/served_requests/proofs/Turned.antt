@@ -1,5 +1,6 @@
 -- What a change makes of each process.
-use Rattle.std.proofs.Common.{◌≡◌, ℕ, ◌==◌, Bool, List, [], map, Option, Some, None, slice_get, slice_set, refl, ap, sym}
+use Rattle.std.proofs.Common.{◌≡◌, ℕ, ◌==◌, Bool, List, [], map, Option, Some, None, slice_get, slice_set, refl, ap}
+use Rattle.std.proofs.Common.{sym}
 use Rattle.std.proofs.Common.{◌∙◌, subst}
 use Rattle.std.specs.List.{flat_map}
 use Rattle.gd_words.specs.Members.{IsAmong}

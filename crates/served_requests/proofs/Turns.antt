@@ -31,9 +31,10 @@ use Rattle.world_semantics.specs.Passes.{kept_at_checkpoint, kept_at, point_at, 
 use Rattle.world_semantics.specs.Shares.{acts_at}
 use Rattle.world_semantics.proofs.Becoming.{acting-gets-none}
 use Rattle.world_semantics.proofs.Lists.{some-same}
-use Rattle.process_histories.proofs.Counts.{take-free}
-use Rattle.process_histories.proofs.Steady.{IsSteady, IsCalm, done-steady, calm-away, inner-calm, took-calm, asked-same}
-use Rattle.process_histories.proofs.Steady.{got-calm, answered-calm, marked-calm, device-calm}
+use Rattle.letter_laws.specs.process_histories.proofs.Counts.{take-free}
+use Rattle.letter_laws.specs.process_histories.proofs.Steady.{IsSteady, IsCalm, done-steady, calm-away, inner-calm}
+use Rattle.letter_laws.specs.process_histories.proofs.Steady.{took-calm, asked-same}
+use Rattle.letter_laws.specs.process_histories.proofs.Steady.{got-calm, answered-calm, marked-calm, device-calm}
 use Rattle.letter_laws.specs.takeover_laws.specs.Fit.{IsFit}
 use Rattle.letter_laws.specs.takeover_laws.proofs.Kept.{IsGood}
 use Rattle.letter_laws.specs.awaited_requests.specs.Served.{request_of}

@@ -8,7 +8,7 @@ use Rattle.schedule.specs.declared.line.Line.{Line}
 use Rattle.player.specs.declared.stop.ProcessorStop.{ProcessorStop}
 use Rattle.agendas.specs.Agendas.{Agenda, Plan}
 use Rattle.machine_states.specs.States.{Played, State, Would, Harm, SecondStop, DiscLoss}
-use Rattle.packet_wires.specs.Play.{Packeted}
+use Rattle.packet_runs.specs.packet_wires.specs.Play.{Packeted}
 use Rattle.schedule_loop.specs.Ends.{Course, EndsBy, IsRunOn, Plays, RunsOutBy, RunsToHarmBy, ending_by}
 use Rattle.schedule_loop.specs.Rules.{IsPlayBy, Rules}
 use Rattle.schedule_loop.specs.declared.ran.Ending.{Ending}

@@ -7,7 +7,7 @@ use Rattle.schedule.specs.declared.event.Event.TheVariants.{Drive}
 use Rattle.world_semantics.specs.World.{is_whole}
 use Rattle.computed_changes.specs.Stopped.{stop_if, stop_where}
 use Rattle.machine_states.specs.States.{Would, SecondStop}
-use Rattle.message_wires.specs.Play.{MachineState, fail_played, play, stop_played}
+use Rattle.message_wires_laws.specs.message_wires.specs.Play.{MachineState, fail_played, play, stop_played}
 use Rattle.schedule_runs.specs.Runs.{IsPlay}
 use Rattle.message_wires_laws.proofs.Calm.{KeepsWhole, whole-kept, whole-played}
 use Rattle.single_stops.specs.StopsAsked.{stops_in}

@@ -7,7 +7,7 @@ use Rattle.schedule.specs.declared.event.Event.TheVariants as event
 use Rattle.schedule.specs.declared.line.Line.{Line}
 use Rattle.player.specs.declared.stop.ProcessorStop.{ProcessorStop}
 use Rattle.world_semantics.specs.World.{is_whole}
-use Rattle.message_wires.specs.Play.{MachineState}
+use Rattle.message_wires_laws.specs.message_wires.specs.Play.{MachineState}
 use Rattle.message_wires_laws.proofs.Whole.{begins-whole}
 use Rattle.schedule_runs.specs.Ends.{EndsAs, IsRunOf}
 use Rattle.schedule_runs.specs.Runs.{Agenda, IsPlay, Plan, PlaysSchedule, RunsToHarm, counts_of, plays_none, plays_on}

@@ -7,5 +7,6 @@
 
 pub mod pairs;
 
-pub use advise::advice;
+pub use advise::{Advised, Reason, RefusalFault};
 pub use pairs::{PairAdvice, SiteAdvice, advise_all};
+pub use verdicts::RefusedProgram;

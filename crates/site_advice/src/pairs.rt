@@ -3,10 +3,8 @@ ghost use Rattle.verdicts.specs.Judgeable.{AreJudgeable, IsJudgeable, IsJudgeabl
 ghost use Rattle.site_advice.specs.Pushed.{IsCause, IsPushed};
 ghost use Rattle.site_advice.specs.SiteAdvised.{IsSiteAdvice, IsUnadvised};
 
-use advise::advice::{Advice, AdviseRefusal};
-use advise::advise;
+use advise::{Advice, AdviseFault, RefusalFault, advise};
 use gd_words::{List, NoMemory};
-use path_semantics::RefusalFault;
 use statement_lines::lines_of;
 use std::alloc::Global;
 use tal_tree::{Kind, ProcessSpec, Program};
@@ -82,14 +80,14 @@ fn push_program(
             pairs.push(PairAdvice { process, advice })?;
             Ok(None)
         }
-        Err(AdviseRefusal::TooDeep) => cause_of(alloc, program, RefusalFault::TooDeep),
-        Err(AdviseRefusal::TooLarge(size)) => {
+        Err(AdviseFault::TooDeep) => cause_of(alloc, program, RefusalFault::TooDeep),
+        Err(AdviseFault::TooLarge(size)) => {
             cause_of(alloc, program, RefusalFault::TooLarge(size))
         }
-        Err(AdviseRefusal::Unmendable { reason, path }) => {
+        Err(AdviseFault::Unmendable { reason, path }) => {
             cause_of(alloc, program, RefusalFault::Broken { reason, path })
         }
-        Err(AdviseRefusal::NoMemory(memory)) => Err(memory),
+        Err(AdviseFault::NoMemory(memory)) => Err(memory),
     }
 }
 

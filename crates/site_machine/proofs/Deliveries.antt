@@ -2,19 +2,20 @@
 use Rattle.std.specs.Option.{option_map}
 use Rattle.std.proofs.Common.{◌≡◌, ℕ, ℤ, Bool, true, false, if◌then◌else◌, List, Option, Some, None, refl, ap, sym}
 use Rattle.std.proofs.Common.{◌&&◌, subst, ◌∙◌}
-use Rattle.world_semantics.proofs.Lists.{some-same}
+use Rattle.node.specs.world_semantics.proofs.Lists.{some-same}
 use Rattle.packet_words.specs.declared.bus_name.BusName.{BusName}
 use Rattle.packet_words.specs.declared.bus_name.BusName.TheVariants as bus
 use Rattle.packet_words.specs.declared.packet.Packet.{Packet}
 use Rattle.packet_words.specs.declared.packet.PacketKind.{PacketKind}
 use Rattle.packet_words.specs.declared.packet.PacketKind.TheVariants as kind
-use Rattle.world_semantics.specs.World.{is_running}
+use Rattle.node.specs.world_semantics.specs.World.{is_running}
 use Rattle.node.specs.Calls.{address_if_alive, alive_address}
-use Rattle.machine_states.specs.States.{Settles}
-use Rattle.machine_states.specs.declared.effect.Effect.TheVariants as effect
-use Rattle.packet_wires.specs.Nodes.{end_at}
-use Rattle.packet_wires.specs.Play.{Packeted, begun, completed, deliver_acted, ended, handed_words, over, received}
-use Rattle.packet_wires.specs.Wires.{Wires, arrived, nothing_sent, without_packet}
+use Rattle.node.specs.machine_states.specs.States.{Settles}
+use Rattle.node.specs.machine_states.specs.declared.effect.Effect.TheVariants as effect
+use Rattle.node.specs.packet_wires.specs.Nodes.{end_at}
+use Rattle.node.specs.packet_wires.specs.Play.{Packeted, underway, completed, deliver_acted, ended, handed_words, over}
+use Rattle.node.specs.packet_wires.specs.Play.{received}
+use Rattle.node.specs.packet_wires.specs.Wires.{Wires, arrived, nothing_sent, without_packet}
 use Rattle.node.specs.event_parts.specs.Numbers.{CanPush}
 use Rattle.node.specs.event_parts.specs.Parts.{carried_out, completed_by, delivered, is_current_in}
 use Rattle.node.specs.event_parts.proofs.Numbers.{can-arrived}
@@ -43,24 +44,24 @@ module _ (name : BusName) (k : ℕ) (s : Packeted) where
   comes receiver found = is_running s.world.stopped receiver && is_current_in found s.wires.nodes
 
   pub none-delivered : (found : Option Packet) → None ≡ option_map (λ (packet : Packet). packet.receiver) found
-      → Settles (ended off (deliver_acted name (begun s) found)) s effect.Skipped s
+      → Settles (ended off (deliver_acted name (underway s) found)) s effect.Skipped s
   none-delivered None is = (refl, refl)
   none-delivered (Some packet) is = absurd cc
 
   dropped : (of : BusName) → record s { wires = without_packet of k s.wires }
-      ≡ over (without_packet of k s.wires) (begun s)
+      ≡ over (without_packet of k s.wires) (underway s)
   dropped bus.X = refl
   dropped bus.Y = refl
 
   pub delivery-dropped : (found : Option Packet) (receiver : ℕ) (after : Packeted)
       → Some receiver ≡ option_map (λ (packet : Packet). packet.receiver) found
       → comes receiver found ≡ false → after ≡ record s { wires = off }
-      → Settles (ended off (deliver_acted name (begun s) found)) s effect.Done after
+      → Settles (ended off (deliver_acted name (underway s) found)) s effect.Done after
   delivery-dropped None receiver after is stops same = absurd cc
   delivery-dropped (Some packet) receiver after is stops same = (
     refl,
     same ∙ dropped name
-        ∙ sym (ap (λ (b : Bool). over off (if b then received name packet (begun s) else begun s))
+        ∙ sym (ap (λ (b : Bool). over off (if b then received name packet (underway s) else underway s))
         (ap (λ (r : ℕ). comes r (Some packet)) (sym (some-same is)) ∙ stops)),
   )
 
@@ -68,7 +69,7 @@ module _ (name : BusName) (k : ℕ) (s : Packeted) where
       → after_part (handed_words packet.receiver
       (completed packet (end_at s.wires.nodes packet.receiver packet.sender)))
       (record s { wires = carried_out (arrived of packet) (without_packet of k s.wires) })
-      ≡ over (without_packet of k s.wires) (received of packet (begun s))
+      ≡ over (without_packet of k s.wires) (received of packet (underway s))
   turned bus.X packet =
       sym (handed-in-turn (arrived bus.X packet) packet.receiver
       (completed packet (end_at s.wires.nodes packet.receiver packet.sender))
@@ -83,7 +84,7 @@ module _ (name : BusName) (k : ℕ) (s : Packeted) where
       → comes receiver found ≡ true → words ≡ completed_by found s.wires.nodes
       → mid ≡ record s { wires = delivered name k found s.wires }
       → after ≡ after_part (handed_words receiver words) mid
-      → Settles (ended off (deliver_acted name (begun s) found)) s effect.Done after
+      → Settles (ended off (deliver_acted name (underway s) found)) s effect.Done after
   delivery-comes None receiver mid after words is runs whole came hands = absurd cc
   delivery-comes (Some packet) receiver mid after words is runs whole came hands = (
     refl,
@@ -94,7 +95,7 @@ module _ (name : BusName) (k : ℕ) (s : Packeted) where
         ∙ ap (λ (r : ℕ). after_part (handed_words r (completed_by (Some packet) s.wires.nodes))
         (record s { wires = delivered name k (Some packet) s.wires })) (some-same is)
         ∙ turned name packet
-        ∙ sym (ap (λ (b : Bool). over off (if b then received name packet (begun s) else begun s))
+        ∙ sym (ap (λ (b : Bool). over off (if b then received name packet (underway s) else underway s))
         (ap (λ (r : ℕ). comes r (Some packet)) (sym (some-same is)) ∙ runs)),
   )
 
@@ -102,13 +103,14 @@ module _ (name : BusName) (k : ℕ) (s : Packeted) where
   pub alive-comes : (found : Option Packet) (receiver sender : ℕ) (after : Packeted)
       → alive_address found ≡ Some (receiver, sender) → comes receiver found ≡ true
       → completed_by found s.wires.nodes ≡ None → after ≡ record s { wires = delivered name k found s.wires }
-      → Settles (ended off (deliver_acted name (begun s) found)) s effect.Done after
+      → Settles (ended off (deliver_acted name (underway s) found)) s effect.Done after
   alive-comes found receiver sender after is runs none came =
       delivery-comes found receiver after after None (alive-receiver found receiver sender is) runs (sym none) came refl
 
   pub alive-dropped : (found : Option Packet) (receiver sender : ℕ) (after : Packeted)
       → alive_address found ≡ Some (receiver, sender) → comes receiver found ≡ false
-      → after ≡ record s { wires = off } → Settles (ended off (deliver_acted name (begun s) found)) s effect.Done after
+      → after ≡ record s { wires = off }
+      → Settles (ended off (deliver_acted name (underway s) found)) s effect.Done after
   alive-dropped found receiver sender after is stops same =
       delivery-dropped found receiver after (alive-receiver found receiver sender is) stops same
 

@@ -6,11 +6,11 @@ use Rattle.std.proofs.lemmas.Bool.{ltb-true, lt-ltb}
 use Rattle.std.proofs.lemmas.Option.{slice_get_cases}
 use Rattle.tal_tree.specs.declared.site.OpenerSpec.{OpenerSpec}
 use Rattle.tal_tree.specs.declared.site.Site.{Site}
-use Rattle.plain_semantics.specs.Openers.{openers_of}
-use Rattle.world_semantics.specs.Messages.{Message, Asking}
-use Rattle.packet_wires.specs.message_layout.specs.Messages.{NodeMessage, Carrying, has_process, is_known}
-use Rattle.packet_wires.specs.message_layout.specs.Reading.{node_message_in}
-use Rattle.packet_wires.specs.message_layout.proofs.Exact.{read-written}
+use Rattle.node.specs.plain_semantics.specs.Openers.{openers_of}
+use Rattle.node.specs.world_semantics.specs.Messages.{Message, Asking}
+use Rattle.node.specs.packet_wires.specs.message_layout.specs.Messages.{NodeMessage, Carrying, has_process, is_known}
+use Rattle.node.specs.packet_wires.specs.message_layout.specs.Reading.{node_message_in}
+use Rattle.node.specs.packet_wires.specs.message_layout.proofs.Exact.{read-written}
 use Rattle.open_links.specs.world_copies.specs.Room.{NamesItsOpener}
 use Rattle.site_machine.specs.Needs.{IsReadWithin}
 

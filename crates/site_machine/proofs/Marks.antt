@@ -1,14 +1,14 @@
 -- A mark, step by step: the world after it, the end that is thrown away, and what is posted.
 use Rattle.std.proofs.Common.{◌≡◌, ℕ, ◌++◌, List, Option, Some, None, Bool, true, if◌then◌else◌, ap, ap₂, sym, subst}
 use Rattle.std.proofs.Common.{◌∙◌}
-use Rattle.world_semantics.specs.Messages.{Sending}
-use Rattle.world_semantics.specs.Running.{Done}
-use Rattle.computed_changes.specs.Stopped.{down_done, world_at_down}
-use Rattle.letters.specs.Again.{sent_again}
-use Rattle.letters.specs.Routes.{letters_of}
-use Rattle.packet_wires.specs.Parcels.{parcels_of}
-use Rattle.packet_wires.specs.Play.{Packeted, after_marked, begun, marked_by, marks, over}
-use Rattle.packet_wires.specs.Wires.{Wires, all_posted, cut_off}
+use Rattle.node.specs.world_semantics.specs.Messages.{Sending}
+use Rattle.node.specs.world_semantics.specs.Running.{Done}
+use Rattle.node.specs.computed_changes.specs.Stopped.{down_done, world_at_down}
+use Rattle.node.specs.letters.specs.Again.{sent_again}
+use Rattle.node.specs.letters.specs.Routes.{letters_of}
+use Rattle.node.specs.packet_wires.specs.Parcels.{parcels_of}
+use Rattle.node.specs.packet_wires.specs.Play.{Packeted, after_marked, underway, marked_by, marks, over}
+use Rattle.node.specs.packet_wires.specs.Wires.{Wires, all_posted, cut_off}
 use Rattle.node.specs.event_parts.specs.Parts.{carried_out}
 use Rattle.node.specs.event_parts.proofs.Adds.{adds-all-posted}
 use Rattle.node.specs.event_parts.proofs.Turns.{carried-then}
@@ -34,12 +34,12 @@ marked-steps s marked cut after node processor sendings done marks tells cuts po
 pub mark-none : (node processor : ℕ) (s : Packeted) → down_done node processor s.world ≡ None
     → s ≡ after_part (marks node processor) s
 mark-none node processor s none =
-    sym (ap (λ (done : Option Done). over s.wires (marked_by node processor (begun s) done)) none)
+    sym (ap (λ (done : Option Done). over s.wires (marked_by node processor (underway s) done)) none)
 
 pub mark-some : (node processor : ℕ) (s : Packeted) (done : Done) → down_done node processor s.world ≡ Some done
     → after_part (λ u. after_marked node processor u done) s ≡ after_part (marks node processor) s
 mark-some node processor s done some =
-    sym (ap (λ (found : Option Done). over s.wires (marked_by node processor (begun s) found)) some)
+    sym (ap (λ (found : Option Done). over s.wires (marked_by node processor (underway s) found)) some)
 
 -- what a mark sends keeps to the layout, where a processor is to be marked
 pub marks-within : (node processor : ℕ) (t s : Packeted) → t ≡ s → (test : Bool)

@@ -1,7 +1,7 @@
 -- One node after the other is looked at.
 use Rattle.std.specs.List.{list_all}
 use Rattle.std.proofs.Common.{◌≡◌, ℕ, suc, ◌+◌, ◌&&◌, Bool, true, false, ap, sym, ◌∙◌}
-use Rattle.packet_wires.specs.Nodes.{numbers}
+use Rattle.node.specs.packet_wires.specs.Nodes.{numbers}
 
 module _ (p : ℕ → Bool) where
   passed : (from m n : ℕ) (test : Bool) → m ≡ suc n → test ≡ p from

@@ -1,14 +1,14 @@
 -- A change of the world that was made, and what it sends posted: the machine's state is what the change makes of it.
 use Rattle.std.proofs.Common.{◌≡◌, [], ◌∷◌, List, Option, Some, None, refl, ap, sym, subst, subst₂, ◌∙◌}
 use Rattle.std.specs.List.{cons_option}
-use Rattle.world_semantics.specs.Messages.{Sending}
-use Rattle.world_semantics.specs.Running.{Done, world_after}
-use Rattle.machine_states.specs.States.{Settles}
-use Rattle.machine_states.specs.declared.effect.Effect.{Effect}
-use Rattle.letters.specs.Routes.{Letter, letter_of, letters_of}
-use Rattle.packet_wires.specs.Parcels.{parcel_of, parcels_of}
-use Rattle.packet_wires.specs.Play.{Packeted, after_any, begun, ended, made_by}
-use Rattle.packet_wires.specs.Wires.{Wires, all_posted, nothing_sent, posted}
+use Rattle.node.specs.world_semantics.specs.Messages.{Sending}
+use Rattle.node.specs.world_semantics.specs.Running.{Done, world_after}
+use Rattle.node.specs.machine_states.specs.States.{Settles}
+use Rattle.node.specs.machine_states.specs.declared.effect.Effect.{Effect}
+use Rattle.node.specs.letters.specs.Routes.{Letter, letter_of, letters_of}
+use Rattle.node.specs.packet_wires.specs.Parcels.{parcel_of, parcels_of}
+use Rattle.node.specs.packet_wires.specs.Play.{Packeted, after_any, underway, ended, made_by}
+use Rattle.node.specs.packet_wires.specs.Wires.{Wires, all_posted, nothing_sent, posted}
 use Rattle.node.specs.event_parts.specs.Numbers.{CanPush}
 use Rattle.node.specs.event_parts.specs.Parts.{carried_out}
 use Rattle.node.specs.event_parts.proofs.Adds.{adds-all-posted}
@@ -20,14 +20,14 @@ use Rattle.site_machine.specs.Told.{Answers, after_part, sent_all, unsent}
 
 settled : (s mid after : Packeted) (answer : Effect) (done : Option Done) → mid ≡ unsent s done
     → Answers (sent_in done) mid answer after
-    → Settles (ended s.wires (made_by (begun s) done)) s answer after
+    → Settles (ended s.wires (made_by (underway s) done)) s answer after
 settled s mid after answer None same answers = (answers.0, answers.1 ∙ same)
 settled s mid after answer (Some done) same answers = (answers.0, answers.1 ∙ ap (sent_all done.sendings) same)
 
 -- after what a step tells was posted, the change is made, and the answer is given to it
 pub answered : (s mid after : Packeted) (answer : Effect) {told : Option (List Sending)} (done : Option Done)
     → mid ≡ unsent s done → told ≡ sent_in done
-    → Answers told mid answer after → Settles (ended s.wires (made_by (begun s) done)) s answer after
+    → Answers told mid answer after → Settles (ended s.wires (made_by (underway s) done)) s answer after
 answered s mid after answer done same sends answers =
     settled s mid after answer done same (subst (λ told. Answers told mid answer after) sends answers)
 

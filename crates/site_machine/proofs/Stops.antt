@@ -1,19 +1,21 @@
--- A processor that stops, and one that is loaded again: what becomes of the world and of the wires is what becomes of the
--- machine.
+-- A processor that stops, and one that is loaded again: what becomes of the world and of the wires is what becomes of
+-- the machine.
 use Rattle.std.specs.Option.{unwrap_or}
-use Rattle.std.proofs.Common.{◌≡◌, ℕ, ◌<◌, ◌&&◌, Bool, true, false, nat_lt, Option, Some, None, is_some, slice_get, refl}
+use Rattle.std.proofs.Common.{◌≡◌, ℕ, ◌<◌, ◌&&◌, Bool, true, false, nat_lt, Option, Some, None, is_some, slice_get}
+use Rattle.std.proofs.Common.{refl}
 use Rattle.std.proofs.Common.{ap, sym, subst, ◌∙◌}
 use Rattle.std.proofs.lemmas.Bool.{ltb-true}
 use Rattle.tal_tree.specs.declared.site.Site.{Site}
-use Rattle.world_semantics.specs.Rules.{most_reloads}
-use Rattle.world_semantics.specs.Running.{Done}
-use Rattle.world_semantics.specs.World.{World, is_noted_by_all, is_whole}
-use Rattle.computed_changes.specs.Stopped.{reload_counted, reload_done, reload_if, reload_where, stop_done, stop_if}
-use Rattle.computed_changes.specs.Stopped.{stop_where, stopped_world}
-use Rattle.machine_states.specs.States.{Settles}
-use Rattle.machine_states.specs.declared.effect.Effect.TheVariants as effect
-use Rattle.packet_wires.specs.Play.{Packeted, begun, ended, reload_acted, stop_acted}
-use Rattle.packet_wires.specs.Wires.{loaded_again}
+use Rattle.node.specs.world_semantics.specs.Rules.{most_reloads}
+use Rattle.node.specs.world_semantics.specs.Running.{Done}
+use Rattle.node.specs.world_semantics.specs.World.{World, is_noted_by_all, is_whole}
+use Rattle.node.specs.computed_changes.specs.Stopped.{reload_counted, reload_done, reload_if, reload_where, stop_done}
+use Rattle.node.specs.computed_changes.specs.Stopped.{stop_if}
+use Rattle.node.specs.computed_changes.specs.Stopped.{stop_where, stopped_world}
+use Rattle.node.specs.machine_states.specs.States.{Settles}
+use Rattle.node.specs.machine_states.specs.declared.effect.Effect.TheVariants as effect
+use Rattle.node.specs.packet_wires.specs.Play.{Packeted, underway, ended, reload_acted, stop_acted}
+use Rattle.node.specs.packet_wires.specs.Wires.{loaded_again}
 use Rattle.node.specs.event_parts.specs.Numbers.{CanReload}
 use Rattle.node.specs.event_parts.specs.Parts.{carried_out}
 use Rattle.site_machine.specs.Needs.{AllBearReloads, times_loaded}
@@ -26,31 +28,31 @@ stop-by processor w whole runs is = ap (stop_where processor w) runs ∙ ap (sto
 
 pub stops-whole : (processor : ℕ) (s after : Packeted) → slice_get s.world.stopped processor ≡ Some false
     → is_whole s.world ≡ true → after ≡ record s { world = stopped_world processor s.world }
-    → Settles (ended s.wires (stop_acted processor (begun s) (stop_done processor s.world))) s effect.Done after
+    → Settles (ended s.wires (stop_acted processor (underway s) (stop_done processor s.world))) s effect.Done after
 stops-whole processor s after runs whole stopped =
-    subst (λ (made : Option Done). Settles (ended s.wires (stop_acted processor (begun s) made)) s effect.Done after)
+    subst (λ (made : Option Done). Settles (ended s.wires (stop_acted processor (underway s) made)) s effect.Done after)
     (sym (stop-by processor s.world true runs whole)) (refl, stopped)
 
 pub stops-none : (processor : ℕ) (s after : Packeted) → slice_get s.world.stopped processor ≡ Some false
     → is_whole s.world ≡ false → after ≡ s
-    → Settles (ended s.wires (stop_acted processor (begun s) (stop_done processor s.world))) s
+    → Settles (ended s.wires (stop_acted processor (underway s) (stop_done processor s.world))) s
     (effect.WouldStopSecond processor) after
 stops-none processor s after runs whole same =
-    subst (λ (made : Option Done). Settles (ended s.wires (stop_acted processor (begun s) made)) s
+    subst (λ (made : Option Done). Settles (ended s.wires (stop_acted processor (underway s) made)) s
     (effect.WouldStopSecond processor) after)
     (sym (stop-by processor s.world false runs whole)) (refl, same)
 
 -- Reloads
 
 pub reloads-none : (processor : ℕ) (s after : Packeted) (done : Option Done) → is_some done ≡ false
-    → after ≡ unsent s done → Settles (ended s.wires (reload_acted processor (begun s) done)) s effect.Skipped after
+    → after ≡ unsent s done → Settles (ended s.wires (reload_acted processor (underway s) done)) s effect.Skipped after
 reloads-none processor s after None none same = (refl, same)
 reloads-none processor s after (Some done) none same = absurd (cc)
 
 pub reloads-done : (processor : ℕ) (s mid after : Packeted) (done : Option Done) → is_some done ≡ true
     → mid ≡ unsent s done
     → after ≡ record mid { wires = carried_out (loaded_again mid.site.processors processor) mid.wires }
-    → Settles (ended s.wires (reload_acted processor (begun s) done)) s effect.Done after
+    → Settles (ended s.wires (reload_acted processor (underway s) done)) s effect.Done after
 reloads-done processor s mid after None some world wires = absurd (cc)
 reloads-done processor s mid after (Some done) some world wires = (
   refl,
@@ -59,7 +61,8 @@ reloads-done processor s mid after (Some done) some world wires = (
 )
 
 -- a processor that is loaded again was loaded again fewer than 127 times
-free-loads : (times : ℕ) (site : Site) (processor : ℕ) (w : World) (noted less : Bool) → nat_lt times most_reloads ≡ less
+free-loads : (times : ℕ) (site : Site) (processor : ℕ) (w : World) (noted less : Bool)
+    → nat_lt times most_reloads ≡ less
     → is_some (reload_if site processor times w (noted && less)) ≡ true → times < most_reloads
 free-loads times site processor w true true is some = ltb-true times most_reloads is
 free-loads times site processor w true false is some = absurd (cc)

@@ -2,21 +2,21 @@
 use Rattle.std.specs.Option.{option_and_then}
 use Rattle.std.proofs.Common.{◌≡◌, ℕ, ◌==◌, Bool, true, false, if◌then◌else◌, List, Option, Some, slice_get, map, refl}
 use Rattle.std.proofs.Common.{ap, sym, subst, ◌∙◌}
-use Rattle.world_semantics.specs.declared.which.Which.TheVariants.{First, Second}
-use Rattle.world_semantics.specs.declared.role.Role.TheVariants.{Gone, Watching}
-use Rattle.world_semantics.specs.Rules.{stopped_copy, stopped_pair}
-use Rattle.world_semantics.specs.Running.{Done}
-use Rattle.world_semantics.specs.World.{Copy, Pair, is_running, is_whole}
-use Rattle.world_semantics.proofs.Lists.{map-all}
-use Rattle.computed_changes.specs.Stopped.{stopped_world}
-use Rattle.machine_states.specs.States.{Settles, Skips}
-use Rattle.machine_states.specs.declared.effect.Effect.{Effect}
-use Rattle.machine_states.specs.declared.effect.Effect.TheVariants as effect
+use Rattle.node.specs.world_semantics.specs.declared.which.Which.TheVariants.{First, Second}
+use Rattle.node.specs.world_semantics.specs.declared.role.Role.TheVariants.{Gone, Watching}
+use Rattle.node.specs.world_semantics.specs.Rules.{stopped_copy, stopped_pair}
+use Rattle.node.specs.world_semantics.specs.Running.{Done}
+use Rattle.node.specs.world_semantics.specs.World.{Copy, Pair, is_running, is_whole}
+use Rattle.node.specs.world_semantics.proofs.Lists.{map-all}
+use Rattle.node.specs.computed_changes.specs.Stopped.{stopped_world}
+use Rattle.node.specs.machine_states.specs.States.{Settles, Skips}
+use Rattle.node.specs.machine_states.specs.declared.effect.Effect.{Effect}
+use Rattle.node.specs.machine_states.specs.declared.effect.Effect.TheVariants as effect
 use Rattle.open_links.specs.world_copies.specs.number_ranges.specs.HasRoom.{CopyHasRoom}
-use Rattle.packet_wires.specs.Lines.{line_pulled}
-use Rattle.packet_wires.specs.Play.{Packeted, ended, line_of, marks_and_declares, over, pulled, pulls}
-use Rattle.packet_wires.specs.Play.{pulled_first, pulls_its}
-use Rattle.packet_wires.specs.Wires.{nothing_sent, ticked}
+use Rattle.node.specs.packet_wires.specs.Lines.{line_pulled}
+use Rattle.node.specs.packet_wires.specs.Play.{Packeted, ended, line_of, marks_and_declares, over, pulled, pulls}
+use Rattle.node.specs.packet_wires.specs.Play.{pulled_running, pulls_its}
+use Rattle.node.specs.packet_wires.specs.Wires.{nothing_sent, ticked}
 use Rattle.node.specs.event_parts.specs.Numbers.{CanPush}
 use Rattle.node.specs.event_parts.specs.Parts.{carried_out}
 use Rattle.node.specs.event_parts.proofs.Numbers.{can-ticked}
@@ -107,7 +107,7 @@ pub first-settles : (s after : Packeted) (node processor : ℕ) → slice_get s.
     (record (in_tick node s) { world = stopped_world processor s.world }))
     → Settles (ended s.wires (pulled node processor (in_tick node s) (Some false))) s effect.Done after
 first-settles s after node processor runs whole same =
-    subst (λ (made : Option Done). Settles (ended s.wires (pulled_first node processor (in_tick node s) made)) s
+    subst (λ (made : Option Done). Settles (ended s.wires (pulled_running node processor (in_tick node s) made)) s
     effect.Done after) (sym (stop-by processor s.world true runs whole)) (refl, same)
 
 -- it would stop in a world that isn't whole
@@ -116,5 +116,5 @@ pub none-settles : (s after : Packeted) (node processor : ℕ) → slice_get s.w
     → Settles (ended s.wires (pulled node processor (in_tick node s) (Some false))) s
     (effect.WouldStopSecond processor) after
 none-settles s after node processor runs whole same =
-    subst (λ (made : Option Done). Settles (ended s.wires (pulled_first node processor (in_tick node s) made)) s
+    subst (λ (made : Option Done). Settles (ended s.wires (pulled_running node processor (in_tick node s) made)) s
     (effect.WouldStopSecond processor) after) (sym (stop-by processor s.world false runs whole)) (refl, same)

@@ -3,19 +3,22 @@ use Rattle.std.proofs.Common.{◌≡◌, ℕ, ℤ, ◌++◌, List, Option, Some,
 use Rattle.tal_tree.specs.declared.site.Site.{Site}
 use Rattle.alive_regroup.specs.Watching as watching
 use Rattle.alive_regroup.specs.Watching.{changed_at}
-use Rattle.world_semantics.specs.World.{World}
-use Rattle.world_semantics.specs.Running.{Done}
-use Rattle.computed_changes.specs.Changed.{change_done}
-use Rattle.computed_changes.specs.Handed.{handed_done}
-use Rattle.computed_changes.specs.Stopped.{down_done}
-use Rattle.letters.specs.Again.{sent_again}
-use Rattle.letters.specs.Routes.{letters_of}
-use Rattle.packet_wires.specs.message_layout.specs.Messages.{NodeMessage, Carrying, Changing, Reporting, Declaring}
-use Rattle.packet_wires.specs.message_layout.specs.Reading.{understood}
-use Rattle.packet_wires.specs.Parcels.{parcels_of}
-use Rattle.packet_wires.specs.Play.{Packeted, Underway, after_any, begun, handed, handed_any, handed_words, marked_by}
-use Rattle.packet_wires.specs.Play.{declared, marks, marks_and_declares, over}
-use Rattle.packet_wires.specs.Wires.{Midst, Wires, all_posted, cut_off, declares, learns, nothing_sent}
+use Rattle.node.specs.world_semantics.specs.World.{World}
+use Rattle.node.specs.world_semantics.specs.Running.{Done}
+use Rattle.node.specs.computed_changes.specs.Changed.{change_done}
+use Rattle.node.specs.computed_changes.specs.Handed.{handed_done}
+use Rattle.node.specs.computed_changes.specs.Stopped.{down_done}
+use Rattle.node.specs.letters.specs.Again.{sent_again}
+use Rattle.node.specs.letters.specs.Routes.{letters_of}
+use Rattle.node.specs.packet_wires.specs.message_layout.specs.Messages.{NodeMessage, Carrying, Changing, Reporting}
+use Rattle.node.specs.packet_wires.specs.message_layout.specs.Messages.{Declaring}
+use Rattle.node.specs.packet_wires.specs.message_layout.specs.Reading.{understood}
+use Rattle.node.specs.packet_wires.specs.Parcels.{parcels_of}
+use Rattle.node.specs.packet_wires.specs.Play.{Packeted, Underway, after_any, underway, handed, handed_any}
+use Rattle.node.specs.packet_wires.specs.Play.{handed_words}
+use Rattle.node.specs.packet_wires.specs.Play.{marked_by}
+use Rattle.node.specs.packet_wires.specs.Play.{declared, marks, marks_and_declares, over}
+use Rattle.node.specs.packet_wires.specs.Wires.{Midst, Wires, all_posted, cut_off, declares, learns, nothing_sent}
 use Rattle.node.specs.event_parts.specs.Parts.{OnlyAdds, carried_out}
 use Rattle.node.specs.event_parts.proofs.Adds.{adds-all-posted, adds-cut-off, adds-declares, adds-learns, adds-nothing}
 use Rattle.node.specs.event_parts.proofs.Adds.{adds-then}
@@ -23,7 +26,7 @@ use Rattle.node.specs.event_parts.proofs.Numbers.{can-all-posted, can-cut-off}
 use Rattle.node.specs.event_parts.specs.Numbers.{CanPush}
 use Rattle.node.specs.event_parts.proofs.Turns.{carried-then}
 use Rattle.site_machine.specs.Told.{after_part}
-use Rattle.machine_states.specs.disc_device.specs.mirror.specs.declared.state.DriveState.{DriveState}
+use Rattle.node.specs.machine_states.specs.disc_device.specs.mirror.specs.declared.state.DriveState.{DriveState}
 
 record IsPart (does : Underway → Underway) (site : Site) (w : World) (drives : List (List DriveState)) :
     Type 0 where
@@ -99,7 +102,7 @@ module _ (site : Site) (w : World) (drives : List (List DriveState)) (node : ℕ
 
 -- the same as a part of its own, after another part was carried out
 in-turn : (does : Underway → Underway) (first : Midst → Midst) (s : Packeted) → IsPart does s.site s.world s.drives
-    → over s.wires (does (record (begun s) { wires = first (nothing_sent s.wires.nodes) }))
+    → over s.wires (does (record (underway s) { wires = first (nothing_sent s.wires.nodes) }))
     ≡ after_part does (record s { wires = carried_out first s.wires })
 in-turn does first s one =
     let then : Wires = carried_out first s.wires in
@@ -109,13 +112,13 @@ in-turn does first s one =
     ∙ sym (ap (over then) (one.same (nothing_sent then.nodes)))
 
 pub handed-in-turn : (first : Midst → Midst) (node : ℕ) (words : Option (List ℤ)) (s : Packeted)
-    → over s.wires (handed_words node words (record (begun s) { wires = first (nothing_sent s.wires.nodes) }))
+    → over s.wires (handed_words node words (record (underway s) { wires = first (nothing_sent s.wires.nodes) }))
     ≡ after_part (handed_words node words) (record s { wires = carried_out first s.wires })
 handed-in-turn first node words s = in-turn (handed_words node words) first s (words-part s.site s.world s.drives
     node words)
 
 pub declared-in-turn : (first : Midst → Midst) (node processor : ℕ) (s : Packeted)
-    → over s.wires (marks_and_declares node processor (record (begun s)
+    → over s.wires (marks_and_declares node processor (record (underway s)
     { wires = first (nothing_sent s.wires.nodes) }))
     ≡ after_part (marks_and_declares node processor) (record s { wires = carried_out first s.wires })
 declared-in-turn first node processor s =
@@ -137,7 +140,7 @@ pub can-marks : (node processor : ℕ) (s : Packeted) → CanPush s.wires.nodes
     → CanPush (after_part (marks node processor) s).wires.nodes
 can-marks node processor s can = by (down_done node processor s.world)
   where
-    by : (done : Option Done) → CanPush (over s.wires (marked_by node processor (begun s) done)).wires.nodes
+    by : (done : Option Done) → CanPush (over s.wires (marked_by node processor (underway s) done)).wires.nodes
     by None = can
     by (Some done) =
         can-all-posted done.world.stopped (parcels_of done.world (letters_of s.site done.world

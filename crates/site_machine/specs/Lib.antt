@@ -2,7 +2,8 @@ pub mod Needs
 pub mod Seen
 pub mod Told
 pub use Rattle.open_links.specs.world_copies.specs.node_copies
-pub use Rattle.packet_wires
 pub use Rattle.open_links.specs.world_copies.specs.process_copies
 pub use Rattle.open_links.specs.world_copies
 pub use Rattle.open_links.specs.processes
+pub use Rattle.node.specs.message_layout
+pub use Rattle.node.specs.packet_wires

@@ -3,22 +3,22 @@ use Rattle.std.specs.Option.{unwrap_or}
 use Rattle.std.specs.Prelude.{◌≡◌, ◌++◌, ℕ, List, Option, Some, None, slice_get}
 use Rattle.std.specs.List.{All}
 use Rattle.tal_tree.specs.declared.site.Site.{Site}
-use Rattle.world_semantics.specs.World.{World}
-use Rattle.world_semantics.specs.Messages.{Message, Sending}
-use Rattle.world_semantics.specs.Running.{Done, run_done}
-use Rattle.change_layout.specs.declared.message.ChangeMessage.{ChangeMessage}
-use Rattle.computed_changes.specs.Changed.{change_done}
-use Rattle.computed_changes.specs.Entered.{enter_done}
-use Rattle.computed_changes.specs.Handed.{handed_done}
-use Rattle.computed_changes.specs.Stopped.{down_done, stop_done}
-use Rattle.letters.specs.Again.{sent_again}
-use Rattle.link_control.specs.Ends.{End, HasNumbersLeft}
-use Rattle.packet_wires.specs.message_layout.specs.Layout.{Fits, IsCarriedWithin, IsWithin}
-use Rattle.packet_wires.specs.message_layout.specs.Messages.{NodeMessage, Carrying, Changing}
-use Rattle.packet_wires.specs.Parcels.{form_of}
-use Rattle.packet_wires.specs.Nodes.{Node}
+use Rattle.node.specs.world_semantics.specs.World.{World}
+use Rattle.node.specs.world_semantics.specs.Messages.{Message, Sending}
+use Rattle.node.specs.world_semantics.specs.Running.{Done, run_done}
+use Rattle.node.specs.change_layout.specs.declared.message.ChangeMessage.{ChangeMessage}
+use Rattle.node.specs.computed_changes.specs.Changed.{change_done}
+use Rattle.node.specs.computed_changes.specs.Entered.{enter_done}
+use Rattle.node.specs.computed_changes.specs.Handed.{handed_done}
+use Rattle.node.specs.computed_changes.specs.Stopped.{down_done, stop_done}
+use Rattle.node.specs.letters.specs.Again.{sent_again}
+use Rattle.node.specs.link_control.specs.Ends.{End, HasNumbersLeft}
+use Rattle.node.specs.packet_wires.specs.message_layout.specs.Layout.{Fits, IsCarriedWithin, IsWithin}
+use Rattle.node.specs.packet_wires.specs.message_layout.specs.Messages.{NodeMessage, Carrying, Changing}
+use Rattle.node.specs.packet_wires.specs.Parcels.{form_of}
+use Rattle.node.specs.packet_wires.specs.Nodes.{Node}
 use Rattle.node.specs.event_parts.specs.Numbers.{CanPush}
-use Rattle.packet_wires.specs.Play.{Packeted}
+use Rattle.node.specs.packet_wires.specs.Play.{Packeted}
 use Rattle.open_links.specs.world_copies.specs.number_ranges.specs.HasRoom.{WorldHasRoom}
 
 -- a message that is sent in this world keeps to the layout, whole and in the form in which it goes

@@ -1,6 +1,6 @@
 -- What the machine shows.
 use Rattle.std.specs.Prelude.{Bool}
-use Rattle.packet_wires.specs.Play.{Packeted}
+use Rattle.node.specs.packet_wires.specs.Play.{Packeted}
 use Rattle.open_links.specs.world_copies.specs.Closed.{closed_world}
 
 -- a machine's state, and whether an allocation was once refused to it: then it answers so for good

@@ -1,14 +1,14 @@
 -- What becomes of the machine where something is done: first of the world, and then of the wires, to which what it
 -- sends is posted. Our own rule.
 use Rattle.std.specs.Prelude.{◌≡◌, ℕ, List, Option, Some, None}
-use Rattle.world_semantics.specs.Messages.{Sending}
-use Rattle.world_semantics.specs.Running.{Done, world_after}
-use Rattle.letters.specs.Routes.{letters_of}
-use Rattle.machine_states.specs.declared.effect.Effect.{Effect}
-use Rattle.machine_states.specs.declared.effect.Effect.TheVariants as effect
-use Rattle.packet_wires.specs.Parcels.{parcels_of}
-use Rattle.packet_wires.specs.Play.{Packeted, Underway, begun, over}
-use Rattle.packet_wires.specs.Wires.{all_posted, nothing_sent, ticked}
+use Rattle.node.specs.world_semantics.specs.Messages.{Sending}
+use Rattle.node.specs.world_semantics.specs.Running.{Done, world_after}
+use Rattle.node.specs.letters.specs.Routes.{letters_of}
+use Rattle.node.specs.machine_states.specs.declared.effect.Effect.{Effect}
+use Rattle.node.specs.machine_states.specs.declared.effect.Effect.TheVariants as effect
+use Rattle.node.specs.packet_wires.specs.Parcels.{parcels_of}
+use Rattle.node.specs.packet_wires.specs.Play.{Packeted, Underway, underway, over}
+use Rattle.node.specs.packet_wires.specs.Wires.{all_posted, nothing_sent, ticked}
 use Rattle.node.specs.event_parts.specs.Parts.{carried_out}
 
 -- the state after a change of its world, if one is made, where what that sends isn't posted yet
@@ -30,8 +30,8 @@ Answers (Some sendings) before answer after = (answer ≡ effect.Done) × (after
 
 -- the state after a part of an event that began with it
 abbrev pub after_part : (Underway → Underway) → Packeted → Packeted
-after_part part s = over s.wires (part (begun s))
+after_part part s = over s.wires (part (underway s))
 
 -- a state in the midst of a tick, after the node sent what its tick sends
 abbrev pub in_tick : ℕ → Packeted → Underway
-in_tick node s = record (begun s) { wires = ticked s.site.processors node (nothing_sent s.wires.nodes) }
+in_tick node s = record (underway s) { wires = ticked s.site.processors node (nothing_sent s.wires.nodes) }

@@ -2,18 +2,18 @@ ghost use Rattle.std.specs.Prelude.{◌≡◌, ◌&&◌, is_some, slice_get, IfO
 ghost use Rattle.std.specs.Bool.{OnFalse, OnTrue};
 ghost use Rattle.std.specs.Option.{option_map};
 ghost use Rattle.schedule.specs.declared.event.Event.TheVariants as event;
-ghost use Rattle.machine_states.specs.States.{Settles};
-ghost use Rattle.machine_states.specs.declared.effect.Effect.TheVariants as effects;
+ghost use Rattle.node.specs.machine_states.specs.States.{Settles};
+ghost use Rattle.node.specs.machine_states.specs.declared.effect.Effect.TheVariants as effects;
 ghost use Rattle.node.specs.Calls.{alive_address};
-ghost use Rattle.packet_wires.specs.Play.{begun, deliver_acted, ended, play};
-ghost use Rattle.packet_wires.specs.Wires.{bus_named, on_bus, without_packet};
-ghost use Rattle.world_semantics.specs.World.{is_running};
+ghost use Rattle.node.specs.packet_wires.specs.Play.{underway, deliver_acted, ended, play};
+ghost use Rattle.node.specs.packet_wires.specs.Wires.{bus_named, on_bus, without_packet};
+ghost use Rattle.node.specs.world_semantics.specs.World.{is_running};
 ghost use Rattle.node.specs.event_parts.specs.Parts.{completed_by, delivered, is_current_in};
 ghost use Rattle.site_machine.specs.Needs.{HaveNumbersLeft, IsReady};
 
 use crate::whole::MachineParts;
 use gd_words::{List, NoMemory};
-use machine_states::Effect;
+use node::Effect;
 use packet_words::BusName;
 
 /// The bus that events name so.
@@ -87,7 +87,7 @@ impl MachineParts {
     fn deliver_first(&mut self, bus: BusName) -> bool
         ensures alive { result ≡ is_some (alive_address (slice_get (on_bus bus self.old.wires) 0)) }
         ensures done { OnTrue result (Settles (ended (without_packet bus 0 self.old.wires)
-            (deliver_acted bus (begun self.old) (slice_get (on_bus bus self.old.wires) 0))) self.old effects.Done
+            (deliver_acted bus (underway self.old) (slice_get (on_bus bus self.old.wires) 0))) self.old effects.Done
             self.new) }
         ensures same { OnFalse result (self.new ≡ self.old) }
     {
@@ -122,7 +122,7 @@ impl MachineParts {
     fn deliver_alive(&mut self, bus: BusName, receiver: u8, sender: u8)
         requires { alive_address (slice_get (on_bus bus self.old.wires) 0) ≡ Some (receiver, sender) }
         ensures { Settles (ended (without_packet bus 0 self.old.wires)
-            (deliver_acted bus (begun self.old) (slice_get (on_bus bus self.old.wires) 0))) self.old effects.Done
+            (deliver_acted bus (underway self.old) (slice_get (on_bus bus self.old.wires) 0))) self.old effects.Done
             self.new }
     {
         if self.comes_in(bus, 0, receiver) {

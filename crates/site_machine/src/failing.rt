@@ -1,11 +1,11 @@
 ghost use Rattle.std.specs.Prelude.{◌≡◌, Some, false, slice_get};
 ghost use Rattle.schedule.specs.declared.event.Event.TheVariants as event;
-ghost use Rattle.computed_changes.specs.Stopped.{stop_done, stopped_world};
-ghost use Rattle.machine_states.specs.States.{Settles};
-ghost use Rattle.packet_wires.specs.Play.{begun, ended, play, stop_acted};
+ghost use Rattle.node.specs.computed_changes.specs.Stopped.{stop_done, stopped_world};
+ghost use Rattle.node.specs.machine_states.specs.States.{Settles};
+ghost use Rattle.node.specs.packet_wires.specs.Play.{underway, ended, play, stop_acted};
 
 use crate::whole::MachineParts;
-use machine_states::Effect;
+use node::Effect;
 
 impl MachineParts {
     /// A processor stops, if it runs, but not in a world that isn't whole.
@@ -23,7 +23,7 @@ impl MachineParts {
     fn stop_where_whole(&mut self, processor: u8) -> Effect
         requires { slice_get self.old.world.stopped processor ≡ Some false }
         ensures { Settles (ended self.old.wires
-            (stop_acted processor (begun self.old) (stop_done processor self.old.world))) self.old result self.new }
+            (stop_acted processor (underway self.old) (stop_done processor self.old.world))) self.old result self.new }
     {
         if !self.world.is_whole() {
             return Effect::WouldStopSecond(processor);

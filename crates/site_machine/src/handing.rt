@@ -1,14 +1,14 @@
 ghost use Rattle.std.specs.Prelude.{◌≡◌, IfOk, OnOk};
 ghost use Rattle.std.specs.Option.{option_and_then, option_map};
-ghost use Rattle.computed_changes.specs.Changed.{change_done};
-ghost use Rattle.computed_changes.specs.Handed.{handed_done};
-ghost use Rattle.packet_wires.specs.message_layout.specs.Layout.{Fits};
-ghost use Rattle.packet_wires.specs.message_layout.specs.Messages.{Carrying, Changing};
-ghost use Rattle.packet_wires.specs.message_layout.specs.Reading.{if_known, node_message_in};
+ghost use Rattle.node.specs.computed_changes.specs.Changed.{change_done};
+ghost use Rattle.node.specs.computed_changes.specs.Handed.{handed_done};
+ghost use Rattle.node.specs.packet_wires.specs.message_layout.specs.Layout.{Fits};
+ghost use Rattle.node.specs.packet_wires.specs.message_layout.specs.Messages.{Carrying, Changing};
+ghost use Rattle.node.specs.packet_wires.specs.message_layout.specs.Reading.{if_known, node_message_in};
 ghost use Rattle.node.specs.message_words.specs.Seen as seen;
 ghost use Rattle.open_links.specs.world_copies.specs.node_copies.specs.Seen.{step_sendings};
 ghost use Rattle.open_links.specs.world_copies.specs.number_ranges.specs.HasRoom.{WorldHasRoom};
-ghost use Rattle.packet_wires.specs.Play.{handed, handed_any, handed_words};
+ghost use Rattle.node.specs.packet_wires.specs.Play.{handed, handed_any, handed_words};
 ghost use Rattle.open_links.specs.sendings.specs.Seen.{message_of};
 ghost use Rattle.open_links.specs.world_copies.specs.Room.{NamesItsOpener};
 ghost use Rattle.open_links.specs.world_copies.specs.Told.{sent_in};
@@ -16,12 +16,10 @@ ghost use Rattle.site_machine.specs.Needs.{CanHand, IsReadWithin};
 ghost use Rattle.site_machine.specs.Told.{after_part, unsent};
 
 use crate::whole::MachineParts;
-use change_layout::ChangeMessage;
 use gd_words::{List, NoMemory};
 use logs::Shared;
-use node::message_words::{NodeMessage, read};
-use open_links::sendings::Message;
-use open_links::world_copies::node_copies::StepOutcome;
+use node::{ChangeMessage, NodeMessage, read};
+use open_links::{Message, StepOutcome};
 
 impl MachineParts {
     /// The words of a whole message are handed over at a node, where there are any.

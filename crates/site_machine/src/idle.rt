@@ -1,7 +1,7 @@
 ghost use Rattle.std.specs.Prelude.{◌≡◌};
 ghost use Rattle.std.specs.List.{list_all};
-ghost use Rattle.packet_wires.specs.Idle.{all_quiet, is_idle, is_quiet};
-ghost use Rattle.packet_wires.specs.Nodes.{all_nodes};
+ghost use Rattle.node.specs.packet_wires.specs.Idle.{all_quiet, is_idle, is_quiet};
+ghost use Rattle.node.specs.packet_wires.specs.Nodes.{all_nodes};
 
 use crate::whole::MachineParts;
 
@@ -15,7 +15,7 @@ impl MachineParts {
     {
         self.world.none_enters()
             && self.world.none_runs()
-            && self.world.none_waits()
+            && self.world.none_awaits_taking()
             && self.all_quiet()
             && self.world.all_marked()
     }

@@ -1,13 +1,14 @@
 ghost use Rattle.std.specs.Prelude.{◌≡◌, drop, length, nat_lt, not};
 ghost use Rattle.std.specs.List.{list_all};
-ghost use Rattle.plain_semantics.specs.Openers.{openers_of};
-ghost use Rattle.packet_wires.specs.message_layout.specs.Messages.{has_members, has_opener, has_process, has_processor};
-ghost use Rattle.packet_wires.specs.message_layout.specs.Messages.{is_known};
+ghost use Rattle.node.specs.plain_semantics.specs.Openers.{openers_of};
+ghost use Rattle.node.specs.packet_wires.specs.message_layout.specs.Messages.{has_members, has_opener, has_process};
+ghost use Rattle.node.specs.packet_wires.specs.message_layout.specs.Messages.{has_processor};
+ghost use Rattle.node.specs.packet_wires.specs.message_layout.specs.Messages.{is_known};
 ghost use Rattle.node.specs.message_words.specs.Seen.{message_of};
 
 use crate::whole::MachineParts;
 use alive_regroup::ProcessorSet;
-use node::message_words::NodeMessage;
+use node::NodeMessage;
 
 impl MachineParts {
     /// Whether the site has all that a message names.

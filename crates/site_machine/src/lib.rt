@@ -1,9 +1,9 @@
 //! The machine over packets: the world of copies in code, and under it both buses and all nodes.
 //!
 //! Below stand `world_copies` with the world, `node` with the wires, `message_words` with messages in words,
-//! `open_links` with the links of a node, and `packet_wires` with what each event makes of a state. The layer above uses
-//! that each call settles what `play` says. An event requires that each number which it raises has a successor, and that
-//! what it sends keeps to the layout (`specs/Needs.antt`).
+//! `open_links` with the links of a node, and `packet_wires` with what each event makes of a state. The layer above
+//! uses that each call settles what `play` says. An event requires that each number which it raises has a successor,
+//! and that what it sends keeps to the layout (`specs/Needs.antt`).
 #![tactic(auto)]
 
 mod delivering;
@@ -22,6 +22,8 @@ mod whole;
 mod wording;
 
 pub use machine::Machine;
-pub use machine_states;
-pub use open_links::world_copies::{node_copies, process_copies};
-pub use open_links::{NodeLinks, RequestName, process_control, processes, world_copies};
+pub use node::{Effect, set_of};
+pub use open_links::{
+    CopyControl, CopyShare, Downs, NodeCopy, NodeLinks, Process, ProcessCopies, RequestName,
+    Terminal, Waiting, a_closed_world_has_the_closed_run, copy_request,
+};

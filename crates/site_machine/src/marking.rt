@@ -1,17 +1,17 @@
 ghost use Rattle.std.specs.Prelude.{◌≡◌, ◌++◌, IfOk, OnOk};
-ghost use Rattle.computed_changes.specs.Stopped.{world_at_down};
-ghost use Rattle.letters.specs.Again.{sent_again};
+ghost use Rattle.node.specs.computed_changes.specs.Stopped.{world_at_down};
+ghost use Rattle.node.specs.letters.specs.Again.{sent_again};
 ghost use Rattle.node.specs.event_parts.specs.Numbers.{CanPush};
 ghost use Rattle.node.specs.event_parts.specs.Parts.{carried_out};
-ghost use Rattle.packet_wires.specs.Play.{after_marked, marks};
-ghost use Rattle.packet_wires.specs.Wires.{cut_off};
+ghost use Rattle.node.specs.packet_wires.specs.Play.{after_marked, marks};
+ghost use Rattle.node.specs.packet_wires.specs.Wires.{cut_off};
 ghost use Rattle.open_links.specs.world_copies.specs.Room.{AllWatchersHaveRoom};
 ghost use Rattle.site_machine.specs.Needs.{AreWithin, MarksWithin};
 ghost use Rattle.site_machine.specs.Told.{after_part};
 
 use crate::whole::MachineParts;
 use gd_words::{List, NoMemory};
-use open_links::sendings::Sending;
+use open_links::Sending;
 
 impl MachineParts {
     /// A node marks a processor that has stopped, unless it has marked it before.

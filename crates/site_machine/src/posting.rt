@@ -7,9 +7,8 @@ ghost use Rattle.site_machine.specs.Told.{Answers, sent_all};
 use crate::whole::MachineParts;
 use crate::wording::words_of;
 use gd_words::{List, NoMemory};
-use machine_states::Effect;
-use open_links::sendings::Sending;
-use open_links::world_copies::node_copies::StepOutcome;
+use node::Effect;
+use open_links::{Sending, StepOutcome};
 
 impl MachineParts {
     /// A message is sent at a node, where that runs: to where the node finds the receiver, and a checkpoint in the form

@@ -1,18 +1,18 @@
 ghost use Rattle.std.specs.Prelude.{◌≡◌, is_some, IfOk, OnOk};
 ghost use Rattle.schedule.specs.declared.event.Event.TheVariants as event;
-ghost use Rattle.computed_changes.specs.Stopped.{reload_done};
-ghost use Rattle.machine_states.specs.States.{Settles};
+ghost use Rattle.node.specs.computed_changes.specs.Stopped.{reload_done};
+ghost use Rattle.node.specs.machine_states.specs.States.{Settles};
 ghost use Rattle.node.specs.event_parts.specs.Numbers.{CanReload};
 ghost use Rattle.node.specs.event_parts.specs.Parts.{carried_out};
 ghost use Rattle.open_links.specs.world_copies.specs.number_ranges.specs.HasRoom.{WorldHasRoom};
-ghost use Rattle.packet_wires.specs.Play.{play};
-ghost use Rattle.packet_wires.specs.Wires.{loaded_again};
+ghost use Rattle.node.specs.packet_wires.specs.Play.{play};
+ghost use Rattle.node.specs.packet_wires.specs.Wires.{loaded_again};
 ghost use Rattle.site_machine.specs.Needs.{IsReady};
 ghost use Rattle.site_machine.specs.Told.{unsent};
 
 use crate::whole::MachineParts;
 use gd_words::NoMemory;
-use machine_states::Effect;
+use node::Effect;
 
 impl MachineParts {
     /// A processor is loaded again, where it can be. Nothing is sent.

@@ -1,19 +1,19 @@
 ghost use Rattle.std.specs.Prelude.{◌≡◌, IfOk, OnOk};
 ghost use Rattle.schedule.specs.declared.event.Event.TheVariants as event;
-ghost use Rattle.computed_changes.specs.Entered.{enter_done};
-ghost use Rattle.world_semantics.specs.Running.{run_done};
-ghost use Rattle.machine_states.specs.States.{Settles};
+ghost use Rattle.node.specs.computed_changes.specs.Entered.{enter_done};
+ghost use Rattle.node.specs.world_semantics.specs.Running.{run_done};
+ghost use Rattle.node.specs.machine_states.specs.States.{Settles};
 ghost use Rattle.open_links.specs.world_copies.specs.node_copies.specs.Seen.{step_sendings};
 ghost use Rattle.open_links.specs.world_copies.specs.number_ranges.specs.HasRoom.{WorldHasRoom};
-ghost use Rattle.packet_wires.specs.Play.{play};
+ghost use Rattle.node.specs.packet_wires.specs.Play.{play};
 ghost use Rattle.open_links.specs.world_copies.specs.Told.{sent_in};
 ghost use Rattle.site_machine.specs.Needs.{IsReady};
 ghost use Rattle.site_machine.specs.Told.{unsent};
 
 use crate::whole::MachineParts;
 use gd_words::NoMemory;
-use machine_states::Effect;
-use open_links::world_copies::node_copies::StepOutcome;
+use node::Effect;
+use open_links::StepOutcome;
 
 impl MachineParts {
     /// A process runs.

@@ -2,16 +2,16 @@ ghost use Rattle.std.specs.Prelude.{◌≡◌, slice_get, IfOk, OnOk, Some};
 ghost use Rattle.schedule.specs.declared.event.Event.TheVariants as event;
 ghost use Rattle.node.specs.event_parts.specs.Numbers.{CanPush};
 ghost use Rattle.node.specs.event_parts.specs.Parts.{carried_out};
-ghost use Rattle.machine_states.specs.States.{Settles};
-ghost use Rattle.packet_wires.specs.Play.{ended, marks_and_declares, play, pulled, pulls};
-ghost use Rattle.packet_wires.specs.Wires.{declares, ticked};
+ghost use Rattle.node.specs.machine_states.specs.States.{Settles};
+ghost use Rattle.node.specs.packet_wires.specs.Play.{ended, marks_and_declares, play, pulled, pulls};
+ghost use Rattle.node.specs.packet_wires.specs.Wires.{declares, ticked};
 ghost use Rattle.open_links.specs.world_copies.specs.Room.{AllWatchersHaveRoom};
 ghost use Rattle.site_machine.specs.Needs.{IsReady, MarksWithin};
 ghost use Rattle.site_machine.specs.Told.{after_part, in_tick};
 
 use crate::whole::MachineParts;
 use gd_words::NoMemory;
-use machine_states::Effect;
+use node::Effect;
 
 impl MachineParts {
     /// The tick of a node: it sends what a tick sends, and pulls the line of a processor of which all agree that it is
@@ -54,8 +54,8 @@ impl MachineParts {
         }
     }
 
-    /// A node ticks, and pulls the line of a processor that is there. Where that runs, it stops, but not in a world that
-    /// isn't whole. The node marks it, and tells the others.
+    /// A node ticks, and pulls the line of a processor that is there. If that one runs, it stops, but not in a world
+    /// that isn't whole. The node marks it, and tells the others.
     fn tick_and_mark(&mut self, node: u8, processor: u8, stopped: bool) -> Result<Effect, NoMemory>
         requires ready { IsReady self.old }
         requires stopped { slice_get self.old.world.stopped processor ≡ Some stopped }

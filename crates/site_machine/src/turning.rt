@@ -1,9 +1,9 @@
 ghost use Rattle.schedule.specs.declared.event.Event.TheVariants as event;
-ghost use Rattle.machine_states.specs.States.{Settles};
-ghost use Rattle.packet_wires.specs.Play.{play};
+ghost use Rattle.node.specs.machine_states.specs.States.{Settles};
+ghost use Rattle.node.specs.packet_wires.specs.Play.{play};
 
 use crate::whole::MachineParts;
-use machine_states::Effect;
+use node::Effect;
 use schedule::DriveEvent;
 
 impl MachineParts {

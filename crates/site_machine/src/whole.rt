@@ -1,12 +1,12 @@
 ghost use Rattle.std.specs.Prelude.{◌≡◌, IfOk, OnOk};
-ghost use Rattle.packet_wires.specs.Play.{packeted_at_boot};
+ghost use Rattle.node.specs.packet_wires.specs.Play.{packeted_at_boot};
 ghost use Rattle.open_links.specs.world_copies.specs.process_copies.specs.Starting.{IsStartable};
 ghost use Rattle.site_machine.specs.Seen.{closed_state};
 
 use gd_words::NoMemory;
 use logs::Shared;
 use node::PacketWires;
-use open_links::world_copies::WorldCopies;
+use open_links::WorldCopies;
 use std::alloc::Global;
 use std::marker::Model;
 use tal_tree::Site;
@@ -22,7 +22,7 @@ pub struct MachineParts {
 impl Model for MachineParts {
     ghost use Rattle.std.specs.Coded.{codes};
     ghost use Rattle.tal_tree.specs.contracts.statement.Statement as statement;
-    ghost use Rattle.packet_wires.specs.Play as play;
+    ghost use Rattle.node.specs.packet_wires.specs.Play as play;
 
     ghost Value = { play.Packeted };
 

@@ -1,17 +1,13 @@
 ghost use Rattle.std.specs.Prelude.{◌≡◌, IfOk};
 ghost use Rattle.std.specs.Option.{option_copied};
-ghost use Rattle.packet_wires.specs.message_layout.specs.Layout.{IsCarriedWithin, IsWithin, words_of};
-ghost use Rattle.packet_wires.specs.message_layout.specs.world_semantics.specs.Messages.{Checkpointing};
-ghost use Rattle.packet_wires.specs.Parcels.{form_after, form_of};
+ghost use Rattle.node.specs.packet_wires.specs.message_layout.specs.Layout.{IsCarriedWithin, IsWithin, words_of};
+ghost use Rattle.node.specs.packet_wires.specs.message_layout.specs.world_semantics.specs.Messages.{Checkpointing};
+ghost use Rattle.node.specs.packet_wires.specs.Parcels.{form_after, form_of};
 ghost use Rattle.open_links.specs.sendings.specs.Seen.{message_of};
 
-use checkpoint_image::ImageMessage;
 use gd_words::{List, NoMemory};
-use node::message_words::{
-    change_words, checkpoint_words, reply_words, request_words, taken_words,
-};
-use open_links::sendings::Message;
-use open_links::world_copies::WorldCopies;
+use node::{ImageMessage, change_words, checkpoint_words, reply_words, request_words, taken_words};
+use open_links::{Message, WorldCopies};
 use std::alloc::Global;
 
 /// The words of a message that was sent in this world last, in the form in which it goes.

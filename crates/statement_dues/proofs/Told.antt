@@ -1,6 +1,6 @@
 -- What is told of each entry of a program, by its entries as they are lent.
 use Rattle.std.proofs.Common.{◌≡◌, List, [], ◌∷◌, ◌++◌, flat_map, map, refl, ap, ◌∙◌}
-use Rattle.path_semantics.specs.declared.reason.Reason.{Reason}
+use Rattle.reason_dues.specs.path_semantics.specs.declared.reason.Reason.{Reason}
 use Rattle.process_semantics.specs.SeenEntries.{entry_of}
 use Rattle.process_semantics.specs.State.{Entry}
 use Rattle.process_semantics.specs.declared.entry.Entry.{Entry as Borrowed}

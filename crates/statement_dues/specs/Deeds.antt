@@ -3,8 +3,8 @@ use Rattle.std.specs.Prelude.{◌==◌, Bool, false, not, min, if◌then◌else�
 use Rattle.tal_tree.specs.declared.program.Program.{Program}
 use Rattle.tal_tree.specs.declared.statement.What.{out-What}
 use Rattle.process_semantics.specs.State.{Entry, Run, Test, Last}
-use Rattle.path_semantics.specs.declared.reason.Reason.{Reason}
-use Rattle.path_semantics.specs.Dues.{changed_by_return}
+use Rattle.reason_dues.specs.path_semantics.specs.declared.reason.Reason.{Reason}
+use Rattle.reason_dues.specs.path_semantics.specs.Dues.{changed_by_return}
 use Rattle.program_entries.specs.Entries.{entries_of}
 use Rattle.reason_dues.specs.Amounts.{after_entry, after_changed, clears}
 use Rattle.statement_dues.specs.declared.deeds.Deed.{Deed}

@@ -4,10 +4,9 @@ ghost use Rattle.statement_dues.specs.Deeds as spec;
 ghost use Rattle.statement_dues.specs.Deeds.{deed_of, is_checkpoint};
 
 use gd_words::{List, NoMemory};
-use path_semantics::Reason;
 use process_semantics::Entry;
 use program_entries::entries_of;
-use reason_dues::{after_entry, after_return};
+use reason_dues::{Reason, after_entry, after_return};
 use std::alloc::Global;
 use tal_tree::{Program, What};
 

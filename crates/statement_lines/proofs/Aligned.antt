@@ -3,8 +3,8 @@ use Rattle.std.proofs.Common.{◌≡◌, inl, inr, ℕ, zero, suc, ◌+◌, arit
 use Rattle.std.proofs.Common.{slice_get, flat_map, refl, ap, subst, sym, ◌∙◌}
 use Rattle.std.specs.Option.{unwrap_or}
 use Rattle.std.proofs.lemmas.List.{length-append}
-use Rattle.gd_words.specs.Members.{IsAmong}
-use Rattle.gd_words.proofs.Among.{among-either, among-given}
+use Rattle.tal_tree.specs.gd_words.specs.Members.{IsAmong}
+use Rattle.tal_tree.specs.gd_words.proofs.Among.{among-either, among-given}
 use Rattle.tal_tree.specs.ByStatements.{HoldsInside, by-statements}
 use Rattle.tal_tree.specs.Ordered.{IsNumbered, numbers_in_all}
 use Rattle.tal_tree.specs.Statements.{all_of, numbers_of}

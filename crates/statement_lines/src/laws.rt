@@ -1,5 +1,5 @@
 ghost use Rattle.std.specs.Prelude.{◌≡◌, ◌+◌, ℕ, ℤ, Bool, List, length};
-ghost use Rattle.gd_words.specs.Members.{IsAmong};
+ghost use Rattle.tal_tree.specs.gd_words.specs.Members.{IsAmong};
 ghost use Rattle.tal_tree.specs.Ordered.{IsNumbered, numbers_in_all};
 ghost use Rattle.tal_tree.specs.Statements.{all_of};
 ghost use Rattle.tal_tree.specs.declared.expression.Expr.{Expr};

@@ -2,9 +2,8 @@ ghost use Rattle.std.specs.Prelude.{◌≡◌, ◌++◌, IfOk, OnOk};
 ghost use Rattle.statement_lines.specs.Lines as spec;
 ghost use Rattle.statement_lines.specs.Lines.{lines_before, lines_in, lines_within};
 
-use gd_words::{List, NoMemory};
 use std::alloc::Global;
-use tal_tree::{Program, Statement, What};
+use tal_tree::{List, NoMemory, Program, Statement, What};
 
 /// The lines of a program's statements by their numbers: the line of number 1 first. A FOR's line stands there for each
 /// of its three numbers, and a DO's, which is that of its UNTIL, behind those of its body.

@@ -1,4 +1,4 @@
-use checkpoint_image::gd_words::{List, Words};
+use checkpoint_image::{List, Words};
 
 /// What changed of one opener: its place, the number last taken from it now, and the replies that are kept now and
 /// were not kept then, the oldest first.

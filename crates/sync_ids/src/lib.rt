@@ -17,7 +17,12 @@ pub mod since;
 
 pub use asker::Asker;
 pub use change::{OpenerChange, ReceiveChange};
-pub use checkpoint_image;
-pub use checkpoint_image::gd_words;
+pub use checkpoint_image::putting::{
+    put_count, put_counted, put_files, put_long, put_place, put_replies,
+};
+pub use checkpoint_image::reading::{
+    ReadingFault, contents_in, count_in, heading_in, many_replies, pair_in, place_in,
+};
+pub use checkpoint_image::{FileNumber, ImageMessage, List, NoMemory};
 pub use receive::Receive;
 pub use since::change_between;

@@ -9,8 +9,7 @@ ghost use Rattle.sync_ids.specs.Tables.{is_of_depth};
 
 use crate::change::OpenerChange;
 use crate::since::put_copies;
-use checkpoint_image::gd_words::{List, NoMemory, Words};
-use checkpoint_image::{OpenerBlock, RequestStanding};
+use checkpoint_image::{List, NoMemory, OpenerBlock, RequestStanding, Words};
 use circular_buffer::HeapCircularBuffer;
 use std::alloc::Global;
 

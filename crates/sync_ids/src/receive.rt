@@ -7,9 +7,9 @@ ghost use Rattle.sync_ids.specs.Openers.{block_of, depth_of, untaken_of};
 ghost use Rattle.sync_ids.specs.Tables.{IsDepth, IsSound, are_of_depths, can_hold, fits, last_taken, nothing_taken};
 
 use crate::opener::Opener;
-use checkpoint_image::gd_words::{List, NoMemory, Words};
-use checkpoint_image::tal_tree::OpenerSpec;
-use checkpoint_image::{OpenerBlock, ReceiveBlock, RequestStanding};
+use checkpoint_image::{
+    List, NoMemory, OpenerBlock, OpenerSpec, ReceiveBlock, RequestStanding, Words,
+};
 use std::alloc::Global;
 use std::marker::Model;
 

@@ -3,8 +3,7 @@ ghost use Rattle.checkpoint_image.specs.Receive.{answered, is_place, last_ones};
 ghost use Rattle.sync_ids.specs.Changes.{change_at, change_between, changes_from, is_untouched};
 
 use crate::change::{OpenerChange, ReceiveChange};
-use checkpoint_image::gd_words::{List, NoMemory, Words};
-use checkpoint_image::{OpenerBlock, ReceiveBlock};
+use checkpoint_image::{List, NoMemory, OpenerBlock, ReceiveBlock, Words};
 use std::alloc::Global;
 
 /// What changed from a receive table to a later one. It takes memory for what changed alone.

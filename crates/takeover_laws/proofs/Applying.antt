@@ -10,8 +10,8 @@ use Rattle.tal_tree.specs.declared.act.Act.TheVariants.{Step}
 use Rattle.process_semantics.specs.declared.point.Point.TheVariants as point
 use Rattle.process_semantics.specs.Process as process
 use Rattle.process_semantics.specs.declared.point.Point.{Point}
-use Rattle.checkpoint_image.specs.declared.message.ImageMessage.{ImageMessage}
-use Rattle.checkpoint_image.specs.declared.message.TakenMessage.{TakenMessage}
+use Rattle.world_semantics.specs.checkpoint_image.specs.declared.message.ImageMessage.{ImageMessage}
+use Rattle.world_semantics.specs.checkpoint_image.specs.declared.message.TakenMessage.{TakenMessage}
 use Rattle.world_semantics.specs.declared.role.Role.TheVariants.{Watching}
 use Rattle.world_semantics.specs.Core.{Core, Deed, Checkpointed, marks, after_passing, carried, put_in}
 use Rattle.world_semantics.specs.Core.{imaged_core}
@@ -24,8 +24,8 @@ use Rattle.world_semantics.specs.Passes.{kept_at, taken_of}
 use Rattle.world_semantics.proofs.Lists.{some-same}
 use Rattle.world_semantics.proofs.Counting.{own-one, own-step}
 use Rattle.world_semantics.specs.Shares.{acts_at}
-use Rattle.process_histories.specs.Bounds.{AreBounded}
-use Rattle.process_histories.specs.Histories.{HasDone, one_more}
+use Rattle.plain_histories.specs.process_histories.specs.Bounds.{AreBounded}
+use Rattle.plain_histories.specs.process_histories.specs.Histories.{HasDone, one_more}
 use Rattle.discipline_laws.specs.Disciplined.{IsDisciplined}
 use Rattle.discipline_laws.proofs.Resuming.{bounded-since, renew-from}
 use Rattle.plain_histories.specs.Agreeing.{AreRegular}

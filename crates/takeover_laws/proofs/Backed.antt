@@ -12,23 +12,25 @@ use Rattle.tal_tree.specs.declared.site.Who.{Who}
 use Rattle.tal_tree.specs.declared.site.Who.TheVariants as who
 use Rattle.process_semantics.specs.declared.point.Point.TheVariants as point
 use Rattle.process_semantics.specs.Process as process
-use Rattle.plain_semantics.specs.Openers.{files_of, openers_of, opener_of}
-use Rattle.plain_semantics.specs.declared.slot.Opener.{Opener}
-use Rattle.disc_device.specs.Sectors.{Stored}
-use Rattle.checkpoint_image.specs.Receive.{is_place}
-use Rattle.checkpoint_image.specs.declared.receive.OpenerBlock.{OpenerBlock}
+use Rattle.world_semantics.specs.plain_semantics.specs.Openers.{files_of, openers_of, opener_of}
+use Rattle.world_semantics.specs.plain_semantics.specs.declared.slot.Opener.{Opener}
+use Rattle.world_semantics.specs.disc_device.specs.Sectors.{Stored}
+use Rattle.world_semantics.specs.checkpoint_image.specs.Receive.{is_place}
+use Rattle.world_semantics.specs.checkpoint_image.specs.declared.receive.OpenerBlock.{OpenerBlock}
 use Rattle.world_semantics.specs.Core.{Core, Deed, Went, Checkpointed, Took, Asked, Got, Answered, Acted, Advances}
 use Rattle.world_semantics.specs.Core.{goes, marks, takes, asks, gets, answers, acts, next_on}
 use Rattle.world_semantics.specs.Own.{found_on, is_new_write}
 use Rattle.world_semantics.proofs.Lists.{some-same}
-use Rattle.process_histories.specs.Devices.{after_call, sectors_after, FoundWhatStood}
-use Rattle.process_histories.specs.Histories.{HasDone, one_more}
-use Rattle.process_histories.specs.Words.{ask_on, get_on, answer_to, requests_on, replies_on, answered_to, taken_from}
-use Rattle.process_histories.specs.Words.{awaits_on, one_if}
-use Rattle.process_histories.proofs.Counts.{if-same, asked-count, taken-count, taken-number, next-number, one-awaited}
-use Rattle.process_histories.proofs.OneKind.{files-same}
-use Rattle.process_histories.proofs.Deeds.{point_of, stands-there}
-use Rattle.process_histories.proofs.Writes.{write-new, write-done}
+use Rattle.plain_histories.specs.process_histories.specs.Devices.{after_call, sectors_after, FoundWhatStood}
+use Rattle.plain_histories.specs.process_histories.specs.Histories.{HasDone, one_more}
+use Rattle.plain_histories.specs.process_histories.specs.Words.{ask_on, get_on, answer_to, requests_on, replies_on}
+use Rattle.plain_histories.specs.process_histories.specs.Words.{answered_to, taken_from}
+use Rattle.plain_histories.specs.process_histories.specs.Words.{awaits_on, one_if}
+use Rattle.plain_histories.specs.process_histories.proofs.Counts.{if-same, asked-count, taken-count, taken-number}
+use Rattle.plain_histories.specs.process_histories.proofs.Counts.{next-number, one-awaited}
+use Rattle.plain_histories.specs.process_histories.proofs.OneKind.{files-same}
+use Rattle.plain_histories.specs.process_histories.proofs.Deeds.{point_of, stands-there}
+use Rattle.plain_histories.specs.process_histories.proofs.Writes.{write-new, write-done}
 use Rattle.discipline_laws.specs.Disciplined.{AreIdle}
 use Rattle.plain_histories.specs.Agreeing.{AreRegular}
 use Rattle.plain_histories.specs.Booking.{AreBooked, IsAllowed}

@@ -9,7 +9,7 @@ use Rattle.world_semantics.specs.declared.which.Which.{Which}
 use Rattle.world_semantics.specs.declared.which.Which.TheVariants.{First, Second}
 use Rattle.world_semantics.specs.World.{Pair, Terminal, boot, pair_at_boot, pairs_at_boot, copy_of}
 use Rattle.world_semantics.proofs.Lists.{some-same, mapped}
-use Rattle.process_histories.specs.Histories.{nothing_done}
+use Rattle.plain_histories.specs.process_histories.specs.Histories.{nothing_done}
 use Rattle.plain_histories.specs.Booking.{none_booked, none_held}
 use Rattle.plain_histories.specs.Ledgers.{empty_ledger}
 use Rattle.takeover_laws.specs.Invariant.{is_level, is_even, with_other, by_first, IsAsked, IsSound, IsSoundTerminal}

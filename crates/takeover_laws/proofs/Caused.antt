@@ -9,15 +9,15 @@ use Rattle.tal_tree.specs.declared.act.Act.{Act}
 use Rattle.tal_tree.specs.declared.site.Site.{Site}
 use Rattle.tal_tree.specs.declared.site.ProcessSpec.{ProcessSpec}
 use Rattle.tal_tree.specs.declared.site.Who.TheVariants as who
-use Rattle.plain_semantics.specs.Openers.{opener_of}
-use Rattle.plain_semantics.specs.declared.slot.Opener.{Opener}
-use Rattle.disc_device.specs.Sectors.{stored_after}
+use Rattle.world_semantics.specs.plain_semantics.specs.Openers.{opener_of}
+use Rattle.world_semantics.specs.plain_semantics.specs.declared.slot.Opener.{Opener}
+use Rattle.world_semantics.specs.disc_device.specs.Sectors.{stored_after}
 use Rattle.world_semantics.specs.Core.{Core, Deed, Checkpointed, Asked, Acted, next_on}
 use Rattle.world_semantics.specs.Messages.{Message, Cause}
 use Rattle.world_semantics.specs.Own.{Around, request_to, found_on, is_new_write, Causes, by_inner, by_take, by_ask}
 use Rattle.world_semantics.specs.Own.{by_answer, by_device, by_write, by_reply}
 use Rattle.world_semantics.proofs.Waiting.{chosen-rest}
-use Rattle.process_histories.specs.Devices.{sectors_after}
+use Rattle.plain_histories.specs.process_histories.specs.Devices.{sectors_after}
 use Rattle.plain_histories.specs.Booking.{act_of, shown_of}
 use Rattle.plain_histories.specs.Ledgers.{Ledger}
 use Rattle.takeover_laws.specs.Invariant.{IsAsked, IsAnswered}

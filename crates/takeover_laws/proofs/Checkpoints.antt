@@ -8,8 +8,8 @@ use Rattle.tal_tree.specs.declared.site.ProcessSpec.{ProcessSpec}
 use Rattle.process_semantics.specs.declared.point.Point.{Point}
 use Rattle.process_semantics.specs.declared.point.Point.TheVariants as point
 use Rattle.process_semantics.specs.Process as process
-use Rattle.checkpoint_image.specs.declared.message.ImageMessage.{ImageMessage}
-use Rattle.checkpoint_image.specs.declared.message.TakenMessage.{TakenMessage}
+use Rattle.world_semantics.specs.checkpoint_image.specs.declared.message.ImageMessage.{ImageMessage}
+use Rattle.world_semantics.specs.checkpoint_image.specs.declared.message.TakenMessage.{TakenMessage}
 use Rattle.world_semantics.specs.declared.role.Role.TheVariants.{Acting}
 use Rattle.world_semantics.specs.Core.{Core, Deed, Went, Checkpointed, Took, Asked, Got, Answered, Acted, after_passing}
 use Rattle.world_semantics.specs.Core.{imaged_core}
@@ -20,7 +20,7 @@ use Rattle.world_semantics.specs.Passes.{Passes, by_send, by_pass_again, by_pass
 use Rattle.world_semantics.specs.Passes.{by_apply_behind, by_end}
 use Rattle.world_semantics.proofs.Roles.{RolesOf}
 pub use Rattle.world_semantics.proofs.Steady.{marked-down}
-use Rattle.process_histories.proofs.Deeds.{point_of}
+use Rattle.plain_histories.specs.process_histories.proofs.Deeds.{point_of}
 use Rattle.takeover_laws.specs.Invariant.{IsRepeatable, Stage, IsOther, is_lost, is_due, is_even, has_applied}
 use Rattle.takeover_laws.specs.Invariant.{exchanged, has_renewed, is_blank}
 

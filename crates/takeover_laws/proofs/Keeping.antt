@@ -24,7 +24,7 @@ use Rattle.takeover_laws.proofs.Changing.{stopped-waiting, ended-waiting, reload
 use Rattle.takeover_laws.proofs.Changing.{reloaded-waiting}
 use Rattle.takeover_laws.proofs.Processes.{IsFor, SoundAs, own-keeps, waiting-keeps, checkpoint-keeps}
 use Rattle.takeover_laws.proofs.Terminals.{enter-keeps, print-keeps}
-use Rattle.process_histories.specs.Histories.{HasDone, nothing_done}
+use Rattle.plain_histories.specs.process_histories.specs.Histories.{HasDone, nothing_done}
 
 not-equal : (a b : ℕ) → a ≢ b → (a == b) ≡ false
 not-equal a b apart = by (a == b) refl

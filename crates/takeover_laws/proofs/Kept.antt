@@ -2,7 +2,7 @@
 use Rattle.std.proofs.Common.{◌≡◌, ◌<◌, ◌≤◌, ℕ, ◌+◌, List, [], ◌∷◌, length, reverse, refl, ap, subst, arith, is_some}
 use Rattle.tal_tree.specs.declared.site.Site.{Site}
 use Rattle.schedule.specs.declared.event.Event.{Event}
-use Rattle.plain_semantics.specs.Machine.{IsPossible, shown_by}
+use Rattle.world_semantics.specs.plain_semantics.specs.Machine.{IsPossible, shown_by}
 use Rattle.world_semantics.specs.Follows.{Follows, runs, cannot_run, enters, cannot_enter, delivers_none, delivers}
 use Rattle.world_semantics.specs.Follows.{delivers_mark, loses, doubles, ticks_none, ticks, ticks_stop, fails}
 use Rattle.world_semantics.specs.Follows.{turns_drive, cannot_fail, NotesDowns, marks_none, marks_one, Leads, stays}

@@ -7,12 +7,12 @@ use Rattle.tal_tree.specs.declared.act.Act.TheVariants.{Step}
 use Rattle.tal_tree.specs.declared.act.Shown.{Shown}
 use Rattle.tal_tree.specs.declared.site.ProcessSpec.{ProcessSpec}
 use Rattle.tal_tree.specs.declared.site.Site.{Site}
-use Rattle.plain_semantics.specs.Openers.{openers_of}
+use Rattle.world_semantics.specs.plain_semantics.specs.Openers.{openers_of}
 use Rattle.world_semantics.specs.Core.{Core, Deed, Went, Checkpointed, Took, Asked, Got, Answered, Acted, Advances}
 use Rattle.world_semantics.specs.World.{Copy}
 use Rattle.world_semantics.specs.Kept.{Enters, holds_on, repeats, begins, keeps, own_acts}
-use Rattle.process_histories.specs.Histories.{HasDone, one_more}
-use Rattle.process_histories.proofs.Deeds.{done-before, done-last, stands-there}
+use Rattle.plain_histories.specs.process_histories.specs.Histories.{HasDone, one_more}
+use Rattle.plain_histories.specs.process_histories.proofs.Deeds.{done-before, done-last, stands-there}
 use Rattle.discipline_laws.specs.Disciplined.{AreUncheckpointed, AreInner, AreIdle, IsDisciplined}
 use Rattle.plain_histories.specs.Agreeing.{AreRegular}
 use Rattle.plain_histories.specs.Booking.{act_of, IsAllowed, AreBooked, AreHeld, none_held, take_held, step_held}

@@ -6,15 +6,15 @@ use Rattle.tal_tree.specs.declared.act.Act.{Act}
 use Rattle.tal_tree.specs.declared.act.Shown.{Shown}
 use Rattle.tal_tree.specs.declared.site.ProcessSpec.{ProcessSpec}
 use Rattle.tal_tree.specs.declared.site.Site.{Site}
-use Rattle.plain_semantics.specs.Openers.{openers_of}
-use Rattle.disc_device.specs.Sectors.{Stored}
+use Rattle.world_semantics.specs.plain_semantics.specs.Openers.{openers_of}
+use Rattle.world_semantics.specs.disc_device.specs.Sectors.{Stored}
 use Rattle.world_semantics.specs.declared.role.Role.TheVariants.{Acting}
 use Rattle.world_semantics.specs.Core.{Core, Deed, Checkpointed, Advances}
 use Rattle.world_semantics.specs.declared.which.Which.{Which}
 use Rattle.world_semantics.specs.declared.which.Which.TheVariants.{First, Second}
 use Rattle.world_semantics.specs.World.{Copy, Pair, copy_of, with_copy, receives}
 use Rattle.world_semantics.specs.Kept.{Enters, holds_on, repeats, begins, keeps}
-use Rattle.process_histories.specs.Histories.{HasDone}
+use Rattle.plain_histories.specs.process_histories.specs.Histories.{HasDone}
 use Rattle.discipline_laws.specs.Disciplined.{IsDisciplined}
 use Rattle.plain_histories.specs.Agreeing.{AreRegular}
 use Rattle.plain_histories.specs.Booking.{act_of, IsAllowed, AreBooked}

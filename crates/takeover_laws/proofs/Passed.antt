@@ -11,8 +11,8 @@ use Rattle.world_semantics.specs.Core.{Core, Deed, Checkpointed, marks, after_pa
 use Rattle.world_semantics.specs.World.{Copy, Pair}
 use Rattle.world_semantics.specs.Kept.{own_acts}
 use Rattle.world_semantics.specs.Passes.{kept_at_checkpoint}
-use Rattle.process_histories.specs.Histories.{HasDone}
-use Rattle.process_histories.proofs.Deeds.{done-before, done-last, stands-there}
+use Rattle.plain_histories.specs.process_histories.specs.Histories.{HasDone}
+use Rattle.plain_histories.specs.process_histories.proofs.Deeds.{done-before, done-last, stands-there}
 use Rattle.discipline_laws.specs.Disciplined.{AreIdle}
 use Rattle.plain_histories.specs.Agreeing.{AreRegular}
 use Rattle.plain_histories.specs.Booking.{AreBooked, AreHeld}

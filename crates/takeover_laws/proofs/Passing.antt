@@ -8,7 +8,7 @@ use Rattle.tal_tree.specs.declared.site.Site.{Site}
 use Rattle.tal_tree.specs.declared.site.ProcessSpec.{ProcessSpec}
 use Rattle.process_semantics.specs.declared.point.Point.TheVariants as point
 use Rattle.process_semantics.specs.Process as process
-use Rattle.checkpoint_image.specs.declared.message.TakenMessage.{TakenMessage}
+use Rattle.world_semantics.specs.checkpoint_image.specs.declared.message.TakenMessage.{TakenMessage}
 use Rattle.world_semantics.specs.declared.role.Role.TheVariants.{Acting, Watching, Gone}
 use Rattle.world_semantics.specs.Core.{Deed, Checkpointed, marks, after_passing, carried_by}
 use Rattle.world_semantics.specs.declared.which.Which.TheVariants.{First, Second}
@@ -19,7 +19,7 @@ use Rattle.world_semantics.specs.Passes.{Passes, by_send, by_pass_again, by_pass
 use Rattle.world_semantics.specs.Passes.{checkpoint_of, after_sending, copy_at_checkpoint}
 use Rattle.world_semantics.specs.Passes.{kept_at_checkpoint, MaySend, by_apply_behind, by_end}
 use Rattle.world_semantics.proofs.Roles.{RolesOf}
-use Rattle.process_histories.specs.Histories.{HasDone, one_more}
+use Rattle.plain_histories.specs.process_histories.specs.Histories.{HasDone, one_more}
 use Rattle.discipline_laws.specs.Disciplined.{AreIdle, IsDisciplined}
 use Rattle.plain_histories.specs.Agreeing.{AreRegular}
 use Rattle.plain_histories.specs.Booking.{AreBooked, none_held}

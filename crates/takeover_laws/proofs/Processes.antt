@@ -9,8 +9,8 @@ use Rattle.tal_tree.specs.declared.act.Shown.{Shown}
 use Rattle.tal_tree.specs.declared.site.Site.{Site}
 use Rattle.tal_tree.specs.declared.site.ProcessSpec.{ProcessSpec}
 use Rattle.tal_tree.specs.declared.site.OpenerSpec.{OpenerSpec}
-use Rattle.plain_semantics.specs.Openers.{openers_of}
-use Rattle.disc_device.specs.Sectors.{Stored}
+use Rattle.world_semantics.specs.plain_semantics.specs.Openers.{openers_of}
+use Rattle.world_semantics.specs.disc_device.specs.Sectors.{Stored}
 use Rattle.world_semantics.specs.declared.role.Role.TheVariants.{Acting}
 use Rattle.world_semantics.specs.Core.{Core, Deed, Advances, gets}
 use Rattle.world_semantics.specs.Kept.{Enters, own_acts}
@@ -24,8 +24,8 @@ use Rattle.world_semantics.specs.declared.which.Which.TheVariants.{First, Second
 use Rattle.world_semantics.specs.World.{Copy, Pair, World, copy_of, with_copy, with_pair}
 use Rattle.world_semantics.proofs.Growing.{AreStopped}
 use Rattle.world_semantics.proofs.Roles.{AllRoles}
-use Rattle.process_histories.specs.Devices.{sectors_after}
-use Rattle.process_histories.proofs.Places.{set-one}
+use Rattle.plain_histories.specs.process_histories.specs.Devices.{sectors_after}
+use Rattle.plain_histories.specs.process_histories.proofs.Places.{set-one}
 use Rattle.plain_histories.specs.Booking.{act_of, shown_of}
 use Rattle.plain_histories.specs.Ledgers.{Ledger, with_deed, with_deeds}
 use Rattle.plain_histories.proofs.Changed.{deeds-same}

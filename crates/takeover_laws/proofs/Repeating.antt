@@ -5,7 +5,7 @@ use Rattle.tal_tree.specs.declared.act.Act.{Act}
 use Rattle.tal_tree.specs.declared.site.Site.{Site}
 use Rattle.gd_words.specs.Members.{IsAmong}
 use Rattle.world_semantics.specs.Core.{Deed, Went, Checkpointed, Took, Asked, Got, Answered, Acted}
-use Rattle.process_histories.specs.Bounds.{AreShort}
+use Rattle.plain_histories.specs.process_histories.specs.Bounds.{AreShort}
 use Rattle.discipline_laws.specs.Disciplined.{IsCheckpoint, AreUncheckpointed, AreIdle}
 use Rattle.plain_histories.specs.Booking.{AreHeld, none_held, take_held, step_held}
 use Rattle.plain_histories.specs.Ledgers.{Ledger}

@@ -13,7 +13,7 @@ use Rattle.world_semantics.specs.World.{Copy, Pair, is_running, receives}
 use Rattle.world_semantics.specs.Rules.{stopped_pair, taken_over, taker, pair_after_down, after_takeover, pair_at_down}
 use Rattle.world_semantics.specs.Rules.{blank_copy, reloaded_by, reloaded_pair, renewals_ended, renewed}
 use Rattle.world_semantics.proofs.Roles.{RolesOf, Takes, taker-is, mark-roles}
-use Rattle.process_histories.specs.Histories.{HasDone}
+use Rattle.plain_histories.specs.process_histories.specs.Histories.{HasDone}
 use Rattle.plain_histories.specs.Booking.{none_held}
 use Rattle.plain_histories.specs.Ledgers.{Ledger}
 use Rattle.takeover_laws.specs.Invariant.{AreRepeatable, Stage, Level, Applied, Behind, IsLead, is_level, is_applied}

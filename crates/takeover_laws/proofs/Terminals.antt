@@ -8,12 +8,12 @@ use Rattle.tal_tree.specs.declared.act.Act.TheVariants.{Enter, Print}
 use Rattle.tal_tree.specs.declared.act.Shown.TheVariants as shown
 use Rattle.tal_tree.specs.declared.site.Site.{Site}
 use Rattle.tal_tree.specs.declared.site.Who.TheVariants as who
-use Rattle.plain_semantics.specs.Machine.{next_request}
-use Rattle.plain_semantics.specs.Openers.{opener_of}
-use Rattle.plain_semantics.specs.declared.slot.Opener.{Opener}
+use Rattle.world_semantics.specs.plain_semantics.specs.Machine.{next_request}
+use Rattle.world_semantics.specs.plain_semantics.specs.Openers.{opener_of}
+use Rattle.world_semantics.specs.plain_semantics.specs.declared.slot.Opener.{Opener}
 use Rattle.world_semantics.specs.Rules.{entered_request}
 use Rattle.world_semantics.specs.World.{Terminal, World}
-use Rattle.process_histories.proofs.Places.{set-one}
+use Rattle.plain_histories.specs.process_histories.proofs.Places.{set-one}
 use Rattle.plain_histories.specs.Booking.{AreBooked, entry_booked, reply_booked}
 use Rattle.plain_histories.specs.Ledgers.{with_entered, with_printed, answered_of}
 use Rattle.plain_histories.specs.Slots.{IsEntry, is_newest}

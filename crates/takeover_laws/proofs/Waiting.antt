@@ -4,13 +4,16 @@ use Rattle.std.proofs.Common.{◌∷◌, Option, Some, None, slice_get, refl, su
 use Rattle.std.proofs.lemmas.Bool.{eqb-true}
 use Rattle.gd_words.specs.Members.{IsAmong}
 use Rattle.gd_words.specs.declared.message.Request.{Request}
-use Rattle.checkpoint_image.specs.declared.receive.OpenerBlock.{OpenerBlock}
-use Rattle.checkpoint_image.specs.declared.receive.ReceiveBlock.{ReceiveBlock}
-use Rattle.checkpoint_image.specs.declared.receive.RequestStanding.{RequestStanding}
-use Rattle.checkpoint_image.specs.declared.receive.RequestStanding.TheVariants.{Next, InHand, Kept, Old, Ahead}
-use Rattle.checkpoint_image.specs.Receive.{Chosen, chosen, chosen_by, chosen_after, is_next, is_waiting, standing}
-use Rattle.checkpoint_image.specs.Receive.{standing_by, standing_in, kept_or_old, reply_kept, answered, holds, waits}
-use Rattle.checkpoint_image.specs.Receive.{came, still_waiting}
+use Rattle.world_semantics.specs.checkpoint_image.specs.declared.receive.OpenerBlock.{OpenerBlock}
+use Rattle.world_semantics.specs.checkpoint_image.specs.declared.receive.ReceiveBlock.{ReceiveBlock}
+use Rattle.world_semantics.specs.checkpoint_image.specs.declared.receive.RequestStanding.{RequestStanding}
+use Rattle.world_semantics.specs.checkpoint_image.specs.declared.receive.RequestStanding.TheVariants.{Next, InHand}
+use Rattle.world_semantics.specs.checkpoint_image.specs.declared.receive.RequestStanding.TheVariants.{Kept, Old, Ahead}
+use Rattle.world_semantics.specs.checkpoint_image.specs.Receive.{Chosen, chosen, chosen_by, chosen_after, is_next}
+use Rattle.world_semantics.specs.checkpoint_image.specs.Receive.{is_waiting, standing}
+use Rattle.world_semantics.specs.checkpoint_image.specs.Receive.{standing_by, standing_in, kept_or_old, reply_kept}
+use Rattle.world_semantics.specs.checkpoint_image.specs.Receive.{answered, holds, waits}
+use Rattle.world_semantics.specs.checkpoint_image.specs.Receive.{came, still_waiting}
 use Rattle.world_semantics.proofs.Lists.{some-same}
 use Rattle.world_semantics.proofs.Members.{among-filter}
 use Rattle.world_semantics.proofs.Waiting.{waits-all}

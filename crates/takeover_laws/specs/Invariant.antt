@@ -10,15 +10,15 @@ use Rattle.tal_tree.specs.declared.site.ProcessSpec.{ProcessSpec}
 use Rattle.tal_tree.specs.declared.site.Who.{Who}
 use Rattle.process_semantics.specs.declared.point.Point.TheVariants as point
 use Rattle.process_semantics.specs.Process as process
-use Rattle.plain_semantics.specs.Openers.{opener_of}
-use Rattle.checkpoint_image.specs.declared.message.ImageMessage.{ImageMessage}
-use Rattle.checkpoint_image.specs.declared.message.TakenMessage.{TakenMessage}
+use Rattle.world_semantics.specs.plain_semantics.specs.Openers.{opener_of}
+use Rattle.world_semantics.specs.checkpoint_image.specs.declared.message.ImageMessage.{ImageMessage}
+use Rattle.world_semantics.specs.checkpoint_image.specs.declared.message.TakenMessage.{TakenMessage}
 use Rattle.world_semantics.specs.declared.role.Role.TheVariants.{Watching, Gone, Acting, Blank}
 use Rattle.world_semantics.specs.Core.{Deed, Checkpointed, Took, carried, carried_whole}
 use Rattle.world_semantics.specs.declared.which.Which.{Which}
 use Rattle.world_semantics.specs.World.{Copy, Pair, Terminal, World, copy_of, receives}
-use Rattle.process_histories.specs.Devices.{sectors_after}
-use Rattle.process_histories.specs.Histories.{HasDone}
+use Rattle.plain_histories.specs.process_histories.specs.Devices.{sectors_after}
+use Rattle.plain_histories.specs.process_histories.specs.Histories.{HasDone}
 use Rattle.plain_histories.specs.Booking.{AreBooked, AreHeld}
 use Rattle.plain_histories.specs.Ledgers.{Ledger, requests_of, answered_of}
 use Rattle.plain_histories.specs.Slots.{IsEntry}

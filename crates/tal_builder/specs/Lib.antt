@@ -3,3 +3,4 @@ pub mod First
 pub mod PlainTokens
 pub mod Outcome
 pub mod Parse
+pub use Rattle.tal_syntax

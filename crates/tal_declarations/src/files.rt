@@ -16,8 +16,8 @@ use tal_names::lookup::meaning_of;
 use tal_names::meaning::Meaning;
 use tal_names::scope::Scope;
 use tal_names::system::{System, system_of};
-use tal_syntax::tal_tree::{FileUse, Target};
 use tal_syntax::{Argument, Arguments, Atom, Next, Otherwise, Statement};
+use tal_tree::{FileUse, Target};
 
 /// The most files.
 const FILES: usize = 8;

@@ -19,9 +19,8 @@ use tal_names::least::{with_fault, with_fault_if};
 use tal_names::meaning::Meaning;
 use tal_names::names::Names;
 use tal_names::system::system_of;
-use tal_syntax::tal_tokens::At;
-use tal_syntax::tal_tree::Shape;
-use tal_syntax::{Atom, Bounds, Constant, Globals, Item, Literal, NextItem, NextLiteral};
+use tal_syntax::{At, Atom, Bounds, Constant, Globals, Item, Literal, NextItem, NextLiteral};
+use tal_tree::Shape;
 
 /// The most global names.
 const NAMES: usize = 64;
@@ -270,7 +269,7 @@ fn declare_item(declared: &mut Declared, item: &Item) -> Result<(), NoMemory>
     let extent = extent_of(&declared.names, &item.bounds);
     let meaning = item_meaning(extent.shape, declared.items.len());
     declared.names.declare(item.name, meaning)?;
-    declared.items.push(tal_syntax::tal_tree::Item {
+    declared.items.push(tal_tree::Item {
         name: item.name,
         shape: extent.shape,
     })?;

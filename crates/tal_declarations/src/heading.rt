@@ -18,8 +18,7 @@ use tal_names::meaning::Meaning;
 use tal_names::names::Names;
 use tal_names::scope::Named;
 use tal_names::system::system_of;
-use tal_syntax::tal_tokens::At;
-use tal_syntax::{Gives, Heading, Local, Main, NextName, Parameters, Procedure};
+use tal_syntax::{At, Gives, Heading, Local, Main, NextName, Parameters, Procedure};
 
 /// The most parameters and locals of a procedure.
 const LOCALS: usize = 12;

@@ -1,6 +1,6 @@
 use gd_words::List;
 use tal_names::names::Names;
-use tal_syntax::tal_tree::{FileUse, Item, Shape};
+use tal_tree::{FileUse, Item, Shape};
 
 /// The shape of an item, and how many words it takes.
 #[derive(Clone, Copy)]

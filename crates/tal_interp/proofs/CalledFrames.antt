@@ -10,9 +10,9 @@ use Rattle.tal_tree.specs.declared.program.Program.{Program}
 use Rattle.process_semantics.specs.Image.{are_called, frame_in, frames_in, is_called}
 use Rattle.process_semantics.specs.State.{Frame, called_by}
 use Rattle.process_semantics.specs.Words.{Front}
-use Rattle.whole_states.specs.Whole.{IsFrame}
-use Rattle.process_images.proofs.Frames.{frames-stood}
-use Rattle.process_images.proofs.FewFrames.{called-before}
+use Rattle.tal_table.specs.whole_states.specs.Whole.{IsFrame}
+use Rattle.tal_table.specs.process_images.proofs.Frames.{frames-stood}
+use Rattle.tal_table.specs.process_images.proofs.FewFrames.{called-before}
 use Rattle.tal_interp.specs.Images.{called_frame, called_frames}
 
 -- Frames

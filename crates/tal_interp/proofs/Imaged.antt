@@ -22,11 +22,12 @@ use Rattle.process_semantics.specs.Rests.{next_number}
 use Rattle.process_semantics.specs.State.{Entry, Frame, ProgramState, count_of}
 use Rattle.process_semantics.specs.declared.point.Point.{Point}
 use Rattle.process_semantics.specs.declared.point.Point.TheVariants as point
-use Rattle.program_deeds.specs.Deed.{Deed, Assigns, Tests, Enters, Returns, Passes, Stops, Takes, Asks, Answers}
-use Rattle.program_deeds.specs.Deed.{Checkpoints, deed_of}
-use Rattle.program_deeds.specs.Doing.{point_by}
-use Rattle.program_deeds.proofs.Calls.{point-is}
-use Rattle.whole_states.specs.Whole.{AreFrames}
+use Rattle.tal_table.specs.program_deeds.specs.Deed.{Deed, Assigns, Tests, Enters, Returns, Passes, Stops, Takes, Asks}
+use Rattle.tal_table.specs.program_deeds.specs.Deed.{Answers}
+use Rattle.tal_table.specs.program_deeds.specs.Deed.{Checkpoints, deed_of}
+use Rattle.tal_table.specs.program_deeds.specs.Doing.{point_by}
+use Rattle.tal_table.specs.program_deeds.proofs.Calls.{point-is}
+use Rattle.tal_table.specs.whole_states.specs.Whole.{AreFrames}
 use Rattle.tal_table.specs.Places.{rest_at}
 use Rattle.tal_interp.specs.Images.{imaged_rest, imaged_frames}
 use Rattle.tal_interp.specs.SeenFrames.{frame_seen, frames_seen}

@@ -10,14 +10,15 @@ use Rattle.process_semantics.specs.Process.{Runs}
 use Rattle.process_semantics.specs.State.{Execution, ProgramState, start}
 use Rattle.process_semantics.specs.Steps.{inner}
 use Rattle.process_semantics.specs.declared.point.Point.TheVariants.{Take, Await, Answer, AtCheckpoint}
-use Rattle.whole_states.specs.Processes.{IsWholeProcess}
-use Rattle.whole_states.specs.Whole.{IsWhole}
-use Rattle.whole_states.proofs.Calls.{took-awake}
-use Rattle.whole_states.proofs.Processes.{stays-whole, start-process, inner-process, got-process, answered-process}
-use Rattle.whole_states.proofs.Processes.{marked-process}
-use Rattle.process_images.proofs.Programs.{program-stood}
+use Rattle.tal_table.specs.whole_states.specs.Processes.{IsWholeProcess}
+use Rattle.tal_table.specs.whole_states.specs.Whole.{IsWhole}
+use Rattle.tal_table.specs.whole_states.proofs.Calls.{took-awake}
+use Rattle.tal_table.specs.whole_states.proofs.Processes.{stays-whole, start-process, inner-process, got-process}
+use Rattle.tal_table.specs.whole_states.proofs.Processes.{answered-process}
+use Rattle.tal_table.specs.whole_states.proofs.Processes.{marked-process}
+use Rattle.tal_table.specs.process_images.proofs.Programs.{program-stood}
 use Rattle.tal_interp.specs.Sound.{IsLoadable, IsSound}
-use Rattle.process_images.proofs.FewFrames.{frames-few}
+use Rattle.tal_table.specs.process_images.proofs.FewFrames.{frames-few}
 
 pub start-sound : (program : Program) → IsLoadable program
     → IsSound (record { program = program; state = start program })

@@ -14,10 +14,10 @@ use Rattle.tal_tree.specs.declared.program.Program.{Program}
 use Rattle.process_semantics.specs.Image.{item_in, items_in}
 use Rattle.process_semantics.specs.State.{words_of}
 use Rattle.process_semantics.specs.Words.{Front, count_in, whole, words_in}
-use Rattle.whole_states.specs.Whole.{sizes_of, widths_of}
-use Rattle.whole_states.proofs.Globals.{set-sizes}
-use Rattle.process_images.proofs.Fronts.{words-stood}
-use Rattle.process_images.proofs.Globals.{size-of}
+use Rattle.tal_table.specs.whole_states.specs.Whole.{sizes_of, widths_of}
+use Rattle.tal_table.specs.whole_states.proofs.Globals.{set-sizes}
+use Rattle.tal_table.specs.process_images.proofs.Fronts.{words-stood}
+use Rattle.tal_table.specs.process_images.proofs.Globals.{size-of}
 use Rattle.tal_interp.specs.Images.{listed_item, Overwrites}
 
 -- Items

@@ -4,13 +4,13 @@ use Rattle.tal_tree.specs.declared.expression.Cond.{Cond}
 use Rattle.tal_tree.specs.declared.expression.Expr.{Expr}
 use Rattle.tal_tree.specs.declared.expression.Spot.{Spot}
 use Rattle.tal_tree.specs.declared.program.Program.{Program}
-use Rattle.tal_values.specs.Value.{value_of, truth_of, cell_of}
-use Rattle.tal_values.specs.declared.memory.Cell.{Cell}
+use Rattle.process_semantics.specs.tal_values.specs.Value.{value_of, truth_of, cell_of}
+use Rattle.process_semantics.specs.tal_values.specs.declared.memory.Cell.{Cell}
 use Rattle.process_semantics.specs.State.{Entry, ProgramState, memory_of, rest_of}
 use Rattle.process_semantics.specs.Steps.{inner, or_ends}
-use Rattle.program_deeds.specs.Deed.{Deed, Assigns, Tests, deed_of}
-use Rattle.program_deeds.specs.Doing.{chosen, deed_inner, stored}
-use Rattle.program_deeds.proofs.Inner.{inner-is}
+use Rattle.tal_table.specs.program_deeds.specs.Deed.{Deed, Assigns, Tests, deed_of}
+use Rattle.tal_table.specs.program_deeds.specs.Doing.{chosen, deed_inner, stored}
+use Rattle.tal_table.specs.program_deeds.proofs.Inner.{inner-is}
 
 inner-by : (program : Program) (s : ProgramState) (deed : Deed) → deed ≡ deed_of (rest_of s.frames)
     → or_ends s (deed_inner program s deed) ≡ inner program s

@@ -6,7 +6,7 @@ use Rattle.tal_tree.specs.declared.program.Program.{Program}
 use Rattle.process_semantics.specs.Image.{frame_in, is_called, item_in, items_in}
 use Rattle.process_semantics.specs.State.{Entry, Frame, called_by}
 use Rattle.process_semantics.specs.Words.{Front, count_in}
-use Rattle.program_deeds.specs.Deed.{Deed, Checkpoints, deed_of}
+use Rattle.tal_table.specs.program_deeds.specs.Deed.{Deed, Checkpoints, deed_of}
 
 -- Writing
 

@@ -4,8 +4,8 @@ use Rattle.tal_tree.specs.Ordered.{IsNumbered, IsOrdered}
 use Rattle.tal_tree.specs.Regular.{IsRegular}
 use Rattle.tal_tree.specs.declared.program.Program.{Program}
 use Rattle.process_semantics.specs.State.{Execution}
-use Rattle.tal_code.specs.Waiting.{WaitsBelow}
-use Rattle.whole_states.specs.Whole.{IsWhole}
+use Rattle.tal_table.specs.tal_code.specs.Waiting.{WaitsBelow}
+use Rattle.tal_table.specs.whole_states.specs.Whole.{IsWhole}
 
 -- a program that can be loaded is numbered and ordered as texts are, keeps the limits, is regular, and has room for the
 -- code of what it computes

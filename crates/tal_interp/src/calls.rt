@@ -7,19 +7,16 @@ ghost use Rattle.process_semantics.specs.Image.{listed_files, listed_items};
 ghost use Rattle.process_semantics.specs.Points.{point_of};
 ghost use Rattle.process_semantics.specs.Process.{Runs};
 ghost use Rattle.process_semantics.specs.State.{count_of, rest_of, words_of};
-ghost use Rattle.program_deeds.specs.Doing.{point_by};
+ghost use Rattle.tal_table.specs.program_deeds.specs.Doing.{point_by};
 ghost use Rattle.tal_table.specs.Places.{places, rest_at};
 ghost use Rattle.tal_table.specs.Seen.{seen};
 
 use crate::interpreter::Interpreter;
-use checkpoint_image::Listed;
 use gd_words::Words;
 use process_semantics::counts::{front, good_count, where_both_good, where_good};
-use process_semantics::{Asked, Point};
-use tal_code::Code;
-use tal_table::Work;
+use process_semantics::{Asked, Cell, Point};
+use tal_table::{Code, Listed, Work};
 use tal_tree::Variable;
-use tal_values::Cell;
 
 impl Interpreter {
     /// Where the program stands.
@@ -198,7 +195,7 @@ impl Interpreter {
         ensures value { result ≡ count_of self.now.program self.now.state buffer count.now }
         ensures within { IfSome result (λ n. n ≤ length (words_of self.now.state.globals buffer)) }
     {
-        let count = tal_code::value(self.memory(), count)?;
+        let count = tal_table::value(self.memory(), count)?;
         good_count(self.words(buffer), count)
     }
 
@@ -207,7 +204,7 @@ impl Interpreter {
         ensures { result ≡ first_words (words_of self.now.state.globals buffer)
             (count_of self.now.program self.now.state buffer count.now) }
     {
-        match tal_code::value(self.memory(), count) {
+        match tal_table::value(self.memory(), count) {
             None => Words::new(),
             Some(count) => front(self.words(buffer), count),
         }

@@ -4,7 +4,7 @@ ghost use Rattle.tal_tree.specs.Regular.{AreListed};
 ghost use Rattle.process_semantics.specs.Image.{frame_words, image_of, item_words};
 ghost use Rattle.process_semantics.specs.Process.{Runs};
 ghost use Rattle.process_semantics.specs.Rests.{next_number};
-ghost use Rattle.program_deeds.specs.Deed.{deed_of};
+ghost use Rattle.tal_table.specs.program_deeds.specs.Deed.{deed_of};
 ghost use Rattle.tal_table.specs.Places.{places, rest_at};
 ghost use Rattle.tal_interp.specs.Images.{imaged_frames, imaged_rest};
 ghost use Rattle.tal_interp.specs.SeenFrames.{frame_seen};

@@ -1,18 +1,17 @@
 ghost use Rattle.std.specs.Prelude.{◌≡◌, ◌≤◌, ◌∷◌, [], false, drop, length, IfSome};
 ghost use Rattle.std.specs.Bool.{OnTrue, OnFalse};
-ghost use Rattle.tal_values.specs.Seen.{seen};
+ghost use Rattle.process_semantics.specs.tal_values.specs.Seen.{seen};
 ghost use Rattle.process_semantics.specs.Changes.{left};
 ghost use Rattle.process_semantics.specs.Steps.{entered, inner, or_ends, result_of, values_of};
-ghost use Rattle.program_deeds.specs.Doing.{caller_given, chosen, gives_back, stored};
+ghost use Rattle.tal_table.specs.program_deeds.specs.Doing.{caller_given, chosen, gives_back, stored};
 ghost use Rattle.tal_table.specs.Places.{places, rest_at};
 
 use crate::frame::Frame;
 use crate::interpreter::Interpreter;
 use crate::locals::Locals;
+use process_semantics::{Cell, Memory};
 use std::mem;
-use tal_code::Code;
-use tal_table::Work;
-use tal_values::{Cell, Memory};
+use tal_table::{Code, Work};
 
 impl Interpreter {
     /// The step at the point Inner. A trap ends the program.
@@ -28,14 +27,14 @@ impl Interpreter {
             Work::Assign { to, value, next } => {
                 let next = *next;
                 let memory = self.memory();
-                let word = tal_code::value(memory, value);
-                let cell = tal_code::cell(memory, to);
+                let word = tal_table::value(memory, value);
+                let cell = tal_table::cell(memory, to);
                 self.store(cell, word, next);
             }
             Work::Test { test, yes, no } => {
                 let yes = *yes;
                 let no = *no;
-                let holds = tal_code::truth(self.memory(), test);
+                let holds = tal_table::truth(self.memory(), test);
                 self.choose(holds, yes, no);
             }
             Work::Call {
@@ -188,7 +187,7 @@ impl Interpreter {
             let after = node.after;
             match &node.work {
                 Work::Call { to: Some(to), .. } => {
-                    let cell = tal_code::cell(self.memory(), to);
+                    let cell = tal_table::cell(self.memory(), to);
                     self.store(cell, Some(word), after);
                 }
                 _ => self.finish(after),
@@ -205,7 +204,7 @@ fn values(memory: Memory<'_>, arguments: &[Code]) -> Option<Locals>
 {
     let mut words = Locals::new();
     for argument in arguments {
-        words.push(tal_code::value(memory, argument)?);
+        words.push(tal_table::value(memory, argument)?);
     }
     Some(words)
 }
@@ -216,6 +215,6 @@ fn returned(memory: Memory<'_>, value: &Option<Code>) -> Option<i16>
 {
     match value {
         None => Some(0),
-        Some(value) => tal_code::value(memory, value),
+        Some(value) => tal_table::value(memory, value),
     }
 }

@@ -1,9 +1,9 @@
 ghost use Rattle.std.specs.Prelude.{◌≡◌, ◌≤◌, [], false, length, drop, IfOk, IfSome, IfNone};
-ghost use Rattle.tal_values.specs.Seen.{seen};
+ghost use Rattle.process_semantics.specs.tal_values.specs.Seen.{seen};
 ghost use Rattle.process_semantics.specs.Changes.{done, ends, with_hand, with_waiting, with_word, with_words};
 ghost use Rattle.process_semantics.specs.Rests.{next_number};
 ghost use Rattle.process_semantics.specs.State.{memory_of, rest_of, start, words_of};
-ghost use Rattle.program_deeds.specs.Doing.{going_on};
+ghost use Rattle.tal_table.specs.program_deeds.specs.Doing.{going_on};
 ghost use Rattle.tal_table.specs.Places.{places, rest_at};
 ghost use Rattle.tal_table.specs.Tables.{Tells};
 ghost use Rattle.tal_interp.specs.SeenFrames.{frames_seen};
@@ -13,11 +13,11 @@ use crate::frame::Frame;
 use crate::locals::Locals;
 use gd_words::{List, NoMemory};
 use process_semantics::globals::{overwrite, zeroed};
+use process_semantics::{Cell, Memory};
 use std::alloc::Global;
 use std::marker::Model;
 use tal_table::{Node, Table};
 use tal_tree::Program;
-use tal_values::{Cell, Memory};
 
 /// A program that runs by its table: the words of its globals, the procedure that runs, none where the program has
 /// ended, and its callers, MAIN first. `restored` is the room for the frames of an image, and what stands in it between

@@ -17,4 +17,7 @@ mod interpreter;
 mod locals;
 pub mod process;
 
+pub use gd_words::{DeviceCall, List, NoMemory, Sector, Words};
 pub use process::TalProcess;
+pub use process_semantics::{Asked, Point};
+pub use tal_tree::Kind;

@@ -7,11 +7,11 @@ ghost use Rattle.process_semantics.specs.State.{rest_of};
 ghost use Rattle.tal_interp.specs.Sound.{IsLoadable};
 
 use crate::interpreter::Interpreter;
-use checkpoint_image::{Behaviour, Listed};
 use gd_words::{DeviceCall, List, NoMemory, Sector, Words};
 use process_semantics::{Asked, Point};
 use std::alloc::Global;
 use std::marker::Model;
+use tal_table::{Behaviour, Listed};
 use tal_tree::{Item, Program};
 
 /// A program that runs as a process. What runs is its table: the text of the program isn't kept.

@@ -23,25 +23,31 @@ use Rattle.tal_names.specs.declared.meaning.Meaning.TheVariants as m
 use Rattle.tal_names.specs.declared.meaning.Need.TheVariants as need
 use Rattle.tal_names.specs.declared.scope.Named.{Named}
 use Rattle.tal_names.specs.declared.scope.Scope.{Scope}
-use Rattle.tal_rules.specs.declared.walk.Walk.{Walk}
+use Rattle.tal_faultless.specs.tal_rules.specs.declared.walk.Walk.{Walk}
 use Rattle.tal_names.specs.declared.system.System.{System}
 use Rattle.tal_names.specs.declared.system.System.TheVariants as system
-use Rattle.tal_rules.specs.Calls.{called_faults, arguments_faults, call_faults, count_faults, values_count}
-use Rattle.tal_rules.specs.Expressions.{spot_faults}
+use Rattle.tal_faultless.specs.tal_rules.specs.Calls.{called_faults, arguments_faults, call_faults, count_faults}
+use Rattle.tal_faultless.specs.tal_rules.specs.Calls.{values_count}
+use Rattle.tal_faultless.specs.tal_rules.specs.Expressions.{spot_faults}
 use Rattle.tal_names.specs.Places.{first_of_spot, name_of_expr, arguments_of}
 use Rattle.tal_names.specs.Scopes.{meaning_of}
 use Rattle.tal_names.specs.Systems.{system_of}
-use Rattle.tal_rules.specs.Statements.{stepped, inside_do, after, statement_faults, else_faults, row_faults}
-use Rattle.tal_rules.specs.Statements.{return_faults, right_by, right_named, is_below_one, step_faults}
-use Rattle.tal_rules.specs.Texts.{body_faults}
+use Rattle.tal_faultless.specs.tal_rules.specs.Statements.{stepped, inside_do, after, statement_faults, else_faults}
+use Rattle.tal_faultless.specs.tal_rules.specs.Statements.{row_faults}
+use Rattle.tal_faultless.specs.tal_rules.specs.Statements.{return_faults, right_by, right_named, is_below_one}
+use Rattle.tal_faultless.specs.tal_rules.specs.Statements.{step_faults}
+use Rattle.tal_faultless.specs.tal_rules.specs.Texts.{body_faults}
 use Rattle.tal_declarations.specs.Files.{named_in}
 use Rattle.tal_declarations.specs.Globals.{atom_of, constant_value, first_of_constant}
-use Rattle.tal_meaning.specs.Calls.{procedure_by, meaning_by, call_what, item_by, file_by, value_at, meaning_at}
-use Rattle.tal_meaning.specs.Calls.{variable_by, items_named, files_named, values_of, values_of_arguments, system_what}
-use Rattle.tal_meaning.specs.Expressions.{value_of_expr, cond_of_expr, target_of_spot}
-use Rattle.tal_meaning.specs.Programs.{body_statements}
-use Rattle.tal_meaning.specs.Statements.{answer_of, assign_by, is_down, step_of, statements_of, else_statements}
-use Rattle.tal_meaning.specs.Statements.{row_statements}
+use Rattle.tal_faultless.specs.tal_meaning.specs.Calls.{procedure_by, meaning_by, call_what, item_by, file_by, value_at}
+use Rattle.tal_faultless.specs.tal_meaning.specs.Calls.{meaning_at}
+use Rattle.tal_faultless.specs.tal_meaning.specs.Calls.{variable_by, items_named, files_named, values_of}
+use Rattle.tal_faultless.specs.tal_meaning.specs.Calls.{values_of_arguments, system_what}
+use Rattle.tal_faultless.specs.tal_meaning.specs.Expressions.{value_of_expr, cond_of_expr, target_of_spot}
+use Rattle.tal_faultless.specs.tal_meaning.specs.Programs.{body_statements}
+use Rattle.tal_faultless.specs.tal_meaning.specs.Statements.{answer_of, assign_by, is_down, step_of, statements_of}
+use Rattle.tal_faultless.specs.tal_meaning.specs.Statements.{else_statements}
+use Rattle.tal_faultless.specs.tal_meaning.specs.Statements.{row_statements}
 use Rattle.tal_tree.specs.Named.{IsSpotThere, AllThere}
 use Rattle.tal_tree.specs.Regular.{IsCalled, IsRegularStatement}
 use Rattle.tal_faultless.proofs.Common.Faultless.{no_fault, split, first_nil, refuted}

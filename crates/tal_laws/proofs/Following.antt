@@ -2,7 +2,7 @@
 use Rattle.std.proofs.Common.{◌≡◌, ℕ, zero, suc, ◌+◌, ◌≤◌, arith, nat_lt, Bool, true, false, List, [], ◌∷◌, ◌++◌}
 use Rattle.std.proofs.Common.{length, refl, sym, ap, subst, if◌then◌else◌}
 use Rattle.std.proofs.lemmas.Bool.{ltb-true}
-use Rattle.tal_rules.specs.Statements.{next_number}
+use Rattle.tal_faultless.specs.tal_rules.specs.Statements.{next_number}
 use Rattle.tal_laws.proofs.Counting.{CountUp}
 
 -- these numbers go on from one number up to another, and each is at most 2,000

@@ -6,14 +6,14 @@ use Rattle.tal_tree.specs.declared.program.Procedure.{Procedure}
 use Rattle.tal_names.specs.declared.meaning.Meaning.{Meaning}
 use Rattle.tal_names.specs.declared.meaning.Meaning.TheVariants as m
 use Rattle.tal_declarations.specs.declared.table.Headed.{Headed}
-use Rattle.tal_rules.specs.declared.walk.Progress.{Progress}
+use Rattle.tal_faultless.specs.tal_rules.specs.declared.walk.Progress.{Progress}
 use Rattle.tal_declarations.specs.Globals.{lines_faults, with_lines, nothing_declared}
 use Rattle.tal_declarations.specs.Headings.{parameters_of, locals_of, does_give, heading_of, headings_faults}
 use Rattle.tal_declarations.specs.Headings.{with_heading, with_headings}
 use Rattle.tal_names.specs.Names.{Declarations, meaning_in, with_name}
 use Rattle.tal_names.specs.Systems.{system_of}
-use Rattle.tal_rules.specs.Texts.{headed_after, after_procedure, first_progress}
-use Rattle.tal_meaning.specs.Programs.{texts_of, tree_of_procedure, trees_of}
+use Rattle.tal_faultless.specs.tal_rules.specs.Texts.{headed_after, after_procedure, first_progress}
+use Rattle.tal_faultless.specs.tal_meaning.specs.Programs.{texts_of, tree_of_procedure, trees_of}
 use Rattle.tal_faultless.proofs.Common.Faultless.{split}
 use Rattle.tal_faultless.proofs.Common.Names.{texts_append}
 use Rattle.tal_faultless.proofs.Scopes.Declared.{meaning_with}

@@ -12,8 +12,8 @@ use Rattle.tal_names.specs.declared.scope.Named.{Named}
 use Rattle.tal_declarations.specs.Headings.{parameters_of, locals_of, with_local, with_locals, count_faults}
 use Rattle.tal_declarations.specs.Headings.{parameters_faults, inner_faults}
 use Rattle.tal_names.specs.Names.{Declarations, is_declared}
-use Rattle.tal_rules.specs.Texts.{locals_by, heading_locals_faults}
-use Rattle.tal_meaning.specs.Programs.{texts_of, parameters_by, procedure_with}
+use Rattle.tal_faultless.specs.tal_rules.specs.Texts.{locals_by, heading_locals_faults}
+use Rattle.tal_faultless.specs.tal_meaning.specs.Programs.{texts_of, parameters_by, procedure_with}
 use Rattle.tal_faultless.proofs.Common.Faultless.{split, refuted}
 use Rattle.tal_faultless.proofs.Common.Names.{texts_append}
 use Rattle.tal_faultless.proofs.Scopes.LocalNames.{local_names}

@@ -14,13 +14,15 @@ use Rattle.tal_names.specs.declared.meaning.Meaning.{Meaning}
 use Rattle.tal_names.specs.declared.meaning.Meaning.TheVariants as m
 use Rattle.tal_declarations.specs.declared.table.Files.{Files}
 use Rattle.tal_names.specs.declared.scope.Scope.{Scope}
-use Rattle.tal_rules.specs.Calls.{file_number}
+use Rattle.tal_faultless.specs.tal_rules.specs.Calls.{file_number}
 use Rattle.tal_declarations.specs.Globals.{with_lines, nothing_declared}
 use Rattle.tal_declarations.specs.Headings.{locals_of}
 use Rattle.tal_names.specs.Names.{Declarations, meaning_in}
 use Rattle.tal_names.specs.Scopes.{or_else, meaning_of, is_file}
-use Rattle.tal_rules.specs.Texts.{faults, headed_text, files_by, heading_locals_faults, first_progress}
-use Rattle.tal_meaning.specs.Programs.{shape_by, items_with, texts_of, parameters_by, trees_of, tree_of}
+use Rattle.tal_faultless.specs.tal_rules.specs.Texts.{faults, headed_text, files_by, heading_locals_faults}
+use Rattle.tal_faultless.specs.tal_rules.specs.Texts.{first_progress}
+use Rattle.tal_faultless.specs.tal_meaning.specs.Programs.{shape_by, items_with, texts_of, parameters_by, trees_of}
+use Rattle.tal_faultless.specs.tal_meaning.specs.Programs.{tree_of}
 use Rattle.tal_faultless.proofs.Scopes.Declared.{meaning_there}
 use Rattle.tal_faultless.proofs.Files.FileNames.{IsOpened}
 use Rattle.tal_faultless.proofs.Scopes.GlobalNames.{Means}

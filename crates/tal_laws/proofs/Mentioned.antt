@@ -14,11 +14,11 @@ use Rattle.tal_names.specs.declared.meaning.Meaning.TheVariants as m
 use Rattle.tal_names.specs.declared.meaning.Need.TheVariants as need
 use Rattle.tal_names.specs.declared.scope.Named.{Named}
 use Rattle.tal_names.specs.declared.scope.Scope.{Scope}
-use Rattle.tal_rules.specs.Calls.{named_faults, repeated_faults, with_mention, checkpoint_faults}
+use Rattle.tal_faultless.specs.tal_rules.specs.Calls.{named_faults, repeated_faults, with_mention, checkpoint_faults}
 use Rattle.tal_names.specs.Names.{Declarations, meaning_in, is_declared, with_name}
 use Rattle.tal_names.specs.Places.{name_of_argument}
 use Rattle.tal_names.specs.Scopes.{meaning_of, kind_faults}
-use Rattle.tal_meaning.specs.Calls.{meaning_by, with_item, with_process, items_named, files_named}
+use Rattle.tal_faultless.specs.tal_meaning.specs.Calls.{meaning_by, with_item, with_process, items_named, files_named}
 use Rattle.tal_faultless.proofs.Common.Faultless.{no_fault, split, refuted}
 use Rattle.tal_faultless.proofs.Scopes.Declared.{meaning_kept, meaning_new}
 use Rattle.gd_words.specs.Members.{AreDistinct, IsAmong}

@@ -4,8 +4,8 @@ use Rattle.tal_tokens.specs.declared.token.At.{At}
 use Rattle.tal_syntax.specs.Grammar as g
 use Rattle.tal_tree.specs.declared.program.Program.{Program}
 use Rattle.tal_declarations.specs.Globals.{with_lines, nothing_declared}
-use Rattle.tal_rules.specs.Texts.{faults, headed_after, headed_text, files_by, first_progress}
-use Rattle.tal_meaning.specs.Programs.{tree_of}
+use Rattle.tal_faultless.specs.tal_rules.specs.Texts.{faults, headed_after, headed_text, files_by, first_progress}
+use Rattle.tal_faultless.specs.tal_meaning.specs.Programs.{tree_of}
 use Rattle.tal_reader.specs.Reads.{Reads}
 use Rattle.tal_tree.specs.Ordered.{numbers_in_all, IsNumbered, IsOrdered}
 use Rattle.tal_faultless.proofs.Common.TextParts.{AreFaultless, faultless}

@@ -4,12 +4,14 @@ use Rattle.tal_tokens.specs.declared.token.At.{At}
 use Rattle.tal_syntax.specs.Grammar as g
 use Rattle.tal_tree.specs.declared.program.Procedure.{Procedure}
 use Rattle.tal_tree.specs.declared.program.Program.{Program}
-use Rattle.tal_rules.specs.declared.walk.Progress.{Progress}
+use Rattle.tal_faultless.specs.tal_rules.specs.declared.walk.Progress.{Progress}
 use Rattle.tal_declarations.specs.Headings.{locals_of}
 use Rattle.tal_names.specs.Names.{Declarations}
-use Rattle.tal_rules.specs.Texts.{faults, headed_text, files_by, entered, after_procedure, procedure_faults}
-use Rattle.tal_rules.specs.Texts.{procedures_faults, first_progress}
-use Rattle.tal_meaning.specs.Programs.{tree_of, trees_of, tree_of_procedure, texts_of, parameters_by}
+use Rattle.tal_faultless.specs.tal_rules.specs.Texts.{faults, headed_text, files_by, entered, after_procedure}
+use Rattle.tal_faultless.specs.tal_rules.specs.Texts.{procedure_faults}
+use Rattle.tal_faultless.specs.tal_rules.specs.Texts.{procedures_faults, first_progress}
+use Rattle.tal_faultless.specs.tal_meaning.specs.Programs.{tree_of, trees_of, tree_of_procedure, texts_of}
+use Rattle.tal_faultless.specs.tal_meaning.specs.Programs.{parameters_by}
 use Rattle.tal_reader.specs.Reads.{Reads}
 use Rattle.tal_faultless.proofs.Common.Faultless.{split}
 use Rattle.tal_faultless.proofs.Scopes.SourceScopes.{scope_in}

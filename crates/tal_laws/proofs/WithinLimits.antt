@@ -8,13 +8,16 @@ use Rattle.tal_tree.specs.declared.program.Procedure.{Procedure}
 use Rattle.tal_tree.specs.declared.program.Program.{Program}
 use Rattle.tal_declarations.specs.declared.table.Files.{Files}
 use Rattle.tal_declarations.specs.declared.table.Headed.{Headed}
-use Rattle.tal_rules.specs.declared.walk.Progress.{Progress}
+use Rattle.tal_faultless.specs.tal_rules.specs.declared.walk.Progress.{Progress}
 use Rattle.tal_declarations.specs.Globals.{with_lines, nothing_declared}
 use Rattle.tal_declarations.specs.Headings.{heading_of, headings_faults, main_number, with_heading, with_headings}
 use Rattle.tal_names.specs.Names.{Declarations}
-use Rattle.tal_rules.specs.Texts.{faults, headed_after, headed_text, files_by, main_missing, procedure_faults}
-use Rattle.tal_rules.specs.Texts.{after_procedure, procedures_faults, first_progress, scope_of, entered}
-use Rattle.tal_meaning.specs.Programs.{items_with, tree_of, trees_of, tree_of_procedure, body_statements}
+use Rattle.tal_faultless.specs.tal_rules.specs.Texts.{faults, headed_after, headed_text, files_by, main_missing}
+use Rattle.tal_faultless.specs.tal_rules.specs.Texts.{procedure_faults}
+use Rattle.tal_faultless.specs.tal_rules.specs.Texts.{after_procedure, procedures_faults, first_progress, scope_of}
+use Rattle.tal_faultless.specs.tal_rules.specs.Texts.{entered}
+use Rattle.tal_faultless.specs.tal_meaning.specs.Programs.{items_with, tree_of, trees_of, tree_of_procedure}
+use Rattle.tal_faultless.specs.tal_meaning.specs.Programs.{body_statements}
 use Rattle.tal_reader.specs.Reads.{Reads}
 use Rattle.gd_words.specs.Members.{IsAmong}
 use Rattle.tal_faultless.proofs.Common.Faultless.{split, no_fault}

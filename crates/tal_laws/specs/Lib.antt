@@ -1,2 +1,3 @@
 pub use Rattle.tal_reader
-pub use Rattle.tal_meaning
+pub use Rattle.tal_faultless.specs.tal_meaning
+pub use Rattle.tal_faultless.specs.tal_rules

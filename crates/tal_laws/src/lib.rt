@@ -12,4 +12,4 @@ pub use laws::{
     what_is_read_is_numbered, what_is_read_is_ordered, what_is_read_is_regular,
     what_is_read_keeps_the_limits,
 };
-pub use tal_reader;
+pub use tal_reader::read_program;

@@ -1,6 +1,6 @@
 -- What the answer of a judge says of a text.
 use Rattle.std.specs.Prelude.{◌≡◌, [], Result, Ok, Err}
-use Rattle.gd_words.specs.Memory.{no_memory}
+use Rattle.tal_tree.specs.gd_words.specs.Memory.{no_memory}
 use Rattle.tal_syntax.specs.Grammar as g
 use Rattle.tal_tree.specs.declared.fault.TalFault.{TalFault}
 use Rattle.tal_tree.specs.declared.fault.TalFault.TheVariants as tal

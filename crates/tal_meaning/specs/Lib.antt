@@ -4,3 +4,4 @@ pub mod Judged
 pub mod Programs
 pub mod Statements
 pub use Rattle.tal_rules
+pub use Rattle.tal_names

@@ -8,7 +8,6 @@ ghost use Rattle.tal_meaning.specs.Calls.{with_process, items_named, files_named
 ghost use Rattle.tal_syntax.specs.Seen.{seen_argument, seen_further, seen_arguments, seen_values};
 
 use crate::expression::value_of_expr;
-use gd_words::{Ident, List, NoMemory};
 use std::alloc::Global;
 use tal_names::alone::{argument, name_of_argument};
 use tal_names::lookup::meaning_of;
@@ -17,7 +16,7 @@ use tal_names::scope::{Named, Scope};
 use tal_names::system::System;
 use tal_rules::call::file_number;
 use tal_syntax::{Argument, Arguments, NextArgument, NextValue};
-use tal_tree::{Expr, Variable, What};
+use tal_tree::{Expr, Ident, List, NoMemory, Variable, What};
 
 /// The value of an argument.
 fn value_of_argument(alloc: Global, scope: &Scope, argument: &Argument) -> Result<Expr, NoMemory>

@@ -9,13 +9,12 @@ ghost use Rattle.tal_syntax.specs.Seen.{seen_product, seen_sum, seen_neg, seen_b
 ghost use Rattle.tal_tree.specs.declared.expression.Cond.TheVariants.{And, Or};
 ghost use Rattle.tal_tree.specs.declared.expression.Expr.TheVariants.{Read, Two};
 
-use gd_words::{Boxed, NoMemory};
 use std::alloc::Global;
 use tal_names::lookup::meaning_of;
 use tal_names::meaning::Meaning;
 use tal_names::scope::Scope;
 use tal_syntax::{Both, Compared, Expr, Factor, Index, Neg, Product, Rel, Scale, Sign, Spot, Sum};
-use tal_tree::{Cond, Op};
+use tal_tree::{Boxed, Cond, NoMemory, Op};
 
 fn op_of_sign(sign: Sign) -> Op
     ensures { result ≡ op_of_sign (seen_sign sign) }

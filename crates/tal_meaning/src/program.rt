@@ -8,17 +8,16 @@ ghost use Rattle.tal_meaning.specs.Programs.{shape_by, items_with, texts_of, pro
 ghost use Rattle.tal_meaning.specs.Programs.{tree_of_procedure, trees_of, program_by};
 
 use crate::statement::{push_row, push_statement};
-use gd_words::{Ident, List, NoMemory};
 use std::alloc::Global;
 use tal_names::least::answer_of;
 use tal_names::names::Names;
 use tal_names::scope::{Named, Scope};
 use tal_rules::call::file_number;
-use tal_rules::tal_declarations::heading::{does_give, locals_of, parameters_of};
 use tal_rules::text::{Tables, enter, entered, first_progress, judge_text, passed};
 use tal_rules::walk::{Progress, Walk};
+use tal_rules::{does_give, locals_of, parameters_of};
 use tal_syntax::{Next, Statement, Text};
-use tal_tree::{Item, Procedure, Program, Shape, TalFault};
+use tal_tree::{Ident, Item, List, NoMemory, Procedure, Program, Shape, TalFault};
 
 /// The most parameters and locals of a procedure.
 const LOCALS: usize = 12;

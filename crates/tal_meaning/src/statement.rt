@@ -14,7 +14,6 @@ ghost use Rattle.tal_meaning.specs.Statements.{else_statements, row_statements};
 
 use crate::call::{call_what, procedure_by, push_values, variable_by};
 use crate::expression::{cond_of_expr, read_by, target_of_spot, value_of_expr};
-use gd_words::{List, NoMemory};
 use std::alloc::Global;
 use tal_names::alone::name_of_expr;
 use tal_names::lookup::meaning_of;
@@ -22,15 +21,13 @@ use tal_names::meaning::Meaning;
 use tal_names::scope::Scope;
 use tal_names::system::system_of;
 use tal_rules::statement::{after_call, inside_do, stepped};
-use tal_rules::tal_declarations::files::named_in;
-use tal_rules::tal_declarations::globals::{atom_of, constant_value};
 use tal_rules::walk::Walk;
-use tal_syntax::tal_tokens::At;
+use tal_rules::{atom_of, constant_value, named_in};
 use tal_syntax::{
-    Answer, Assign, AssignCall, Call, Direction, Expr, ForHead, Next, NextValue, Otherwise, Return,
-    Spot, Statement, Step, Test, Until,
+    Answer, Assign, AssignCall, At, Call, Direction, Expr, ForHead, Next, NextValue, Otherwise,
+    Return, Spot, Statement, Step, Test, Until,
 };
-use tal_tree::What;
+use tal_tree::{List, NoMemory, What};
 
 /// Puts one statement, on the line of a token, after those before.
 fn push_one(

@@ -4,3 +4,5 @@ pub mod Names
 pub mod Places
 pub mod Scopes
 pub mod Systems
+pub use Rattle.tal_syntax.specs.gd_words
+pub use Rattle.tal_syntax

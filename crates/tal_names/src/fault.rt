@@ -1,4 +1,4 @@
-use tal_syntax::tal_tree::Place;
+use tal_syntax::Place;
 
 /// A rule that a text breaks. A limit has its number.
 #[derive(Clone, Copy, PartialEq, Eq)]

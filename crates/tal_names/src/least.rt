@@ -2,8 +2,7 @@ ghost use Rattle.std.specs.Prelude.{◌≡◌};
 ghost use Rattle.tal_names.specs.Faults.{rule_number, which_of, is_before, earlier, least, fault_at, if_so, answer_of};
 
 use crate::fault::{Rule, RuleFault};
-use tal_syntax::tal_tokens::At;
-use tal_syntax::tal_tree::TalFault;
+use tal_syntax::{At, TalFault};
 
 /// The number by which one of two faults at a place goes before the other.
 fn rule_number(rule: Rule) -> u8

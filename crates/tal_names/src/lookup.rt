@@ -7,8 +7,7 @@ use crate::fault::{Rule, RuleFault};
 use crate::least::{with_fault, with_fault_if};
 use crate::meaning::{Meaning, Need};
 use crate::scope::Scope;
-use tal_syntax::gd_words::Ident;
-use tal_syntax::tal_tokens::At;
+use tal_syntax::{At, Ident};
 
 /// What a name stands for.
 pub fn meaning_of(scope: &Scope, name: Ident) -> Option<Meaning>

@@ -1,4 +1,4 @@
-use tal_syntax::tal_tokens::At;
+use tal_syntax::At;
 
 /// What a name is declared as.
 #[derive(Clone, Copy, PartialEq, Eq)]

@@ -6,7 +6,7 @@ use std::alloc::Global;
 use std::collections::BTreeMap;
 use std::collections::btree_map::Entry;
 use std::marker::Model;
-use tal_syntax::gd_words::{Ident, List, NoMemory};
+use tal_syntax::{Ident, List, NoMemory};
 
 /// Names and what each is declared as, in the order of the declarations. The first declaration of a name counts.
 ///

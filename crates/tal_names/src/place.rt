@@ -4,8 +4,7 @@ ghost use Rattle.tal_names.specs.Places.{first_of_both, first_of_expr, first_of_
 ghost use Rattle.tal_syntax.specs.Seen.{seen_spot, seen_factor, seen_product, seen_sum, seen_neg, seen_both, seen_expr};
 ghost use Rattle.tal_syntax.specs.Seen.{seen_argument};
 
-use tal_syntax::tal_tokens::At;
-use tal_syntax::{Argument, Both, Expr, Factor, Neg, Product, Sum};
+use tal_syntax::{Argument, At, Both, Expr, Factor, Neg, Product, Sum};
 
 /// The first token of a factor.
 pub fn at_of_factor(factor: &Factor) -> At

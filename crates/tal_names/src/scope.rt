@@ -1,6 +1,5 @@
 use crate::names::Names;
-use tal_syntax::gd_words::Ident;
-use tal_syntax::tal_tokens::At;
+use tal_syntax::{At, Ident};
 
 /// A name where it stands.
 #[derive(Clone, Copy)]

@@ -1,7 +1,7 @@
 ghost use Rattle.std.specs.Prelude.{◌≡◌};
 ghost use Rattle.tal_names.specs.Systems.{system_of};
 
-use tal_syntax::gd_words::Ident;
+use tal_syntax::Ident;
 
 /// The system's own calls.
 #[derive(Clone, Copy, PartialEq, Eq)]

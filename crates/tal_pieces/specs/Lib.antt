@@ -4,3 +4,5 @@ pub mod ReadsAgain
 pub mod Spelling
 pub mod Unlined
 pub mod Weights
+pub use Rattle.tal_meaning
+pub use Rattle.tal_rules

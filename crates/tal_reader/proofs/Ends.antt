@@ -5,7 +5,7 @@ use Rattle.std.specs.Prelude.{◌+◌, take, slice_index, ◌==◌, unwrap_or}
 use Rattle.std.specs.Option.{option_or}
 use Rattle.std.specs.Char.{is_ascii_digit}
 use Rattle.std.specs.List.{position}
-use Rattle.gd_words.specs.Spelling.{is_ident_sign, ident_of, name_of}
+use Rattle.tal_tree.specs.gd_words.specs.Spelling.{is_ident_sign, ident_of, name_of}
 use Rattle.tal_tree.specs.declared.fault.TalFault.{TalFault}
 use Rattle.tal_tokens.specs.declared.begun.Begun.{Begun}
 use Rattle.tal_tokens.specs.declared.begun.Begun.TheVariants.{Gap, Whole, Broken}

@@ -4,11 +4,13 @@ use Rattle.std.proofs.lemmas.Bool.Decides.{nat_tests}
 use Rattle.std.proofs.lemmas.List.Elements.{All-contains}
 use Rattle.std.specs.Prelude.{nat_lt}
 use Rattle.tal_tree.specs.declared.place.Place.{Place}
-use Rattle.tal_names.specs.declared.fault.Rule.{Rule}
-use Rattle.tal_names.specs.declared.fault.Rule.TheVariants.{Unknown, Twice, WrongKind, NotBefore, Prologue, Limit}
-use Rattle.tal_names.specs.declared.fault.Rule.TheVariants.{NoMain}
-use Rattle.tal_names.specs.declared.fault.RuleFault.{RuleFault}
-use Rattle.tal_names.specs.Faults.{answer_by, answer_of, rule_number, which_of, below, is_before, IsLeast}
+use Rattle.tal_meaning.specs.tal_names.specs.declared.fault.Rule.{Rule}
+use Rattle.tal_meaning.specs.tal_names.specs.declared.fault.Rule.TheVariants.{Unknown, Twice, WrongKind, NotBefore}
+use Rattle.tal_meaning.specs.tal_names.specs.declared.fault.Rule.TheVariants.{Prologue, Limit}
+use Rattle.tal_meaning.specs.tal_names.specs.declared.fault.Rule.TheVariants.{NoMain}
+use Rattle.tal_meaning.specs.tal_names.specs.declared.fault.RuleFault.{RuleFault}
+use Rattle.tal_meaning.specs.tal_names.specs.Faults.{answer_by, answer_of, rule_number, which_of, below, is_before}
+use Rattle.tal_meaning.specs.tal_names.specs.Faults.{IsLeast}
 
 same-by : (a b : ℕ) (r s : Bool) → below a b r ≡ false → below b a s ≡ false → a ≡ b
 same-by a b r s h i = grind (arith, nat_tests)

@@ -7,9 +7,9 @@ use Rattle.tal_tokens.specs.declared.token.At.{At}
 use Rattle.tal_tokens.specs.declared.token.Token.{Token}
 use Rattle.tal_tokens.specs.declared.token.Token.TheVariants as tok
 use Rattle.tal_tokens.specs.Lexer.{tokens_of}
-use Rattle.tal_syntax.specs.Grammar as g
-use Rattle.tal_syntax.specs.Expected as expect
-use Rattle.tal_syntax.specs.Expected.{IsWithin, IsUnexpected, IsTooDeep, IsUnfinished}
+use Rattle.tal_builder.specs.tal_syntax.specs.Grammar as g
+use Rattle.tal_builder.specs.tal_syntax.specs.Expected as expect
+use Rattle.tal_builder.specs.tal_syntax.specs.Expected.{IsWithin, IsUnexpected, IsTooDeep, IsUnfinished}
 use Rattle.tal_recogniser.specs.declared.judgement.Judgement.{Judgement}
 use Rattle.tal_recogniser.specs.declared.judgement.Judgement.TheVariants.{Fine, Unfinished, Unexpected, TooDeep}
 use Rattle.tal_recogniser.specs.Judged as judged
@@ -22,7 +22,7 @@ use Rattle.tal_builder.proofs.Exact.{one_syntax}
 use Rattle.tal_tree.specs.declared.fault.TalFault.{TalFault}
 use Rattle.tal_tree.specs.declared.fault.TalFault.TheVariants as fault
 use Rattle.tal_tree.specs.declared.program.Program.{Program}
-use Rattle.tal_names.specs.Faults.{IsLeast}
+use Rattle.tal_meaning.specs.tal_names.specs.Faults.{IsLeast}
 use Rattle.tal_meaning.specs.tal_rules.specs.Texts.{faults}
 use Rattle.tal_meaning.specs.Programs.{tree_of}
 use Rattle.tal_reader.specs.Places.{place_of}

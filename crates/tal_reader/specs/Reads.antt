@@ -1,16 +1,16 @@
 -- Which program a text reads as, and for which fault a text is refused that reads as none.
 use Rattle.std.specs.Prelude.{◌≡◌, ◌⊎◌, ℕ, List, [], slice_get, Some, None, Result, Ok, Err}
-use Rattle.gd_words.specs.Memory.{no_memory}
+use Rattle.tal_tree.specs.gd_words.specs.Memory.{no_memory}
 use Rattle.tal_tokens.specs.declared.token.Token.{Token}
 use Rattle.tal_tokens.specs.Lexer.{tokens_of}
-use Rattle.tal_syntax.specs.Grammar as g
-use Rattle.tal_syntax.specs.Nesting.{nest_text}
-use Rattle.tal_syntax.specs.Expected.{AllAtMost, IsUnexpected, IsTooDeep, IsUnfinished}
+use Rattle.tal_builder.specs.tal_syntax.specs.Grammar as g
+use Rattle.tal_builder.specs.tal_syntax.specs.Nesting.{nest_text}
+use Rattle.tal_builder.specs.tal_syntax.specs.Expected.{AllAtMost, IsUnexpected, IsTooDeep, IsUnfinished}
 use Rattle.tal_tree.specs.declared.fault.TalFault.{TalFault}
 use Rattle.tal_tree.specs.declared.fault.TalFault.TheVariants as fault
 use Rattle.tal_tree.specs.declared.program.Program.{Program}
-use Rattle.tal_names.specs.declared.fault.RuleFault.{RuleFault}
-use Rattle.tal_names.specs.Faults.{answer_of, IsLeast}
+use Rattle.tal_meaning.specs.tal_names.specs.declared.fault.RuleFault.{RuleFault}
+use Rattle.tal_meaning.specs.tal_names.specs.Faults.{answer_of, IsLeast}
 use Rattle.tal_meaning.specs.tal_rules.specs.Texts.{faults}
 use Rattle.tal_meaning.specs.Programs.{tree_of}
 use Rattle.tal_meaning.specs.Judged.{Judged}

@@ -1,5 +1,5 @@
 ghost use Rattle.std.specs.Prelude.{◌≡◌, ◌<◌, ℕ, List, length};
-ghost use Rattle.tal_syntax.specs.Expected.{IsWithin};
+ghost use Rattle.tal_builder.specs.tal_syntax.specs.Expected.{IsWithin};
 ghost use Rattle.tal_reader.specs.Reads.{Reads, IsRead, IsRefused, IsJudged};
 ghost use Rattle.tal_tree.specs.declared.fault.TalFault.{TalFault as Fault};
 ghost use Rattle.tal_tree.specs.declared.program.Program.{Program as Tree};

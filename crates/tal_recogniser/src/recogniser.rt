@@ -5,9 +5,8 @@ ghost use Rattle.tal_recogniser.specs.Judged.{Judged};
 
 use crate::judgement::Judgement;
 use crate::stack::Stack;
-use gd_words::NoMemory;
 use std::alloc::Global;
-use tal_tokens::Token;
+use tal_tokens::{NoMemory, Token};
 
 /// How many levels may stand open, that of a procedure's own statement counted.
 const DEEPEST: usize = 33;

@@ -4,11 +4,10 @@ ghost use Rattle.tal_recogniser.specs.Judged.{Fed};
 
 use crate::symbol::Symbol;
 use crate::table::{row, vanishes};
-use gd_words::NoMemory;
 use std::alloc::Global;
 use std::collections::VecDeque;
 use std::marker::Model;
-use tal_tokens::Token;
+use tal_tokens::{NoMemory, Token};
 
 /// What is still to come of a text, the next first, with the count of levels that stand open.
 #[derive(Drop)]

@@ -14,7 +14,6 @@ ghost use Rattle.tal_syntax.specs.Seen.{seen_argument, seen_further, seen_argume
 
 use crate::expression::judge_value;
 use crate::walk::{Stage, Walk};
-use gd_words::{Ident, NoMemory};
 use std::alloc::Global;
 use tal_declarations::files::{is_receive, named_in};
 use tal_declarations::globals::{atom_of, constant_value, judge_constant};
@@ -29,8 +28,7 @@ use tal_names::names::Names;
 use tal_names::place::at_of_argument;
 use tal_names::scope::{Named, Scope};
 use tal_names::system::System;
-use tal_syntax::tal_tokens::At;
-use tal_syntax::{Argument, Arguments, Constant, NextArgument, NextValue};
+use tal_syntax::{Argument, Arguments, At, Constant, Ident, NextArgument, NextValue, NoMemory};
 
 /// The most files.
 const FILES: u8 = 8;

@@ -14,10 +14,9 @@ use tal_names::lookup::judge_name;
 use tal_names::meaning::{Need, Wanted};
 use tal_names::place::{at_of_expr, at_of_factor, at_of_product, at_of_sum};
 use tal_names::scope::Scope;
-use tal_syntax::tal_tokens::At;
 use tal_syntax::{
-    Both, Compared, Expr, Factor, Index, Neg, NextBoth, NextFactor, NextNeg, Product, Spot, Sum,
-    Term,
+    At, Both, Compared, Expr, Factor, Index, Neg, NextBoth, NextFactor, NextNeg, Product, Spot,
+    Sum, Term,
 };
 
 /// A condition stands there.

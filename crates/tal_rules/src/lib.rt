@@ -12,5 +12,7 @@ pub mod statement;
 pub mod text;
 pub mod walk;
 
-pub use tal_declarations;
+pub use tal_declarations::files::named_in;
+pub use tal_declarations::globals::{atom_of, constant_value};
+pub use tal_declarations::heading::{does_give, locals_of, parameters_of};
 pub use walk::{Progress, Stage, Walk};

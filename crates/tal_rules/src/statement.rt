@@ -19,7 +19,6 @@ ghost use Rattle.tal_syntax.specs.Seen.{seen_step, seen_otherwise, seen_row};
 use crate::call::{judge_call, judge_called, judge_values, opens_receive};
 use crate::expression::{judge_expr, judge_spot, judge_value};
 use crate::walk::{Stage, Walk};
-use gd_words::NoMemory;
 use std::alloc::Global;
 use tal_declarations::files::named_in;
 use tal_declarations::globals::{at_of_constant, atom_of, constant_value, judge_constant};
@@ -30,10 +29,9 @@ use tal_names::lookup::{judge_kind, judge_name, meaning_of};
 use tal_names::meaning::{Meaning, Need, Wanted};
 use tal_names::scope::Scope;
 use tal_names::system::{System, system_of};
-use tal_syntax::tal_tokens::At;
 use tal_syntax::{
-    Answer, Arguments, Assign, AssignCall, Call, Expr, ForHead, Next, NextValue, Otherwise, Return,
-    Statement, Step, Test, Until,
+    Answer, Arguments, Assign, AssignCall, At, Call, Expr, ForHead, Next, NextValue, NoMemory,
+    Otherwise, Return, Statement, Step, Test, Until,
 };
 
 /// The most numbered statements.

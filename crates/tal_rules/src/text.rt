@@ -14,7 +14,6 @@ ghost use Rattle.tal_syntax.specs.Seen.{seen_procedures, seen_lines, seen_text};
 
 use crate::statement::{Judged, judge_row, judge_statement};
 use crate::walk::{Progress, Stage, Walk};
-use gd_words::{List, NoMemory};
 use std::alloc::Global;
 use tal_declarations::files::{row_files, statement_files};
 use tal_declarations::globals::{declared_by, nothing_declared};
@@ -26,9 +25,8 @@ use tal_names::fault::{Rule, RuleFault};
 use tal_names::least::with_fault_if;
 use tal_names::names::Names;
 use tal_names::scope::Scope;
-use tal_syntax::tal_tokens::At;
-use tal_syntax::tal_tokens::tal_tree::{FileUse, Item};
-use tal_syntax::{Heading, Local, Main, Next, Procedure, Statement, Text};
+use tal_syntax::{At, Heading, List, Local, Main, Next, NoMemory, Procedure, Statement, Text};
+use tal_tree::{FileUse, Item};
 
 /// The most procedures.
 const PROCEDURES: u16 = 64;

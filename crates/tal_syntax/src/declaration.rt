@@ -1,5 +1,4 @@
-use tal_tokens::At;
-use tal_tokens::gd_words::{Ident, List};
+use tal_tokens::{At, Ident, List};
 
 /// `number | name`
 #[derive(Clone, Copy)]

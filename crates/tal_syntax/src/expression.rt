@@ -1,5 +1,4 @@
-use tal_tokens::At;
-use tal_tokens::gd_words::{Boxed, Ident, List};
+use tal_tokens::{At, Boxed, Ident, List};
 
 /// `"=" | "<>" | "<" | "<=" | ">" | ">="`
 #[derive(Clone, Copy)]

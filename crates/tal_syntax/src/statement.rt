@@ -1,7 +1,6 @@
 use crate::declaration::Constant;
 use crate::expression::{Expr, Spot};
-use tal_tokens::At;
-use tal_tokens::gd_words::{Boxed, Ident, List, Name};
+use tal_tokens::{At, Boxed, Ident, List, Name};
 
 /// `expr | string`
 #[derive(Drop)]

@@ -1,7 +1,6 @@
 use crate::declaration::{Globals, Heading, Local};
 use crate::statement::{Next, Statement};
-use tal_tokens::At;
-use tal_tokens::gd_words::List;
+use tal_tokens::{At, List};
 
 /// `heading { local } BEGIN { local } statement { ";" statement } END ";"`
 #[derive(Drop)]

@@ -20,7 +20,7 @@ use Rattle.process_semantics.specs.Steps.{bound_by}
 use Rattle.process_semantics.proofs.Leading.{all-stay}
 use Rattle.process_semantics.proofs.Rests.{ahead-is, rests-is, rests_by, runs-more}
 use Rattle.program_deeds.specs.Deed.{Assigns, Tests, counts_by, deed_run, deed_test, deed_last}
-use Rattle.tal_values.specs.Spots.{spot_of}
+use Rattle.process_semantics.specs.tal_values.specs.Spots.{spot_of}
 use Rattle.tal_table.specs.Loads.{Finds, FindsAll, IsNode, Each, Puts, rests_at, number_or, begins}
 use Rattle.tal_table.specs.Loads.{first_number, IsLeaf}
 use Rattle.tal_table.specs.Places.{rest_at}

@@ -15,7 +15,7 @@ use Rattle.tal_tree.specs.declared.expression.Variable.TheVariants as variable
 use Rattle.tal_tree.specs.declared.statement.Statement.{Statement}
 use Rattle.tal_tree.specs.declared.statement.What.{What, What-F, If, While, For, DoUntil, out-What}
 use Rattle.tal_tree.specs.declared.statement.What.TheViews.{rolls-If, rolls-While, rolls-For, rolls-DoUntil}
-use Rattle.tal_values.specs.Spots.{spot_of}
+use Rattle.process_semantics.specs.tal_values.specs.Spots.{spot_of}
 use Rattle.tal_code.specs.Waiting.{waiting_of, waiting_of_spot, waiting_for, waiting_of_test, waiting_of_all}
 use Rattle.tal_code.specs.Waiting.{waiting_at}
 use Rattle.tal_table.specs.Loads.{FewWait}

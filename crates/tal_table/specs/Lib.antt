@@ -2,3 +2,8 @@ pub mod Loads
 pub mod Places
 pub mod Seen
 pub mod Tables
+pub use Rattle.checkpoint_image
+pub use Rattle.checkpoint_image.specs.process_images
+pub use Rattle.program_deeds
+pub use Rattle.tal_code
+pub use Rattle.checkpoint_image.specs.whole_states

@@ -1,5 +1,5 @@
 ghost use Rattle.std.specs.Prelude.{◌≡◌, ◌≤◌, length, IfOk};
-ghost use Rattle.process_images.specs.Images.{asking_from, asks_a_process, listable_from};
+ghost use Rattle.checkpoint_image.specs.process_images.specs.Images.{asking_from, asks_a_process, listable_from};
 ghost use Rattle.tal_tree.specs.Shapes.{has_words};
 
 use checkpoint_image::Listed;

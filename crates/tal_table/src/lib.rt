@@ -16,5 +16,7 @@ pub mod node;
 pub mod table;
 mod works;
 
+pub use checkpoint_image::{Behaviour, Listed};
 pub use node::{Heading, Node, Work};
 pub use table::Table;
+pub use tal_code::{Code, cell, truth, value};

@@ -1,5 +1,5 @@
 ghost use Rattle.std.specs.Prelude.{◌≡◌, ◌≤◌, [], length, slice_get, None, IfOk, IfSome, IfNone};
-ghost use Rattle.process_images.specs.Images.{asking_from, listable_from};
+ghost use Rattle.checkpoint_image.specs.process_images.specs.Images.{asking_from, listable_from};
 ghost use Rattle.process_semantics.specs.Rests.{next_number};
 ghost use Rattle.tal_tree.specs.Limits.{IsWithinLimits};
 ghost use Rattle.tal_tree.specs.Ordered.{IsNumbered};
@@ -35,7 +35,7 @@ impl Model for Table {
     ghost use Rattle.std.specs.Coded.{codes};
     ghost use Rattle.tal_tree.specs.contracts.statement.Statement as statement;
     ghost use Rattle.tal_tree.specs.declared.program.Program.{Program};
-    ghost use Rattle.process_images.specs.Images.{asking_from, listable_from};
+    ghost use Rattle.checkpoint_image.specs.process_images.specs.Images.{asking_from, listable_from};
     ghost use Rattle.tal_table.specs.Tables.{IsTable};
 
     ghost Value = { Program };

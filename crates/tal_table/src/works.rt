@@ -4,7 +4,7 @@ ghost use Rattle.tal_tree.specs.declared.expression.Expr.TheVariants as expr;
 ghost use Rattle.tal_tree.specs.declared.statement.What.{out-What};
 ghost use Rattle.process_semantics.specs.Steps.{bound_by};
 ghost use Rattle.program_deeds.specs.Deed.{counts_by};
-ghost use Rattle.tal_values.specs.Spots.{spot_of};
+ghost use Rattle.process_semantics.specs.tal_values.specs.Spots.{spot_of};
 ghost use Rattle.tal_code.specs.Waiting.{waiting_of, waiting_of_spot, waiting_for, waiting_of_test, waiting_of_all};
 ghost use Rattle.tal_code.specs.Waiting.{waiting_of_answer, waiting_at};
 ghost use Rattle.tal_table.specs.Loads.{IsAlone, IsLeaf};

@@ -7,8 +7,7 @@ use crate::symbol::{is_blank, symbol};
 use crate::text::string;
 use crate::token::Token;
 use crate::word::name;
-use tal_tree::TalFault;
-use tal_tree::gd_words::ident::is_ident_sign;
+use tal_tree::{TalFault, is_ident_sign};
 
 /// What a text begins with: so many bytes that separate tokens, a token of so many bytes, or what no token begins with.
 #[derive(Clone, Copy, PartialEq, Eq)]

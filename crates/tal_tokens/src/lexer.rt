@@ -5,8 +5,7 @@ use crate::begun::Begun;
 use crate::cursor::Cursor;
 use crate::token::Token;
 use std::alloc::Global;
-use tal_tree::TalFault;
-use tal_tree::gd_words::{List, NoMemory};
+use tal_tree::{List, NoMemory, TalFault};
 
 /// The tokens of a text, `Finish` last, or the tokens before the first byte that belongs to none, and the fault there.
 #[derive(Drop)]

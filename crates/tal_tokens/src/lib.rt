@@ -17,6 +17,5 @@ pub mod token;
 mod word;
 
 pub use lexer::{TokenList, tokens};
-pub use tal_tree;
-pub use tal_tree::gd_words;
+pub use tal_tree::{Boxed, Ident, List, Name, NoMemory, Place, TalFault};
 pub use token::{At, Token};

@@ -4,7 +4,7 @@ ghost use Rattle.std.specs.Char.{is_ascii_digit};
 ghost use Rattle.tal_tree.specs.gd_words.specs.Spelling.{is_ident_sign};
 ghost use Rattle.tal_tokens.specs.Lexeme.{run_of, is_octal};
 
-use tal_tree::gd_words::ident::is_ident_sign;
+use tal_tree::is_ident_sign;
 
 fn name_end(text: &[u8]) -> Option<usize>
     ensures { result ≡ position (λ c. not (is_ident_sign c)) text.now }

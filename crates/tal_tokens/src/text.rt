@@ -6,8 +6,7 @@ ghost use Rattle.tal_tokens.specs.Lexeme.{same, is_string_end, text_token, strin
 use crate::begun::Begun;
 use crate::cursor::Cursor;
 use crate::token::{At, Token};
-use tal_tree::TalFault;
-use tal_tree::gd_words::Name;
+use tal_tree::{Name, TalFault};
 
 fn is_receive(text: &[u8]) -> bool
     ensures { result ≡ same (map to_ascii_lowercase text.now) (codes "$receive") }

@@ -1,5 +1,4 @@
-use tal_tree::Place;
-use tal_tree::gd_words::{Ident, Name};
+use tal_tree::{Ident, Name, Place};
 
 /// Where a token stands: its place, and its bytes in the text from `start` up to, but without, `end`.
 #[derive(Clone, Copy, PartialEq, Eq)]

@@ -5,8 +5,7 @@ use crate::begun::Begun;
 use crate::cursor::Cursor;
 use crate::run::name_run;
 use crate::token::{At, Token};
-use tal_tree::TalFault;
-use tal_tree::gd_words::Ident;
+use tal_tree::{Ident, TalFault};
 
 fn is(word: &[u8], text: &[u8]) -> bool
     ensures { result ≡ same word.now text.now }

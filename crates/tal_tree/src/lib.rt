@@ -17,8 +17,11 @@ pub mod statement;
 pub use act::{Act, Shown};
 pub use expression::{Cond, Expr, Op, Rel, Spot, Variable};
 pub use fault::{DeckFault, TalFault};
-pub use gd_words;
-pub use gd_words::Ident;
+pub use gd_words::ident::is_ident_sign;
+pub use gd_words::{
+    Boxed, DeviceCall, Ident, List, Name, NoMemory, Sector, Words, div_trunc, wrap_add, wrap_mul,
+    wrap_neg, wrap_sub,
+};
 pub use place::Place;
 pub use program::{FileUse, Item, Procedure, Program, Shape, Target};
 pub use site::{Kind, OpenerSpec, ProcessSpec, Site, TerminalSpec, Who};

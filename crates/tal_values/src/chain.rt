@@ -2,8 +2,7 @@ ghost use Rattle.std.specs.Prelude.{◌≡◌, IfOk};
 ghost use Rattle.tal_values.specs.Chain.{expr_of, chained, cond_of, linked};
 
 use std::alloc::Global;
-use tal_tree::gd_words::NoMemory;
-use tal_tree::{Cond, Expr, Op, Rel, Spot};
+use tal_tree::{Cond, Expr, NoMemory, Op, Rel, Spot};
 
 /// What a chain of operators begins with.
 #[derive(Clone, Copy)]

@@ -9,8 +9,7 @@ use crate::expression::value;
 use crate::memory::Memory;
 use crate::operators::holds;
 use std::alloc::Global;
-use tal_tree::gd_words::NoMemory;
-use tal_tree::{Cond, Rel};
+use tal_tree::{Cond, NoMemory, Rel};
 
 /// The truth of a condition. None is a trap of a value that is looked at.
 #[cycle(truth)]

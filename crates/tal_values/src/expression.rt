@@ -7,8 +7,7 @@ use crate::chain::{Operand, expr_chain};
 use crate::memory::{Cell, Memory};
 use crate::operators::{applied, element, negated};
 use std::alloc::Global;
-use tal_tree::gd_words::NoMemory;
-use tal_tree::{Expr, Spot};
+use tal_tree::{Expr, NoMemory, Spot};
 
 /// The value of an expression. None is a trap: a zero divisor, or an index outside the bounds of its array.
 #[cycle(value)]

@@ -14,5 +14,7 @@ pub mod operators;
 pub use condition::truth;
 pub use expression::{cell, value};
 pub use memory::{Cell, Memory};
-pub use tal_tree;
-pub use tal_tree::gd_words;
+pub use tal_tree::{
+    DeviceCall, FileUse, Item, Kind, List, Name, NoMemory, OpenerSpec, ProcessSpec, Sector, Shape,
+    Site, Statement, Target, TerminalSpec, Variable, Who, Words,
+};

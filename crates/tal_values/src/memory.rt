@@ -2,8 +2,7 @@ ghost use Rattle.std.specs.Prelude.{◌≡◌};
 ghost use Rattle.tal_values.specs.Value.{place_in, place_of, word_at};
 ghost use Rattle.tal_values.specs.Seen.{seen};
 
-use tal_tree::gd_words::List;
-use tal_tree::{Item, Shape};
+use tal_tree::{Item, List, Shape};
 
 /// What expressions read: the items of the program, the words of each item, and the words of the locals of the running
 /// procedure.

@@ -4,8 +4,7 @@ ghost use Rattle.tal_values.specs.Seen.{seen};
 ghost use Rattle.tal_values.specs.Value.{both, holds, place_of, result_of};
 
 use crate::memory::{Cell, Memory};
-use tal_tree::gd_words::{div_trunc, wrap_add, wrap_mul, wrap_neg, wrap_sub};
-use tal_tree::{Op, Rel};
+use tal_tree::{Op, Rel, div_trunc, wrap_add, wrap_mul, wrap_neg, wrap_sub};
 
 /// The result of an operator on two words, none where one of them traps.
 pub fn applied(op: Op, left: Option<i16>, right: Option<i16>) -> Option<i16>

@@ -12,4 +12,3 @@ pub mod lines;
 pub use form::Form;
 pub use laws::{a_line_of_json_is_one_line, a_line_of_json_is_read_as_its_object};
 pub use lines::put_line;
-pub use trace_lines;

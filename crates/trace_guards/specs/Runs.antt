@@ -8,10 +8,11 @@ use Rattle.mirror.specs.declared.state.DriveState.{DriveState}
 use Rattle.schedule.specs.declared.event.DriveChange.{DriveChange}
 use Rattle.schedule.specs.declared.event.Event.{Event}
 use Rattle.schedule.specs.declared.event.Event.TheVariants as event
-use Rattle.site_machine.specs.packet_wires.specs.Examples.{adder_at_boot, before_third_piece, next_x, times}
-use Rattle.site_machine.specs.packet_wires.specs.Examples.{up_to_checkpoint, up_to_reply}
-use Rattle.site_machine.specs.packet_wires.specs.Play.{Packeted}
-use Rattle.site_machine.specs.packet_wires.specs.Sights.{end_of}
+use Rattle.event_findings.specs.site_machine.specs.packet_wires.specs.Examples.{adder_at_boot, before_third_piece}
+use Rattle.event_findings.specs.site_machine.specs.packet_wires.specs.Examples.{next_x, times}
+use Rattle.event_findings.specs.site_machine.specs.packet_wires.specs.Examples.{up_to_checkpoint, up_to_reply}
+use Rattle.event_findings.specs.site_machine.specs.packet_wires.specs.Play.{Packeted}
+use Rattle.event_findings.specs.site_machine.specs.packet_wires.specs.Sights.{end_of}
 use Rattle.tal_tree.specs.declared.site.Who.TheVariants as who
 use Rattle.trace_lines.specs.declared.finding.ActName.{ActName}
 use Rattle.trace_lines.specs.declared.finding.ActName.TheVariants as act

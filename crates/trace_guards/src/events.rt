@@ -7,8 +7,10 @@ ghost use Rattle.process_semantics.specs.declared.point.Point.TheVariants as poi
 ghost use Rattle.mirror.specs.declared.state.DriveState.TheVariants.{Failed, Reviving, Working};
 ghost use Rattle.schedule.specs.declared.event.DriveChange.TheVariants.{Break, Copy, Revive};
 ghost use Rattle.schedule.specs.declared.event.Event.TheVariants as event;
-ghost use Rattle.site_machine.specs.packet_wires.specs.Examples.{adder_at_boot, before_third_piece, next_x, served};
-ghost use Rattle.site_machine.specs.packet_wires.specs.Examples.{taken_over};
+ghost use Rattle.event_findings.specs.site_machine.specs.packet_wires.specs.Examples.{adder_at_boot};
+ghost use Rattle.event_findings.specs.site_machine.specs.packet_wires.specs.Examples.{before_third_piece, next_x};
+ghost use Rattle.event_findings.specs.site_machine.specs.packet_wires.specs.Examples.{served};
+ghost use Rattle.event_findings.specs.site_machine.specs.packet_wires.specs.Examples.{taken_over};
 ghost use Rattle.trace_lines.specs.declared.finding.ActName.TheVariants as act;
 ghost use Rattle.trace_lines.specs.declared.finding.Fate.TheVariants as fate;
 ghost use Rattle.trace_lines.specs.declared.finding.Finding.TheVariants as finding;

@@ -18,10 +18,8 @@ mod set_words;
 pub mod shown_words;
 mod statements;
 
-pub use alive_regroup;
 pub use event_line::{EventTold, put_event, put_event_name};
 pub use finding::{ActName, Fate, Finding, MessageName, PacketSight, PacketSort, WhyIgnored};
 pub use finding_words::put_found;
 pub use places::Places;
-pub use process_semantics;
 pub use shown_words::put_showing;

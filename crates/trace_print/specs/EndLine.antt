@@ -13,7 +13,7 @@ use Rattle.trace_print.specs.declared.closing.End.TheVariants.{Advised}
 abbrev pub end_line : End → List ℕ
 end_line Idle = codes "END idle" ++ 10 ∷ []
 end_line Cut = codes "END cut" ++ 10 ∷ []
-end_line (Second process) = codes "END second " ++ decimal process ++ 10 ∷ []
+end_line (Second processor) = codes "END second " ++ decimal processor ++ 10 ∷ []
 end_line Checked = codes "END checked" ++ 10 ∷ []
 end_line Refused = codes "END refused" ++ 10 ∷ []
 end_line Swept = codes "END swept" ++ 10 ∷ []

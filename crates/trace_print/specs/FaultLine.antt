@@ -7,7 +7,7 @@ use Rattle.tal_tree.specs.declared.fault.DeckFault.TheVariants.{NoMemory}
 use Rattle.trace_print.specs.NumbersText.{numbers_text}
 use Rattle.trace_print.specs.TalNumbers.{IsOfText, tal_numbers}
 
--- a fault of the deck itself, and not want of memory
+-- a fault of the deck itself, and not that memory ran out
 abbrev pub IsOfDeck : DeckFault → Type 0
 IsOfDeck (Program line fault) = IsOfText fault
 IsOfDeck (NoMemory _) = ⊥

@@ -15,3 +15,4 @@ pub mod VerdictLine
 pub mod VerdictText
 pub use Rattle.mirror
 pub use Rattle.site_advice
+pub use Rattle.site_advice.specs.verdicts

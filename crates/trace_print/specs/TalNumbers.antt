@@ -6,7 +6,7 @@ use Rattle.tal_tree.specs.declared.fault.TalFault.TheVariants.{BadCharacter, Num
 use Rattle.tal_tree.specs.declared.fault.TalFault.TheVariants.{Expected, Unknown, Twice, WrongKind, NotBefore, Prologue}
 use Rattle.tal_tree.specs.declared.fault.TalFault.TheVariants.{Limit, NoMain, NoMemory}
 
--- a fault of the text itself, and not want of memory
+-- a fault of the text itself, and not that memory ran out
 abbrev pub IsOfText : TalFault → Type 0
 IsOfText (NoMemory _) = ⊥
 IsOfText _ = Unit {0}

@@ -2,10 +2,11 @@
 use Rattle.std.specs.Prelude.{ℕ, List, [], ◌∷◌, ◌++◌, flat_map, slice_get, codes}
 use Rattle.std.specs.Fmt.{decimal}
 use Rattle.std.specs.Option.{option_map, unwrap_or}
-use Rattle.path_semantics.specs.declared.reason.Reason.{Reason}
-use Rattle.path_semantics.specs.declared.reason.Reason.TheVariants.{Data, SyncBlock, Input, Depth}
-use Rattle.path_semantics.specs.declared.reason.RefusalFault.{RefusalFault}
-use Rattle.path_semantics.specs.declared.reason.RefusalFault.TheVariants.{TooDeep, TooLarge, Broken, NoMemory}
+use Rattle.site_advice.specs.path_semantics.specs.declared.reason.Reason.{Reason}
+use Rattle.site_advice.specs.path_semantics.specs.declared.reason.Reason.TheVariants.{Data, SyncBlock, Input, Depth}
+use Rattle.site_advice.specs.path_semantics.specs.declared.reason.RefusalFault.{RefusalFault}
+use Rattle.site_advice.specs.path_semantics.specs.declared.reason.RefusalFault.TheVariants.{TooDeep, TooLarge, Broken}
+use Rattle.site_advice.specs.path_semantics.specs.declared.reason.RefusalFault.TheVariants.{NoMemory}
 use Rattle.statement_lines.specs.Lines.{line_among}
 use Rattle.tal_tree.specs.declared.site.Kind.{Kind}
 use Rattle.tal_tree.specs.declared.site.Kind.TheVariants as kind

@@ -13,8 +13,7 @@ use crate::line::Line;
 use crate::shown::process_name;
 use crate::verdict::global_name;
 use gd_io::{Sink, WriteFault, put_all};
-use site_advice::PairAdvice;
-use site_advice::advice::Advised;
+use site_advice::{Advised, PairAdvice};
 use tal_tree::{FileUse, Kind, Program, Site, Target};
 
 /// Writes the advice for the pairs of a site, in order, and the end. It takes no memory.

@@ -77,9 +77,9 @@ fn end_text(end: End) -> Line
     match end {
         End::Idle => line.push(b"END idle\n"),
         End::Cut => line.push(b"END cut\n"),
-        End::Second(process) => {
+        End::Second(processor) => {
             line.push(b"END second ");
-            line.number(i64::from(process));
+            line.number(i64::from(processor));
             line.push(b"\n");
         }
         End::Checked => line.push(b"END checked\n"),

@@ -10,7 +10,7 @@ use crate::closing::{End, write_end};
 use crate::line::Line;
 use crate::shown::process_name;
 use gd_io::{Sink, WriteFault, put_all};
-use path_semantics::{Reason, RefusalFault};
+use site_advice::{Reason, RefusalFault};
 use tal_tree::{Kind, ProcessSpec, Site};
 
 /// Writes that every program of a site is accepted: a line for each pair, and the end. It takes no memory.

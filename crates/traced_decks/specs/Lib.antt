@@ -1,2 +1,3 @@
 pub mod PlacesOf
 pub use Rattle.traced_runs
+pub use Rattle.accepted_decks.specs.verdicts

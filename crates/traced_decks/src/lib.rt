@@ -8,7 +8,7 @@
 pub mod places;
 pub mod tracing;
 
-pub use accepted_decks;
+pub use accepted_decks::an_accepted_deck_meets_the_premises;
 pub use places::places_of;
 pub use trace_lines::Places;
 pub use traced_runs::{Form, Manner, Ran, Span, TraceFault};

@@ -1,10 +1,9 @@
 ghost use Rattle.std.specs.Prelude.{ℕ, List};
 ghost use Rattle.accepted_decks.specs.deck_reader.specs.Decks.{Decks};
 ghost use Rattle.traced_runs.specs.Traces.{Traces};
-ghost use Rattle.verdicts.specs.Refused.{AreAccepted};
+ghost use Rattle.accepted_decks.specs.verdicts.specs.Refused.{AreAccepted};
 
-use accepted_decks::an_accepted_deck_meets_the_premises;
-use accepted_decks::deck_reader::Deck;
+use accepted_decks::{Deck, an_accepted_deck_meets_the_premises};
 use gd_io::Sink;
 use logs::Shared;
 use player::ProcessorStop;

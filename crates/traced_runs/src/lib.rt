@@ -12,11 +12,10 @@ mod lines;
 pub mod manner;
 mod running;
 
-pub use event_findings;
-pub use event_findings::trace_lines;
+pub use event_findings::{Noted, findings, note, shown_since, what_is_found_is_told};
 pub use fault::TraceFault;
 pub use lines::ending_of;
 pub use manner::{Manner, Span};
-pub use packet_runs::{PlayedPackets, Ran, site_machine, sizes_of};
+pub use packet_runs::{Machine, PlayedPackets, Ran, sizes_of};
 pub use running::run;
 pub use trace_forms::Form;

@@ -13,7 +13,7 @@ use event_findings::{Noted, findings, note, shown_since, what_is_found_is_told};
 use gd_io::{Sink, put_all};
 use gd_words::{List, NoMemory};
 use machine_states::Effect;
-use packet_runs::site_machine::Machine;
+use packet_runs::Machine;
 use schedule::Event;
 use schedule_loop::Ending;
 use std::alloc::Global;

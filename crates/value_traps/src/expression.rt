@@ -6,8 +6,7 @@ ghost use Rattle.value_traps.specs.Traps.{cell_or_trap, value_or_trap};
 use crate::operators::{applied, element, negated, read};
 use crate::trap::ValueTrap;
 use std::alloc::Global;
-use tal_tree::gd_words::NoMemory;
-use tal_tree::{Expr, Spot};
+use tal_tree::{Expr, NoMemory, Spot};
 use tal_values::chain::{Operand, expr_chain};
 use tal_values::{Cell, Memory};
 

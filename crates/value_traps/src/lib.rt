@@ -16,5 +16,4 @@ pub mod trap;
 pub use condition::truth_or_trap;
 pub use expression::{cell_or_trap, value_or_trap};
 pub use laws::a_trap_is_met_where_no_value_is;
-pub use tal_values;
 pub use trap::ValueTrap;

@@ -5,8 +5,7 @@ ghost use Rattle.value_traps.specs.Traps.{made, of_both, place_or_trap, place_wo
 ghost use Rattle.value_traps.specs.Traps.{word_or_trap, worked_on};
 
 use crate::trap::ValueTrap;
-use tal_tree::gd_words::wrap_neg;
-use tal_tree::{Op, Shape};
+use tal_tree::{Op, Shape, wrap_neg};
 use tal_values::operators::applied as result_of;
 use tal_values::{Cell, Memory};
 

@@ -5,7 +5,7 @@ use Rattle.std.proofs.lemmas.Bool.{eqb-true, eqb-false}
 use Rattle.std.specs.Option.{option_and_then}
 use Rattle.tal_tree.specs.declared.program.Program.{Program}
 use Rattle.tal_tree.specs.declared.site.ProcessSpec.{ProcessSpec}
-use Rattle.path_semantics.specs.Accepted.{IsAccepted}
+use Rattle.discipline.specs.path_semantics.specs.Accepted.{IsAccepted}
 use Rattle.verdicts.specs.Causes.{IsAcceptedKind}
 use Rattle.verdicts.specs.Refused.{AreAccepted, AreAcceptedBefore, program_at, program_of}
 

@@ -3,8 +3,8 @@ use Rattle.std.specs.Prelude.{◌≡◌, ◌≢◌, Option, Some, Err}
 use Rattle.gd_words.specs.Memory.{no_memory}
 use Rattle.tal_tree.specs.declared.program.Program.{Program}
 use Rattle.tal_tree.specs.declared.site.Kind.{Kind}
-use Rattle.path_semantics.specs.Accepted.{IsAccepted}
-use Rattle.path_semantics.specs.declared.reason.RefusalFault.TheVariants.{NoMemory}
+use Rattle.discipline.specs.path_semantics.specs.Accepted.{IsAccepted}
+use Rattle.discipline.specs.path_semantics.specs.declared.reason.RefusalFault.TheVariants.{NoMemory}
 use Rattle.discipline.specs.Verdict.{IsVerdict}
 use Rattle.statement_lines.specs.Lines.{lines_of}
 use Rattle.verdicts.specs.Refused.{program_of}

@@ -6,8 +6,8 @@ use Rattle.tal_tree.specs.declared.program.Program.{Program}
 use Rattle.tal_tree.specs.declared.site.Kind.{Kind}
 use Rattle.tal_tree.specs.declared.site.Kind.TheVariants as kind
 use Rattle.tal_tree.specs.declared.site.ProcessSpec.{ProcessSpec}
-use Rattle.path_semantics.specs.Accepted.{IsAccepted}
-use Rattle.path_semantics.specs.declared.reason.RefusalFault.TheVariants.{NoMemory}
+use Rattle.discipline.specs.path_semantics.specs.Accepted.{IsAccepted}
+use Rattle.discipline.specs.path_semantics.specs.declared.reason.RefusalFault.TheVariants.{NoMemory}
 use Rattle.discipline.specs.Verdict.{IsVerdict}
 use Rattle.statement_lines.specs.Lines.{lines_of}
 use Rattle.verdicts.specs.declared.refused.RefusedProgram.{RefusedProgram}

@@ -6,5 +6,5 @@
 
 pub mod refused;
 
-pub use discipline;
+pub use discipline::check;
 pub use refused::{RefusedProgram, first_refused};

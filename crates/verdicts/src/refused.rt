@@ -3,9 +3,8 @@ ghost use Rattle.verdicts.specs.Causes.{IsAcceptedKind, IsCauseOf};
 ghost use Rattle.verdicts.specs.Judgeable.{AreJudgeable, IsJudgeable, IsJudgeableKind};
 ghost use Rattle.verdicts.specs.Refused.{AreAccepted, IsFirstRefused};
 
-use discipline::check;
+use discipline::{RefusalFault, check};
 use gd_words::{List, NoMemory};
-use path_semantics::RefusalFault;
 use statement_lines::lines_of;
 use std::alloc::Global;
 use tal_tree::{Kind, ProcessSpec, Program};

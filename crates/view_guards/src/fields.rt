@@ -10,7 +10,7 @@ ghost use Rattle.tal_tree.specs.declared.statement.Statement.{Statement};
 ghost use Rattle.world_semantics.specs.declared.role.Role.TheVariants.{Acting, Watching};
 ghost use Rattle.world_semantics.specs.World.{World};
 ghost use Rattle.world_semantics.specs.Core.{Core, next_on};
-ghost use Rattle.machine_views.specs.Views.{awaited_at, awaited_by, copy_view, image_of_everything, marks_in};
+ghost use Rattle.machine_views.specs.Views.{awaited_view_at, awaited_view, copy_view, image_of_everything, marks_in};
 ghost use Rattle.machine_views.specs.Views.{sector_views, stopped_in, terminal_view, view_of};
 ghost use Rattle.view_guards.specs.Copies.{acting, core_of, framed, watching};
 
@@ -25,7 +25,7 @@ pub fn a_copy_is_told_field_by_field()
           number = 4;
           sent = true;
           renewal = false;
-          awaited = awaited_by (core_of state table);
+          awaited = awaited_view (core_of state table);
           point = point state;
           next = next_number_of state;
           state = image_of_everything state;
@@ -42,7 +42,7 @@ pub fn a_copy_is_told_field_by_field()
           number = 3;
           sent = false;
           renewal = true;
-          awaited = awaited_by (core_of state table);
+          awaited = awaited_view (core_of state table);
           point = point state;
           next = next_number_of state;
           state = image_of_everything state;
@@ -66,9 +66,9 @@ pub fn a_copy_tells_what_it_does_next()
 
 /// A reply is awaited at Await alone: that to the last request on the file on which the process asked.
 pub fn a_reply_is_awaited_at_await()
-    ensures awaits { (core : Core) → awaited_at core Await
+    ensures awaits { (core : Core) → awaited_view_at core Await
         ≡ Some (record { file = asked_file core.state; number = next_on core (asked_file core.state) - 1 }) }
-    ensures elsewhere { (core : Core) → awaited_at core Take ≡ None }
+    ensures elsewhere { (core : Core) → awaited_view_at core Take ≡ None }
 {}
 
 /// A terminal has entered so many requests, and printed so many replies.

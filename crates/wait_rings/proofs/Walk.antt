@@ -6,9 +6,9 @@ use Rattle.std.proofs.lemmas.Bool.{cases_lt, eq-eqb, eqb-false, eqb-true, le-ltb
 use Rattle.gd_words.specs.Members.{AreDistinct, IsAmong}
 use Rattle.gd_words.proofs.Distinct.{distinct-few}
 use Rattle.wait_rings.specs.Rings.{closed_by, ring_of, ring_on}
-use Rattle.wait_rings.specs.Waits.{AwaitOn, BeginsLowest, IsRing, awaited_by}
+use Rattle.wait_rings.specs.Waits.{AwaitOn, BeginsLowest, IsRing, awaited_next}
 
-awaiter-there : (awaited : List (Option ℕ)) (one next : ℕ) → awaited_by awaited one ≡ Some next → one < length awaited
+awaiter-there : (awaited : List (Option ℕ)) (one next : ℕ) → awaited_next awaited one ≡ Some next → one < length awaited
 awaiter-there [] one next is = absurd (cc)
 awaiter-there (x ∷ awaited) zero next is = omega arith
 awaiter-there (x ∷ awaited) (suc one) next is = let there = awaiter-there awaited one next is in omega arith
@@ -21,7 +21,7 @@ module _ (awaited : List (Option ℕ)) where
     awaits : AwaitOn awaited first (one ∷ rest)
     above : (n : ℕ) → IsAmong n rest → first < n
 
-  path-on : (first one next : ℕ) (before ring : List ℕ) → awaited_by awaited one ≡ Some next → first < next
+  path-on : (first one next : ℕ) (before ring : List ℕ) → awaited_next awaited one ≡ Some next → first < next
       → Path first next (before ++ one ∷ []) ring → Path first one before ring
   path-on first one next before ring waits above path = record {
     rest = next ∷ path.rest;
@@ -43,9 +43,10 @@ module _ (awaited : List (Option ℕ)) where
       → Path first one before ring
   walk-is zero first one before ring is = absurd (cc)
   walk-is (suc more) first one before ring is =
-      by_wait (awaited_by awaited one) refl is (λ next. walk-is more first next (before ++ one ∷ []) ring)
+      by_wait (awaited_next awaited one) refl is (λ next. walk-is more first next (before ++ one ∷ []) ring)
     where
-      by_lower : (next : ℕ) (b : Bool) → nat_lt next first ≡ b → (next ≡ first → ⊥) → awaited_by awaited one ≡ Some next
+      by_lower : (next : ℕ) (b : Bool) → nat_lt next first ≡ b → (next ≡ first → ⊥)
+          → awaited_next awaited one ≡ Some next
           → (if b then None else ring_on awaited more first next (before ++ one ∷ [])) ≡ Some ring
           → (ring_on awaited more first next (before ++ one ∷ []) ≡ Some ring
           → Path first next (before ++ one ∷ []) ring)
@@ -54,7 +55,7 @@ module _ (awaited : List (Option ℕ)) where
       by_lower next false lower other waits is on =
           path-on first one next before ring waits (above first next (ltb-false next first lower) other) (on is)
 
-      by_first : (next : ℕ) (b : Bool) → (next == first) ≡ b → awaited_by awaited one ≡ Some next
+      by_first : (next : ℕ) (b : Bool) → (next == first) ≡ b → awaited_next awaited one ≡ Some next
           → (if b then Some (before ++ one ∷ [])
           else if nat_lt next first then None else ring_on awaited more first next (before ++ one ∷ []))
           ≡ Some ring
@@ -70,7 +71,7 @@ module _ (awaited : List (Option ℕ)) where
       by_first next false other waits is on =
           by_lower next (nat_lt next first) refl (eqb-false next first other) waits is on
 
-      by_wait : (wait : Option ℕ) → awaited_by awaited one ≡ wait
+      by_wait : (wait : Option ℕ) → awaited_next awaited one ≡ wait
           → closed_by (λ next. ring_on awaited more first next (before ++ one ∷ [])) first (before ++ one ∷ []) wait
           ≡ Some ring
           → ((next : ℕ) → ring_on awaited more first next (before ++ one ∷ []) ≡ Some ring
@@ -104,7 +105,7 @@ module _ (awaited : List (Option ℕ)) where
   behind last one (x ∷ []) awaits (inl same) = record {
     after = [];
     shorter = omega arith;
-    awaits = subst (λ (n : ℕ). awaited_by awaited n ≡ Some last) (sym same) awaits;
+    awaits = subst (λ (n : ℕ). awaited_next awaited n ≡ Some last) (sym same) awaits;
     part = λ n there. absurd there;
   }
   behind last one (x ∷ []) awaits (inr among) = absurd among
@@ -171,10 +172,10 @@ module _ (awaited : List (Option ℕ)) where
   await-there : (last : ℕ) (xs : List ℕ) → AwaitOn awaited last xs → (n : ℕ) → IsAmong n xs → n < length awaited
   await-there last [] awaits n among = absurd among
   await-there last (x ∷ []) awaits n (inl same) =
-      awaiter-there awaited n last (subst (λ (m : ℕ). awaited_by awaited m ≡ Some last) (sym same) awaits)
+      awaiter-there awaited n last (subst (λ (m : ℕ). awaited_next awaited m ≡ Some last) (sym same) awaits)
   await-there last (x ∷ []) awaits n (inr among) = absurd among
   await-there last (x ∷ y ∷ xs) awaits n (inl same) =
-      awaiter-there awaited n y (subst (λ (m : ℕ). awaited_by awaited m ≡ Some y) (sym same) awaits.0)
+      awaiter-there awaited n y (subst (λ (m : ℕ). awaited_next awaited m ≡ Some y) (sym same) awaits.0)
   await-there last (x ∷ y ∷ xs) awaits n (inr among) = await-there last (y ∷ xs) awaits.1 n among
 
 pub ring-is : (awaited : List (Option ℕ)) (first : ℕ) (ring : List ℕ) → ring_of awaited first ≡ Some ring

@@ -1,7 +1,7 @@
 -- The rings of those that wait, by going from each to whom it awaits. `TellsRings` of Waits.antt says what they are.
 use Rattle.std.specs.Prelude.{ℕ, zero, suc, ◌==◌, if◌then◌else◌, nat_lt, List, [], ◌∷◌, ◌++◌, length}
 use Rattle.std.specs.Prelude.{Option, Some, None, option_to_list}
-use Rattle.wait_rings.specs.Waits.{awaited_by}
+use Rattle.wait_rings.specs.Waits.{awaited_next}
 
 -- a ring is told from its lowest number on: who awaits the first one closes it, and who awaits a lower one is in none
 -- that begins here
@@ -15,7 +15,7 @@ abbrev pub ring_on : List (Option ℕ) → ℕ → ℕ → ℕ → List ℕ → 
 ring_on awaited zero first one before = None
 ring_on awaited (suc more) first one before =
     closed_by (λ next. ring_on awaited more first next (before ++ one ∷ [])) first (before ++ one ∷ [])
-    (awaited_by awaited one)
+    (awaited_next awaited one)
 
 -- the ring whose lowest number this is. No ring has more members than there are
 abbrev pub ring_of : List (Option ℕ) → ℕ → Option (List ℕ)

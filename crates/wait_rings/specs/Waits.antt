@@ -3,14 +3,14 @@ use Rattle.std.specs.Prelude.{◌≡◌, ◌<◌, ℕ, List, [], ◌∷◌, ◌+
 use Rattle.gd_words.specs.Members.{AreDistinct, IsAmong}
 
 -- who is awaited by one, if any
-abbrev pub awaited_by : List (Option ℕ) → ℕ → Option ℕ
-awaited_by awaited one = option_and_then (λ next. next) (slice_get awaited one)
+abbrev pub awaited_next : List (Option ℕ) → ℕ → Option ℕ
+awaited_next awaited one = option_and_then (λ next. next) (slice_get awaited one)
 
 -- each of these awaits the next, and the last awaits this one
 abbrev pub AwaitOn : List (Option ℕ) → ℕ → List ℕ → Type 0
 AwaitOn awaited last [] = Unit {0}
-AwaitOn awaited last (one ∷ []) = awaited_by awaited one ≡ Some last
-AwaitOn awaited last (one ∷ next ∷ rest) = (awaited_by awaited one ≡ Some next) × AwaitOn awaited last (next ∷ rest)
+AwaitOn awaited last (one ∷ []) = awaited_next awaited one ≡ Some last
+AwaitOn awaited last (one ∷ next ∷ rest) = (awaited_next awaited one ≡ Some next) × AwaitOn awaited last (next ∷ rest)
 
 -- in a ring none stands twice, each awaits the next, and the last awaits the first
 abbrev pub IsRing : List (Option ℕ) → List ℕ → Type 0

@@ -1,6 +1,6 @@
 ghost use Rattle.std.specs.Prelude.{◌≡◌, ◌++◌, option_to_list, IfOk, OnOk};
 ghost use Rattle.wait_rings.specs.Rings.{ring_of, rings_of};
-ghost use Rattle.wait_rings.specs.Waits.{TellsRings, awaited_by};
+ghost use Rattle.wait_rings.specs.Waits.{TellsRings, awaited_next};
 
 use gd_words::{List, NoMemory};
 use std::alloc::Global;
@@ -57,7 +57,7 @@ fn ring_of(
     let mut left = awaited;
     while let Some((_, rest)) = left.split_first() {
         members.push(one)?;
-        let Some(next) = awaited_by(awaited, one) else {
+        let Some(next) = awaited_next(awaited, one) else {
             return Ok(None);
         };
         if next == first {
@@ -72,8 +72,8 @@ fn ring_of(
     Ok(None)
 }
 
-fn awaited_by(awaited: &[Option<usize>], one: usize) -> Option<usize>
-    ensures { result ≡ awaited_by awaited.now one }
+fn awaited_next(awaited: &[Option<usize>], one: usize) -> Option<usize>
+    ensures { result ≡ awaited_next awaited.now one }
 {
     *awaited.get(one)?
 }

@@ -8,5 +8,4 @@
 pub mod laws;
 
 pub use laws::{hands_are_known, only_asking_awaits, states_stay_whole, what_is_named_is_there};
-pub use process_semantics;
-pub use process_semantics::{gd_words, tal_tree};
+pub use process_semantics::{Asked, DeviceCall, List, NoMemory, OpenerSpec, Point, Sector, Words};

@@ -1,12 +1,12 @@
 ghost use Rattle.std.specs.Prelude.{IfOk};
-ghost use Rattle.tal_interp.specs.Sound.{IsLoadable};
+ghost use Rattle.loading_laws.specs.tal_interp.specs.Sound.{IsLoadable};
 ghost use Rattle.tal_tree.specs.Limits.{IsWithinLimits};
 ghost use Rattle.tal_tree.specs.Ordered.{IsOrdered};
 ghost use Rattle.tal_tree.specs.Regular.{IsRegular};
 
+use loading_laws::read_program;
 use std::alloc::Global;
 use std::test::Fail;
-use tal_reader::read_program;
 use tal_tree::Program;
 
 /// The program of a text; no text of tests is longer than a million bytes.

@@ -2,10 +2,10 @@
 use Rattle.std.proofs.Common.{◌≡◌, ℕ, zero, suc, ◌<◌, ◌≤◌, ◌==◌, ◌&&◌, Bool, true, false, true≢false, List, [], ◌∷◌}
 use Rattle.std.proofs.Common.{length, slice_get, Option, Some, None, is_some, nat_le, leb-true, ltb-true, eqb-true}
 use Rattle.std.proofs.Common.{refl, ap, sym, subst, ◌∙◌, arith}
-use Rattle.checkpoint_image.specs.declared.receive.OpenerBlock.{OpenerBlock}
-use Rattle.checkpoint_image.specs.declared.receive.ReceiveBlock.{ReceiveBlock}
-use Rattle.checkpoint_image.specs.Receive.{answered, holds, is_place}
-use Rattle.sync_ids.specs.Tables.{are_of_depths, can_hold, is_of_depth, is_unanswered}
+use Rattle.world_semantics.specs.checkpoint_image.specs.declared.receive.OpenerBlock.{OpenerBlock}
+use Rattle.world_semantics.specs.checkpoint_image.specs.declared.receive.ReceiveBlock.{ReceiveBlock}
+use Rattle.world_semantics.specs.checkpoint_image.specs.Receive.{answered, holds, is_place}
+use Rattle.process_copies.specs.sync_ids.specs.Tables.{are_of_depths, can_hold, is_of_depth, is_unanswered}
 use Rattle.world_copies.specs.Again.{IsKeptTable}
 
 and_left : (a b : Bool) → (a && b) ≡ true → a ≡ true

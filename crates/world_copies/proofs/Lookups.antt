@@ -5,7 +5,7 @@ use Rattle.tal_tree.specs.declared.site.Site.{Site}
 use Rattle.plain_semantics.specs.declared.slot.Opener.{Opener}
 use Rattle.world_semantics.specs.World.{Terminal, World}
 use Rattle.world_semantics.specs.Running.{in_world, run_done, run_pair, step_of}
-use Rattle.computed_changes.specs.Entered.{enter_to}
+use Rattle.process_copies.specs.computed_changes.specs.Entered.{enter_to}
 use Rattle.process_copies.specs.Seen.{Placed}
 use Rattle.world_semantics.specs.Records.{records_of}
 use Rattle.world_copies.specs.Seen.{pairs_in}

@@ -3,8 +3,8 @@ use Rattle.std.proofs.Common.{◌≡◌, ℕ, List, [], ◌++◌, ap, ◌∙◌}
 use Rattle.std.specs.List.{flat_map}
 use Rattle.world_semantics.specs.Rules.{told_at_down}
 use Rattle.world_semantics.specs.Messages.{Sending}
-use Rattle.computed_changes.specs.Stopped.{world_at_down}
-use Rattle.letters.specs.Again.{sent_again}
+use Rattle.process_copies.specs.computed_changes.specs.Stopped.{world_at_down}
+use Rattle.process_copies.specs.letters.specs.Again.{sent_again}
 use Rattle.world_copies.specs.SiteWorld.{SiteWorld}
 use Rattle.world_copies.proofs.Reroutes.{again-same, with_takers}
 

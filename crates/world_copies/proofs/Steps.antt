@@ -4,9 +4,9 @@ use Rattle.std.specs.Option.{option_map}
 use Rattle.world_semantics.specs.World.{World}
 use Rattle.world_semantics.specs.Messages.{Message, Sending}
 use Rattle.world_semantics.specs.Running.{Done, Stepped, in_world, run_done, run_pair, step_of}
-use Rattle.change_layout.specs.declared.message.ChangeMessage.{ChangeMessage}
-use Rattle.computed_changes.specs.Changed.{change_brought, change_brought_to, change_step_on}
-use Rattle.computed_changes.specs.Handed.{brought, brought_to, step_on}
+use Rattle.process_copies.specs.change_layout.specs.declared.message.ChangeMessage.{ChangeMessage}
+use Rattle.process_copies.specs.computed_changes.specs.Changed.{change_brought, change_brought_to, change_step_on}
+use Rattle.process_copies.specs.computed_changes.specs.Handed.{brought, brought_to, step_on}
 use Rattle.process_copies.specs.Seen.{Placed, placed_after, records_after, sent_by}
 use Rattle.world_semantics.specs.Records.{Records, records_of}
 use Rattle.world_copies.specs.Seen.{drives_in, pairs_in}

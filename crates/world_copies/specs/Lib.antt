@@ -11,4 +11,7 @@ pub use Rattle.process_copies.specs.node_copies
 pub use Rattle.process_copies.specs.number_ranges
 pub use Rattle.process_copies
 pub use Rattle.process_copies.specs.processes
-pub use Rattle.sendings
+pub use Rattle.process_copies.specs.sendings
+pub use Rattle.process_copies.specs.sync_ids
+pub use Rattle.tal_tree
+pub use Rattle.world_semantics

@@ -14,8 +14,8 @@ pub record SiteWorld : Type 0 where
   pub world : World
   pub drives : List (List DriveState)
 
-abbrev pub begun : Site → SiteWorld
-begun site = record { site = site; world = boot site; drives = drives_at_boot site }
+abbrev pub site_world_at_boot : Site → SiteWorld
+site_world_at_boot site = record { site = site; world = boot site; drives = drives_at_boot site }
 
 -- after a change of the world, if one is made
 abbrev pub changed_by : SiteWorld → Option Done → SiteWorld

@@ -5,17 +5,16 @@ ghost use Rattle.plain_semantics.specs.Machine.{next_request};
 ghost use Rattle.plain_semantics.specs.Openers.{opener_of};
 ghost use Rattle.world_semantics.specs.Messages.{sent_at};
 ghost use Rattle.world_semantics.specs.World.{copy_of};
-ghost use Rattle.letters.specs.Again.{asks_again, awaited_by, awaited_from, entered_last, if_acts_on, is_rerouted};
-ghost use Rattle.letters.specs.Again.{of_copies, rerouted};
-ghost use Rattle.letters.specs.Again.{sent_again, terminals_ask};
+ghost use Rattle.process_copies.specs.letters.specs.Again.{asks_again, awaited_by, awaited_from, entered_last};
+ghost use Rattle.process_copies.specs.letters.specs.Again.{if_acts_on, is_rerouted};
+ghost use Rattle.process_copies.specs.letters.specs.Again.{of_copies, rerouted};
+ghost use Rattle.process_copies.specs.letters.specs.Again.{sent_again, terminals_ask};
 ghost use Rattle.world_copies.specs.Again.{of_copy, of_terminal, terminal_asking};
 
 use crate::copies::WorldCopies;
 use crate::terminal::Terminal;
 use gd_words::{List, NoMemory, Request, Words};
-use process_copies::ProcessCopies;
-use process_copies::node_copies::Address;
-use sendings::{Message, Sending, TERMINAL_NODE};
+use process_copies::{Address, Message, ProcessCopies, Sending, TERMINAL_NODE};
 use world_semantics::Which;
 
 impl WorldCopies {

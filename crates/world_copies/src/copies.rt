@@ -1,6 +1,6 @@
 ghost use Rattle.std.specs.Prelude.{◌≡◌, length, reverse, slice_get};
 ghost use Rattle.std.specs.Option.{option_copied};
-ghost use Rattle.computed_changes.specs.Changed.{checkpoint_before};
+ghost use Rattle.process_copies.specs.computed_changes.specs.Changed.{checkpoint_before};
 ghost use Rattle.process_copies.specs.node_copies.specs.ShownCounts.{replies_in, writes_in};
 ghost use Rattle.world_semantics.specs.Kept.{acts_of};
 ghost use Rattle.world_semantics.specs.World.{has_noted, is_running};
@@ -9,15 +9,13 @@ ghost use Rattle.world_copies.specs.Seen.{ArePlaced, drives_in, pairs_in};
 use crate::counts::ReloadCounts;
 use crate::processors::Processors;
 use crate::terminal::Terminal;
-use checkpoint_image::ImageMessage;
 use gd_words::List;
 use logs::Shared;
-use process_copies::ProcessCopies;
-use process_copies::node_copies::{Address, Downs, Records};
-use sendings::is_running;
+use process_copies::{Address, Downs, ProcessCopies, Records, is_running};
 use std::alloc::Global;
 use std::marker::Model;
 use tal_tree::{Act, Shown, Site};
+use world_semantics::ImageMessage;
 
 /// The world of copies: its site, where its terminals stand, which processors have stopped, how often each was loaded
 /// again, which node has marked which, the processes, the terminals, and what happened.

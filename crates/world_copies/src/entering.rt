@@ -1,6 +1,6 @@
 ghost use Rattle.std.specs.Prelude.{◌≡◌, true, ◌∷◌, [], IfOk, OnOk};
 ghost use Rattle.std.specs.Option.{option_map};
-ghost use Rattle.computed_changes.specs.Entered.{enter_done, enter_where, entered_done};
+ghost use Rattle.process_copies.specs.computed_changes.specs.Entered.{enter_done, enter_where, entered_done};
 ghost use Rattle.gd_words.specs.Ranges.{HasNext};
 ghost use Rattle.process_copies.specs.number_ranges.specs.HasRoom.{WorldHasRoom};
 ghost use Rattle.plain_semantics.specs.Machine.{next_request};
@@ -11,8 +11,7 @@ ghost use Rattle.world_copies.specs.Told.{sent_in};
 use crate::copies::WorldCopies;
 use crate::terminal::Terminal;
 use gd_words::{NoMemory, Request, Words};
-use process_copies::node_copies::{Address, StepOutcome};
-use sendings::{Message, Sending, TERMINAL_NODE};
+use process_copies::{Address, Message, Sending, StepOutcome, TERMINAL_NODE};
 
 /// A request of these words, of this number, to the server where an opener stands.
 fn request_to(opener: Address, number: u32, words: Words) -> Request

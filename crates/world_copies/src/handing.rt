@@ -1,21 +1,19 @@
 ghost use Rattle.std.specs.Prelude.{◌≡◌, slice_get, IfOk, OnOk};
 ghost use Rattle.std.specs.Option.{option_map};
-ghost use Rattle.computed_changes.specs.Changed.{change_done};
-ghost use Rattle.computed_changes.specs.Handed.{brought, handed_done, replied_done, replied_to};
-ghost use Rattle.computed_changes.specs.Laws.{NamesOpener};
+ghost use Rattle.process_copies.specs.computed_changes.specs.Changed.{change_done};
+ghost use Rattle.process_copies.specs.computed_changes.specs.Handed.{brought, handed_done, replied_done, replied_to};
+ghost use Rattle.process_copies.specs.computed_changes.specs.Laws.{NamesOpener};
 ghost use Rattle.process_copies.specs.number_ranges.specs.HasRoom.{WorldHasRoom};
 ghost use Rattle.plain_semantics.specs.Openers.{openers_of};
-ghost use Rattle.sendings.specs.Seen.{message_of};
+ghost use Rattle.process_copies.specs.sendings.specs.Seen.{message_of};
 ghost use Rattle.process_copies.specs.node_copies.specs.Seen.{step_sendings};
 ghost use Rattle.world_copies.specs.Room.{NamesItsOpener};
 ghost use Rattle.world_copies.specs.SiteWorld.{changed_by};
 ghost use Rattle.world_copies.specs.Told.{sent_in};
 
 use crate::copies::WorldCopies;
-use change_layout::ChangeMessage;
 use gd_words::{NoMemory, Reply};
-use process_copies::node_copies::StepOutcome;
-use sendings::{Message, TERMINAL_NODE};
+use process_copies::{ChangeMessage, Message, StepOutcome, TERMINAL_NODE};
 use tal_tree::Who;
 
 impl WorldCopies {

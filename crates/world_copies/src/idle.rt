@@ -1,16 +1,15 @@
 ghost use Rattle.std.specs.Prelude.{◌≡◌, ◌==◌, length, slice_get, is_some};
 ghost use Rattle.world_semantics.specs.World.{is_running};
 ghost use Rattle.world_semantics.specs.Running.{run_done};
-ghost use Rattle.computed_changes.specs.Entered.{enter_done, enter_where};
+ghost use Rattle.process_copies.specs.computed_changes.specs.Entered.{enter_done, enter_where};
 ghost use Rattle.process_copies.specs.message_wires.specs.Idle.{all_from, all_noted, has_marked_all, has_marked_if};
 ghost use Rattle.process_copies.specs.message_wires.specs.Idle.{none_enters, none_runs};
-ghost use Rattle.process_copies.specs.message_wires.specs.Idle.{none_waits};
+ghost use Rattle.process_copies.specs.message_wires.specs.Idle.{none_awaits_taking};
 ghost use Rattle.world_copies.specs.Seen.{pairs_in};
 
 use crate::copies::WorldCopies;
 use crate::terminal::Terminal;
-use process_copies::ProcessCopies;
-use sendings::TERMINAL_NODE;
+use process_copies::{ProcessCopies, TERMINAL_NODE};
 
 impl WorldCopies {
     /// Whether no terminal can enter.
@@ -74,10 +73,10 @@ impl WorldCopies {
     }
 
     /// Whether no copy that acts waits at a checkpoint.
-    pub fn none_waits(&self) -> bool
-        ensures { result ≡ none_waits self.now.world.processes }
+    pub fn none_awaits_taking(&self) -> bool
+        ensures { result ≡ none_awaits_taking self.now.world.processes }
     {
-        none_waits(self.processes.as_slice())
+        none_awaits_taking(self.processes.as_slice())
     }
 
     /// Whether each node that runs has marked each processor that has stopped.
@@ -134,11 +133,11 @@ impl WorldCopies {
     }
 }
 
-fn none_waits(processes: &[ProcessCopies]) -> bool
-    ensures { result ≡ none_waits (pairs_in processes.now) }
+fn none_awaits_taking(processes: &[ProcessCopies]) -> bool
+    ensures { result ≡ none_awaits_taking (pairs_in processes.now) }
 {
     for process in processes {
-        if process.waits_at_mark() {
+        if process.awaits_taking() {
             return false;
         }
     }

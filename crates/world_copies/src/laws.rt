@@ -4,7 +4,7 @@ ghost use Rattle.world_semantics.specs.Kept.{acts_of, closed};
 ghost use Rattle.world_semantics.specs.World.{World};
 ghost use Rattle.world_copies.specs.Closed.{closed_world};
 
-use process_copies::kept_acts::laws::all_that_close_make_the_closed_run;
+use process_copies::all_that_close_make_the_closed_run;
 
 /// The acts of a closed world are those of its closed run, and what was shown stays.
 pub fn a_closed_world_has_the_closed_run()

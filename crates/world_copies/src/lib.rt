@@ -30,7 +30,9 @@ pub mod terminal;
 mod turning;
 
 pub use copies::WorldCopies;
-pub use process_copies;
-pub use process_copies::{file_calls, node_copies, process_control, processes};
-pub use sendings;
+pub use process_copies::{
+    CopyControl, CopyShare, Disc, Downs, DriveState, Message, NodeCopy, Process, ProcessCopies,
+    Sending, StepOutcome, TERMINAL_NODE, Waiting, copy_request,
+};
 pub use terminal::Terminal;
+pub use world_semantics::{Role, Which};

@@ -1,8 +1,8 @@
 ghost use Rattle.std.specs.Prelude.{◌≡◌, ◌∷◌, ◌++◌, if◌then◌else◌, IfOk, OnOk, Some, None, map};
 ghost use Rattle.std.specs.List.{flat_map};
 ghost use Rattle.tal_tree.specs.declared.site.Site.{Site};
-ghost use Rattle.computed_changes.specs.Stopped.{down_done, world_at_down, may_note};
-ghost use Rattle.letters.specs.Again.{sent_again};
+ghost use Rattle.process_copies.specs.computed_changes.specs.Stopped.{down_done, world_at_down, may_note};
+ghost use Rattle.process_copies.specs.letters.specs.Again.{sent_again};
 ghost use Rattle.world_semantics.specs.Rules.{pair_at_down, told_at_down};
 ghost use Rattle.world_copies.specs.Changes.{changed};
 ghost use Rattle.world_copies.specs.Room.{AllWatchersHaveRoom};
@@ -10,8 +10,7 @@ ghost use Rattle.world_copies.specs.Seen.{ArePlaced, pairs_in};
 
 use crate::copies::WorldCopies;
 use gd_words::{List, NoMemory};
-use process_copies::ProcessCopies;
-use sendings::Sending;
+use process_copies::{ProcessCopies, Sending};
 
 impl WorldCopies {
     /// Whether a processor has stopped, and a node that runs hasn't marked it.

@@ -1,5 +1,5 @@
 ghost use Rattle.std.specs.Prelude.{◌≡◌, length, slice_get, IfOk, OnOk};
-ghost use Rattle.computed_changes.specs.Replies.{awaits_at, is_to, printed_done};
+ghost use Rattle.process_copies.specs.computed_changes.specs.Replies.{awaits_at, is_to, printed_done};
 ghost use Rattle.gd_words.specs.Ranges.{HasNext};
 ghost use Rattle.process_copies.specs.node_copies.specs.Seen.{step_sendings};
 ghost use Rattle.world_copies.specs.SiteWorld.{changed_by};
@@ -10,7 +10,7 @@ ghost use Rattle.plain_semantics.specs.Openers.{opener_of};
 use crate::copies::WorldCopies;
 use crate::terminal::Terminal;
 use gd_words::{NoMemory, Reply};
-use process_copies::node_copies::{Address, StepOutcome};
+use process_copies::{Address, StepOutcome};
 
 /// Whether a reply goes to the opener that stands here.
 fn is_to(opener: Option<Address>, reply: &Reply) -> bool

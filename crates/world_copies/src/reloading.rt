@@ -1,6 +1,7 @@
 ghost use Rattle.std.specs.Prelude.{◌≡◌, ◌<◌, false, is_some, length, map, slice_get, slice_set};
 ghost use Rattle.std.specs.Prelude.{IfOk, IsTrue, OnErr, OnOk};
-ghost use Rattle.computed_changes.specs.Stopped.{reload_counted, reload_done, reload_if, reloaded_world};
+ghost use Rattle.process_copies.specs.computed_changes.specs.Stopped.{reload_counted, reload_done, reload_if};
+ghost use Rattle.process_copies.specs.computed_changes.specs.Stopped.{reloaded_world};
 ghost use Rattle.process_copies.specs.number_ranges.specs.HasRoom.{WorldHasRoom};
 ghost use Rattle.process_copies.specs.Reloading.{blanks_of, placed_reloaded};
 ghost use Rattle.process_copies.specs.Starting.{IsStartable};
@@ -12,9 +13,7 @@ ghost use Rattle.world_copies.specs.SiteWorld.{changed_by};
 
 use crate::copies::WorldCopies;
 use gd_words::NoMemory;
-use process_copies::node_copies::Downs;
-use process_copies::{BlankCopies, ProcessCopies};
-use sendings::TERMINAL_NODE;
+use process_copies::{BlankCopies, Downs, ProcessCopies, TERMINAL_NODE};
 use std::alloc::Global;
 use tal_tree::Site;
 

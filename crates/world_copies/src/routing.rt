@@ -1,14 +1,12 @@
 ghost use Rattle.std.specs.Prelude.{◌≡◌, slice_get};
 ghost use Rattle.std.specs.Option.{option_and_then, option_map};
-ghost use Rattle.letters.specs.Routes.{end_of, home_of, receiver_of, route_of, route_to};
+ghost use Rattle.process_copies.specs.letters.specs.Routes.{end_of, home_of, receiver_of, route_of, route_to};
 ghost use Rattle.plain_semantics.specs.Openers.{openers_of};
-ghost use Rattle.sendings.specs.Seen.{message_of};
+ghost use Rattle.process_copies.specs.sendings.specs.Seen.{message_of};
 ghost use Rattle.world_semantics.specs.World.{other_of};
 
 use crate::copies::WorldCopies;
-use process_copies::ProcessCopies;
-use process_copies::node_copies::Downs;
-use sendings::{Message, TERMINAL_NODE};
+use process_copies::{Downs, Message, ProcessCopies, TERMINAL_NODE};
 use tal_tree::Who;
 use world_semantics::Which;
 

@@ -7,7 +7,7 @@ ghost use Rattle.world_copies.specs.Told.{sent_in};
 
 use crate::copies::WorldCopies;
 use gd_words::NoMemory;
-use process_copies::node_copies::StepOutcome;
+use process_copies::StepOutcome;
 
 impl WorldCopies {
     /// A process makes its step, if it can.

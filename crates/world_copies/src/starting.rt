@@ -5,7 +5,7 @@ ghost use Rattle.plain_semantics.specs.SiteLimits.{KeepsSiteLimits};
 ghost use Rattle.world_semantics.specs.World.{pairs_at_boot};
 ghost use Rattle.process_copies.specs.Starting.{IsStartable};
 ghost use Rattle.world_copies.specs.Seen.{terminal_row};
-ghost use Rattle.world_copies.specs.SiteWorld.{begun};
+ghost use Rattle.world_copies.specs.SiteWorld.{site_world_at_boot};
 ghost use Rattle.world_copies.specs.Starting.{placed_from};
 
 use crate::copies::WorldCopies;
@@ -15,8 +15,7 @@ use crate::terminal::Terminal;
 use gd_words::{List, NoMemory};
 use logs::Shared;
 use plain_semantics::opener_of;
-use process_copies::node_copies::{Address, Downs, Records};
-use process_copies::{ProcessCopies, address_of};
+use process_copies::{Address, Downs, ProcessCopies, Records, address_of};
 use std::alloc::Global;
 use tal_tree::{Site, TerminalSpec, Who};
 
@@ -24,7 +23,7 @@ impl WorldCopies {
     /// The world at the beginning.
     pub fn boot(alloc: Global, site: &Shared<Site>) -> Result<WorldCopies, NoMemory>
         requires { IsStartable site.now }
-        ensures { IfOk result (λ copies. copies ≡ begun site.now) }
+        ensures { IfOk result (λ copies. copies ≡ site_world_at_boot site.now) }
     {
         let places = terminal_places(alloc, site.get())?;
         let stopped = Processors::new(alloc, site.get().processors)?;

@@ -1,6 +1,6 @@
 ghost use Rattle.std.specs.Prelude.{◌≡◌, map, not};
 ghost use Rattle.std.specs.List.{list_any};
-ghost use Rattle.computed_changes.specs.Stopped.{stopped_world};
+ghost use Rattle.process_copies.specs.computed_changes.specs.Stopped.{stopped_world};
 ghost use Rattle.process_copies.specs.message_wires.specs.Play.{has_stopped};
 ghost use Rattle.world_semantics.specs.Rules.{stopped_pair};
 ghost use Rattle.world_semantics.specs.World.{is_pair_of, is_whole};
@@ -11,7 +11,8 @@ use crate::copies::WorldCopies;
 use process_copies::ProcessCopies;
 
 impl WorldCopies {
-    /// Whether the world is whole: no processor has stopped, and each process has a copy that acts and one that watches.
+    /// Whether the world is whole: no processor has stopped, and each process has a copy that acts and one that
+    /// watches.
     pub fn is_whole(&self) -> bool
         ensures { result ≡ is_whole self.now.world }
     {

@@ -1,17 +1,16 @@
 ghost use Rattle.std.specs.Prelude.{◌≡◌, ◌≤◌, ◌+◌, ◌-◌, ◌++◌, OnOk, length, map, slice_get};
-ghost use Rattle.checkpoint_image.specs.Receive.{answered, holds};
+ghost use Rattle.world_semantics.specs.checkpoint_image.specs.Receive.{answered, holds};
 ghost use Rattle.world_semantics.specs.Messages.{Replying, sent_at};
 ghost use Rattle.world_semantics.specs.World.{copy_of};
-ghost use Rattle.letters.specs.Again.{is_moved, kept_for, kept_from, numbered, of_copies, tells_again};
+ghost use Rattle.process_copies.specs.letters.specs.Again.{is_moved, kept_for, kept_from, numbered, of_copies};
+ghost use Rattle.process_copies.specs.letters.specs.Again.{tells_again};
 ghost use Rattle.world_copies.specs.Again.{IsKeptTable, of_copy};
 
 use crate::copies::WorldCopies;
-use checkpoint_image::{OpenerBlock, ReceiveBlock};
 use gd_words::{List, NoMemory, Reply, Words};
-use process_copies::ProcessCopies;
-use sendings::{Message, Sending};
+use process_copies::{Message, ProcessCopies, Sending};
 use tal_tree::{OpenerSpec, Who};
-use world_semantics::Which;
+use world_semantics::{OpenerBlock, ReceiveBlock, Which};
 
 impl WorldCopies {
     /// The replies that a node's copies keep for openers which are found elsewhere once it has marked a processor are

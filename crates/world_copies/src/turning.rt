@@ -7,10 +7,7 @@ ghost use Rattle.world_copies.specs.Seen.{sectors_of};
 ghost use Rattle.world_copies.specs.SiteWorld.{SettlesTurn};
 
 use crate::copies::WorldCopies;
-use process_copies::disc_device::Disc;
-use process_copies::disc_device::mirror::DriveState;
-use process_copies::machine_states::Effect;
-use process_copies::schedule::DriveEvent;
+use process_copies::{Disc, DriveEvent, DriveState, Effect};
 
 impl WorldCopies {
     /// A drive of a disc changes, if the disc has two and this one can change so. The world stays as it is.

@@ -2,8 +2,8 @@
 use Rattle.std.proofs.Common.{◌≡◌, ◌≤◌, ℕ, Bool, true, false, List, length, Some, slice_get, refl, sym, ap, ◌∙◌, arith}
 use Rattle.std.proofs.lemmas.Option.{slice_get_within}
 use Rattle.std.proofs.lemmas.List.{length-set, length-replicate}
-use Rattle.tal_tree.specs.declared.act.Act.{Act}
-use Rattle.tal_tree.specs.declared.site.Site.{Site}
+use Rattle.checkpoint_image.specs.tal_tree.specs.declared.act.Act.{Act}
+use Rattle.checkpoint_image.specs.tal_tree.specs.declared.site.Site.{Site}
 use Rattle.schedule.specs.declared.event.Event.{Event}
 use Rattle.world_semantics.specs.declared.role.Role.{Role}
 use Rattle.world_semantics.specs.declared.role.Role.TheVariants.{Acting, Gone}

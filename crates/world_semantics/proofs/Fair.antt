@@ -2,13 +2,13 @@
 -- hand, and its waiting requests are to its process.
 use Rattle.std.proofs.Common.{◌≡◌, inl, inr, ℕ, ℤ, Bool, true, false, if◌then◌else◌, List, [], ◌∷◌, Option, Some, None}
 use Rattle.std.proofs.Common.{is_some, slice_get, refl, subst, sym, ◌∙◌, ◌==◌}
-use Rattle.gd_words.specs.Members.{IsAmong}
-use Rattle.gd_words.specs.declared.message.Request.{Request}
-use Rattle.gd_words.specs.declared.message.Reply.{Reply}
-use Rattle.tal_tree.specs.declared.act.Act.{Act}
-use Rattle.tal_tree.specs.declared.site.Site.{Site}
-use Rattle.tal_tree.specs.declared.site.ProcessSpec.{ProcessSpec}
-use Rattle.tal_tree.specs.declared.site.OpenerSpec.{OpenerSpec}
+use Rattle.checkpoint_image.specs.gd_words.specs.Members.{IsAmong}
+use Rattle.checkpoint_image.specs.gd_words.specs.declared.message.Request.{Request}
+use Rattle.checkpoint_image.specs.gd_words.specs.declared.message.Reply.{Reply}
+use Rattle.checkpoint_image.specs.tal_tree.specs.declared.act.Act.{Act}
+use Rattle.checkpoint_image.specs.tal_tree.specs.declared.site.Site.{Site}
+use Rattle.checkpoint_image.specs.tal_tree.specs.declared.site.ProcessSpec.{ProcessSpec}
+use Rattle.checkpoint_image.specs.tal_tree.specs.declared.site.OpenerSpec.{OpenerSpec}
 use Rattle.plain_semantics.specs.process_semantics.specs.Image.{restored}
 use Rattle.plain_semantics.specs.Openers.{openers_of}
 use Rattle.disc_device.specs.Sectors.{Stored}

@@ -4,10 +4,10 @@ use Rattle.std.proofs.Common.{nat_lt, ◌&&◌, ◌⊎◌, inl, inr, List, [], �
 use Rattle.std.proofs.Common.{Option, Some, None, slice_get, refl, subst, sym, ap, ◌∙◌, arith, append-nil}
 use Rattle.std.proofs.lemmas.Bool.{eq-eqb, eqb-true, le-leb, leb-true}
 use Rattle.std.proofs.lemmas.List.{reverse-append, take-append-drop}
-use Rattle.gd_words.specs.Members.{IsAmong}
-use Rattle.gd_words.specs.declared.message.Request.{Request}
-use Rattle.gd_words.specs.declared.message.Reply.{Reply}
-use Rattle.tal_tree.specs.declared.site.OpenerSpec.{OpenerSpec}
+use Rattle.checkpoint_image.specs.gd_words.specs.Members.{IsAmong}
+use Rattle.checkpoint_image.specs.gd_words.specs.declared.message.Request.{Request}
+use Rattle.checkpoint_image.specs.gd_words.specs.declared.message.Reply.{Reply}
+use Rattle.checkpoint_image.specs.tal_tree.specs.declared.site.OpenerSpec.{OpenerSpec}
 use Rattle.checkpoint_image.specs.declared.receive.OpenerBlock.{OpenerBlock}
 use Rattle.checkpoint_image.specs.declared.receive.ReceiveBlock.{ReceiveBlock}
 use Rattle.checkpoint_image.specs.declared.receive.RequestStanding.{RequestStanding}
@@ -16,7 +16,7 @@ use Rattle.checkpoint_image.specs.Receive.{is_place, holds, answered, reply_kept
 use Rattle.checkpoint_image.specs.Receive.{standing, after_taking, after_answering, last_ones, repeated_by, repeated}
 use Rattle.world_semantics.specs.Laws.{HasGrown}
 use Rattle.world_semantics.proofs.Lists.{some-same, Changed, is_new, is_same, changed}
-use Rattle.gd_words.proofs.Among.{among-right}
+use Rattle.checkpoint_image.specs.gd_words.proofs.Among.{among-right}
 
 -- the replies that one block of a table keeps, where its opener's request is in hand or not, were sent
 abbrev BlockSent : ℕ → List Reply → ℕ → Bool → OpenerBlock → Type 0

@@ -1,6 +1,6 @@
 -- Steps of one process, as changes of the world.
 use Rattle.std.proofs.Common.{ℕ, Bool, [], Option, option_map}
-use Rattle.tal_tree.specs.declared.site.Site.{Site}
+use Rattle.checkpoint_image.specs.tal_tree.specs.declared.site.Site.{Site}
 use Rattle.plain_semantics.specs.process_semantics.specs.declared.point.Point.{Point}
 use Rattle.world_semantics.specs.declared.role.Role.{Role}
 use Rattle.world_semantics.specs.World.{Pair, World, Which, copy_of, with_copy}

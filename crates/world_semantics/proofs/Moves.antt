@@ -3,13 +3,13 @@ use Rattle.std.proofs.Common.{◌≡◌, ℕ, ◌+◌, ◌==◌, ◌&&◌, Bool,
 use Rattle.std.proofs.Common.{slice_get, refl, ap, ◌∙◌, ◌||◌, arith, nat_lt, not, subst, suc, sym, zero}
 use Rattle.std.proofs.lemmas.Bool.{eqb-true, ltb-false, ltb-true}
 use Rattle.std.specs.Cmp.Derive.{both_true}
-use Rattle.gd_words.specs.Members.{IsAmong}
-use Rattle.gd_words.proofs.Among.{among-at}
-use Rattle.gd_words.specs.declared.message.Request.{Request}
-use Rattle.gd_words.specs.declared.message.Reply.{Reply}
-use Rattle.tal_tree.specs.declared.act.Act.TheVariants as act
-use Rattle.tal_tree.specs.declared.site.Site.{Site}
-use Rattle.tal_tree.specs.declared.site.Who.TheVariants as who
+use Rattle.checkpoint_image.specs.gd_words.specs.Members.{IsAmong}
+use Rattle.checkpoint_image.specs.gd_words.proofs.Among.{among-at}
+use Rattle.checkpoint_image.specs.gd_words.specs.declared.message.Request.{Request}
+use Rattle.checkpoint_image.specs.gd_words.specs.declared.message.Reply.{Reply}
+use Rattle.checkpoint_image.specs.tal_tree.specs.declared.act.Act.TheVariants as act
+use Rattle.checkpoint_image.specs.tal_tree.specs.declared.site.Site.{Site}
+use Rattle.checkpoint_image.specs.tal_tree.specs.declared.site.Who.TheVariants as who
 use Rattle.schedule.specs.declared.event.Event.{Event}
 use Rattle.schedule.specs.declared.event.Event.TheVariants as event
 use Rattle.plain_semantics.specs.process_semantics.specs.declared.point.Point.{Point}

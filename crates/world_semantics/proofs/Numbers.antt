@@ -2,8 +2,8 @@
 -- is in an era past that of the one that acts, and what was lost there is of no later era than that.
 use Rattle.std.proofs.Common.{◌≡◌, ◌≢◌, ◌≤◌, ℕ, ◌+◌, List, Some, slice_get, refl, subst, sym, ◌∙◌, arith}
 use Rattle.std.proofs.lemmas.Bool.{eq-eqb}
-use Rattle.tal_tree.specs.declared.act.Act.{Act}
-use Rattle.tal_tree.specs.declared.site.Site.{Site}
+use Rattle.checkpoint_image.specs.tal_tree.specs.declared.act.Act.{Act}
+use Rattle.checkpoint_image.specs.tal_tree.specs.declared.site.Site.{Site}
 use Rattle.schedule.specs.declared.event.Event.{Event}
 use Rattle.checkpoint_image.specs.declared.message.ImageMessage.{ImageMessage}
 use Rattle.world_semantics.specs.World.{Copy, Pair, World, Which, First, Second, copy_of, other_of}

@@ -2,11 +2,11 @@
 use Rattle.std.proofs.Common.{◌≡◌, pos, List, [], ◌∷◌, map, Option, Some, None, reverse, refl, ap}
 use Rattle.std.specs.Int.{int_wrap}
 use denote.Hole.Carrier.{shown, out}
-use Rattle.tal_tree.specs.declared.statement.What.{out-What}
-use Rattle.tal_tree.specs.declared.statement.What.TheBlock.{shown-the_row-Statement-0}
-use Rattle.tal_tree.specs.declared.act.Act.{Act}
-use Rattle.tal_tree.specs.declared.act.Shown.{Shown}
-use Rattle.tal_tree.specs.declared.site.Site.{Site}
+use Rattle.checkpoint_image.specs.tal_tree.specs.declared.statement.What.{out-What}
+use Rattle.checkpoint_image.specs.tal_tree.specs.declared.statement.What.TheBlock.{shown-the_row-Statement-0}
+use Rattle.checkpoint_image.specs.tal_tree.specs.declared.act.Act.{Act}
+use Rattle.checkpoint_image.specs.tal_tree.specs.declared.act.Shown.{Shown}
+use Rattle.checkpoint_image.specs.tal_tree.specs.declared.site.Site.{Site}
 use Rattle.schedule.specs.declared.event.Event.{Event}
 use Rattle.plain_semantics.specs.Machine.{IsPossible, shown_by}
 use Rattle.checkpoint_image.specs.declared.receive.RequestStanding.{RequestStanding}

@@ -1,10 +1,10 @@
 -- No copy is further than the kept acts of its process, and neither is the base.
 use Rattle.std.proofs.Common.{◌≡◌, ◌≤◌, ℕ, true, List, [], ◌∷◌, ◌++◌, Option, Some, None, slice_get, arith, Bool, false}
 use Rattle.std.proofs.Common.{refl, ◌==◌}
-use Rattle.gd_words.specs.declared.message.Request.{Request}
-use Rattle.tal_tree.specs.declared.act.Act.{Act}
-use Rattle.tal_tree.specs.declared.act.Act.TheVariants.{Step, Enter, Print}
-use Rattle.tal_tree.specs.declared.site.Site.{Site}
+use Rattle.checkpoint_image.specs.gd_words.specs.declared.message.Request.{Request}
+use Rattle.checkpoint_image.specs.tal_tree.specs.declared.act.Act.{Act}
+use Rattle.checkpoint_image.specs.tal_tree.specs.declared.act.Act.TheVariants.{Step, Enter, Print}
+use Rattle.checkpoint_image.specs.tal_tree.specs.declared.site.Site.{Site}
 use Rattle.disc_device.specs.Sectors.{Stored}
 use Rattle.world_semantics.specs.Core.{Core, Deed}
 use Rattle.world_semantics.specs.World.{Copy, Pair, Down, World, Which, First, Second, copy_of, with_copy, boot}

@@ -2,8 +2,8 @@
 use Rattle.std.proofs.Common.{◌≡◌, ◌↔◌, subst, ℕ, true, List, Some, slice_get, sym, ◌∙◌, Bool, false, length, refl, ◌<◌}
 use Rattle.std.proofs.Common.{◌==◌, ◌≢◌}
 use Rattle.std.proofs.lemmas.Bool.{eqb-true}
-use Rattle.tal_tree.specs.declared.site.Site.{Site}
-use Rattle.tal_tree.specs.declared.act.Act.{Act}
+use Rattle.checkpoint_image.specs.tal_tree.specs.declared.site.Site.{Site}
+use Rattle.checkpoint_image.specs.tal_tree.specs.declared.act.Act.{Act}
 use Rattle.schedule.specs.declared.event.Event.{Event}
 use Rattle.world_semantics.specs.declared.role.Role.TheVariants.{Acting, Gone}
 use Rattle.world_semantics.specs.World.{Pair, Terminal, World, Which, First, Second, copy_of, Down, has_noted}

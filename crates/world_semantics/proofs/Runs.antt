@@ -1,6 +1,6 @@
 -- What holds from change to change holds over whole runs.
 use Rattle.std.proofs.Common.{List}
-use Rattle.tal_tree.specs.declared.site.Site.{Site}
+use Rattle.checkpoint_image.specs.tal_tree.specs.declared.site.Site.{Site}
 use Rattle.schedule.specs.declared.event.Event.{Event}
 use Rattle.world_semantics.specs.World.{World}
 use Rattle.world_semantics.specs.Messages.{Sending, Cause}

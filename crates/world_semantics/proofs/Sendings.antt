@@ -1,10 +1,10 @@
 -- What is sent, or sent again, is among the messages ever sent.
 use Rattle.std.proofs.Common.{◌≡◌, inl, inr, ℕ, List, [], ◌∷◌, map, Option, Some, None, slice_get, refl, subst, sym}
-use Rattle.gd_words.specs.Members.{IsAmong}
-use Rattle.gd_words.specs.declared.message.Request.{Request}
-use Rattle.gd_words.specs.declared.message.Reply.{Reply}
-use Rattle.tal_tree.specs.declared.act.Act.{Act}
-use Rattle.tal_tree.specs.declared.site.Site.{Site}
+use Rattle.checkpoint_image.specs.gd_words.specs.Members.{IsAmong}
+use Rattle.checkpoint_image.specs.gd_words.specs.declared.message.Request.{Request}
+use Rattle.checkpoint_image.specs.gd_words.specs.declared.message.Reply.{Reply}
+use Rattle.checkpoint_image.specs.tal_tree.specs.declared.act.Act.{Act}
+use Rattle.checkpoint_image.specs.tal_tree.specs.declared.site.Site.{Site}
 use Rattle.schedule.specs.declared.event.Event.{Event}
 use Rattle.checkpoint_image.specs.Receive.{repeated, all_repeated}
 use Rattle.world_semantics.specs.Core.{Core, Deed}
@@ -21,7 +21,7 @@ use Rattle.world_semantics.specs.Rules.{entered_request}
 use Rattle.world_semantics.specs.Follows.{IsRun}
 use Rattle.world_semantics.specs.Laws.{WasSent}
 use Rattle.world_semantics.proofs.Lists.{set-there}
-use Rattle.gd_words.proofs.Among.{among-left}
+use Rattle.checkpoint_image.specs.gd_words.proofs.Among.{among-left}
 use Rattle.world_semantics.proofs.Members.{among-map, among-flat_map}
 use Rattle.world_semantics.proofs.KeptReplies.{repeated-sent}
 use Rattle.world_semantics.proofs.Fair.{AllFair, CopyIsFair, fair-of, run-fair}

@@ -1,10 +1,10 @@
 -- A copy that has sent stands at its checkpoint, or awaits no reply, and the checkpoint carries what it has.
 use Rattle.std.proofs.Common.{◌≡◌, ◌≢◌, ◌⊎◌, inl, inr, ◌==◌, ℕ, Bool, true, false, if◌then◌else◌, List, [], Some}
 use Rattle.std.proofs.Common.{slice_get, refl, subst, sym, ap, ◌∙◌}
-use Rattle.gd_words.specs.Members.{IsAmong}
-use Rattle.tal_tree.specs.declared.act.Act.{Act}
-use Rattle.tal_tree.specs.declared.site.Site.{Site}
-use Rattle.tal_tree.specs.declared.site.ProcessSpec.{ProcessSpec}
+use Rattle.checkpoint_image.specs.gd_words.specs.Members.{IsAmong}
+use Rattle.checkpoint_image.specs.tal_tree.specs.declared.act.Act.{Act}
+use Rattle.checkpoint_image.specs.tal_tree.specs.declared.site.Site.{Site}
+use Rattle.checkpoint_image.specs.tal_tree.specs.declared.site.ProcessSpec.{ProcessSpec}
 use Rattle.schedule.specs.declared.event.Event.{Event}
 use Rattle.plain_semantics.specs.process_semantics.specs.declared.point.Point.TheVariants as point
 use Rattle.plain_semantics.specs.process_semantics.specs.Process as process
@@ -22,7 +22,7 @@ use Rattle.world_semantics.specs.Follows.{IsRun}
 use Rattle.world_semantics.specs.Laws.{HasGrown, HasSentWhatItHas}
 use Rattle.world_semantics.proofs.Beginning.{all-begin}
 use Rattle.world_semantics.proofs.Lists.{some-same}
-use Rattle.gd_words.proofs.Among.{among-right}
+use Rattle.checkpoint_image.specs.gd_words.proofs.Among.{among-right}
 use Rattle.world_semantics.proofs.Runs.{holds-on}
 use Rattle.world_semantics.proofs.Later.{change-later}
 use Rattle.world_semantics.proofs.Becoming as becoming

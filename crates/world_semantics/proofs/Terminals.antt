@@ -1,11 +1,11 @@
 -- A terminal awaits at most one reply, and enters its requests one after the other.
 use Rattle.std.proofs.Common.{◌≡◌, ◌≤◌, inl, inr, ℕ, ◌+◌, ℤ, List, [], ◌∷◌, Some, slice_get, refl, sym, ap, subst, ◌∙◌}
 use Rattle.std.proofs.Common.{arith}
-use Rattle.gd_words.specs.Members.{IsAmong}
-use Rattle.gd_words.specs.declared.message.Request.{Request}
-use Rattle.tal_tree.specs.declared.act.Act.{Act}
-use Rattle.tal_tree.specs.declared.site.Site.{Site}
-use Rattle.tal_tree.specs.declared.site.Who.TheVariants as who
+use Rattle.checkpoint_image.specs.gd_words.specs.Members.{IsAmong}
+use Rattle.checkpoint_image.specs.gd_words.specs.declared.message.Request.{Request}
+use Rattle.checkpoint_image.specs.tal_tree.specs.declared.act.Act.{Act}
+use Rattle.checkpoint_image.specs.tal_tree.specs.declared.site.Site.{Site}
+use Rattle.checkpoint_image.specs.tal_tree.specs.declared.site.Who.TheVariants as who
 use Rattle.schedule.specs.declared.event.Event.{Event}
 use Rattle.plain_semantics.specs.declared.slot.Opener.{Opener}
 use Rattle.plain_semantics.specs.Openers.{opener_of}

@@ -3,12 +3,12 @@ use Rattle.std.proofs.Common.{◌≡◌, ◌<◌, ◌⊎◌, inl, inr, ℕ, ◌+
 use Rattle.std.proofs.Common.{List, [], ◌∷◌, ◌++◌, Option, Some, None, slice_get, slice_set, refl, subst, sym, ◌∙◌}
 use Rattle.std.proofs.Common.{arith}
 use Rattle.std.proofs.lemmas.Bool.{eq-eqb, eqb-true, lt-ltb, ltb-true}
-use Rattle.gd_words.specs.Members.{IsAmong}
-use Rattle.gd_words.specs.declared.message.Request.{Request}
-use Rattle.tal_tree.specs.declared.act.Act.{Act}
-use Rattle.tal_tree.specs.declared.site.Site.{Site}
-use Rattle.tal_tree.specs.declared.site.ProcessSpec.{ProcessSpec}
-use Rattle.tal_tree.specs.declared.site.OpenerSpec.{OpenerSpec}
+use Rattle.checkpoint_image.specs.gd_words.specs.Members.{IsAmong}
+use Rattle.checkpoint_image.specs.gd_words.specs.declared.message.Request.{Request}
+use Rattle.checkpoint_image.specs.tal_tree.specs.declared.act.Act.{Act}
+use Rattle.checkpoint_image.specs.tal_tree.specs.declared.site.Site.{Site}
+use Rattle.checkpoint_image.specs.tal_tree.specs.declared.site.ProcessSpec.{ProcessSpec}
+use Rattle.checkpoint_image.specs.tal_tree.specs.declared.site.OpenerSpec.{OpenerSpec}
 use Rattle.schedule.specs.declared.event.Event.{Event}
 use Rattle.plain_semantics.specs.Openers.{openers_of}
 use Rattle.checkpoint_image.specs.declared.message.ImageMessage.{ImageMessage}

@@ -3,10 +3,10 @@
 use Rattle.std.specs.Prelude.{◌≡◌, ℕ, ◌+◌, ℤ, List, [], ◌∷◌, map, is_some, slice_get, slice_set, Option, Some, None}
 use Rattle.std.specs.Prelude.{Bool, false, true}
 use Rattle.std.specs.Option.{option_map, unwrap_or}
-use Rattle.gd_words.specs.declared.device.DeviceCall.{DeviceCall}
-use Rattle.tal_tree.specs.declared.site.Site.{Site}
-use Rattle.tal_tree.specs.declared.site.ProcessSpec.{ProcessSpec}
-use Rattle.tal_tree.specs.declared.site.OpenerSpec.{OpenerSpec}
+use Rattle.checkpoint_image.specs.gd_words.specs.declared.device.DeviceCall.{DeviceCall}
+use Rattle.checkpoint_image.specs.tal_tree.specs.declared.site.Site.{Site}
+use Rattle.checkpoint_image.specs.tal_tree.specs.declared.site.ProcessSpec.{ProcessSpec}
+use Rattle.checkpoint_image.specs.tal_tree.specs.declared.site.OpenerSpec.{OpenerSpec}
 use Rattle.plain_semantics.specs.process_semantics.specs.declared.point.Point.TheVariants as point
 use Rattle.plain_semantics.specs.process_semantics.specs.Process as process
 use Rattle.plain_semantics.specs.process_semantics.specs.Image.{image_of, listed_items, listed_files, restored, imaged}
@@ -16,7 +16,7 @@ use Rattle.checkpoint_image.specs.declared.receive.ReceiveBlock.{ReceiveBlock}
 use Rattle.checkpoint_image.specs.declared.message.FileNumber.{FileNumber}
 use Rattle.checkpoint_image.specs.declared.message.Image.{Image}
 use Rattle.checkpoint_image.specs.Receive.{after_taking, after_answering}
-use Rattle.process_images.specs.Images.{all_files_of, everything_of}
+use Rattle.checkpoint_image.specs.process_images.specs.Images.{all_files_of, everything_of}
 
 -- what a process is with its files and openers: its state, the number of the next request on each of its files, and its
 -- receive table

@@ -1,24 +1,25 @@
 -- Worked examples: small sites, and the events of runs of them. Trees stand with their rows, as definitions match them.
 use Rattle.std.specs.Prelude.{◌≡◌, ℕ, ℤ, pos, false, List, [], ◌∷◌, codes, map}
-use Rattle.tal_tree.specs.Rows.{places, rows}
-use Rattle.tal_tree.specs.declared.act.Act.{Act}
-use Rattle.tal_tree.specs.declared.act.Act.TheVariants as act
-use Rattle.tal_tree.specs.declared.act.Shown.{Shown}
-use Rattle.tal_tree.specs.declared.act.Shown.TheVariants as shown
-use Rattle.tal_tree.specs.declared.expression.Expr.{Expr, Number, Read', Two', more_of-Spot, end_of-Spot, more_of-Expr}
-use Rattle.tal_tree.specs.declared.expression.Expr.{end_of-Expr}
-use Rattle.tal_tree.specs.declared.expression.Op.TheVariants.{Add}
-use Rattle.tal_tree.specs.declared.expression.Cond.{Truth}
-use Rattle.tal_tree.specs.declared.expression.Spot.{Spot}
-use Rattle.tal_tree.specs.declared.expression.Spot as spot
-use Rattle.tal_tree.specs.declared.expression.Variable.TheVariants as variable
-use Rattle.tal_tree.specs.declared.program.Program.{Program}
-use Rattle.tal_tree.specs.declared.program.Shape.TheVariants as shape
-use Rattle.tal_tree.specs.declared.program.Target.TheVariants as target
-use Rattle.tal_tree.specs.declared.statement.Statement.{Statement}
-use Rattle.tal_tree.specs.declared.statement.What as what
-use Rattle.tal_tree.specs.declared.site.Site.{Site}
-use Rattle.tal_tree.specs.declared.site.Kind.TheVariants as kind
+use Rattle.checkpoint_image.specs.tal_tree.specs.Rows.{places, rows}
+use Rattle.checkpoint_image.specs.tal_tree.specs.declared.act.Act.{Act}
+use Rattle.checkpoint_image.specs.tal_tree.specs.declared.act.Act.TheVariants as act
+use Rattle.checkpoint_image.specs.tal_tree.specs.declared.act.Shown.{Shown}
+use Rattle.checkpoint_image.specs.tal_tree.specs.declared.act.Shown.TheVariants as shown
+use Rattle.checkpoint_image.specs.tal_tree.specs.declared.expression.Expr.{Expr, Number, Read', Two', more_of-Spot}
+use Rattle.checkpoint_image.specs.tal_tree.specs.declared.expression.Expr.{end_of-Spot, more_of-Expr}
+use Rattle.checkpoint_image.specs.tal_tree.specs.declared.expression.Expr.{end_of-Expr}
+use Rattle.checkpoint_image.specs.tal_tree.specs.declared.expression.Op.TheVariants.{Add}
+use Rattle.checkpoint_image.specs.tal_tree.specs.declared.expression.Cond.{Truth}
+use Rattle.checkpoint_image.specs.tal_tree.specs.declared.expression.Spot.{Spot}
+use Rattle.checkpoint_image.specs.tal_tree.specs.declared.expression.Spot as spot
+use Rattle.checkpoint_image.specs.tal_tree.specs.declared.expression.Variable.TheVariants as variable
+use Rattle.checkpoint_image.specs.tal_tree.specs.declared.program.Program.{Program}
+use Rattle.checkpoint_image.specs.tal_tree.specs.declared.program.Shape.TheVariants as shape
+use Rattle.checkpoint_image.specs.tal_tree.specs.declared.program.Target.TheVariants as target
+use Rattle.checkpoint_image.specs.tal_tree.specs.declared.statement.Statement.{Statement}
+use Rattle.checkpoint_image.specs.tal_tree.specs.declared.statement.What as what
+use Rattle.checkpoint_image.specs.tal_tree.specs.declared.site.Site.{Site}
+use Rattle.checkpoint_image.specs.tal_tree.specs.declared.site.Kind.TheVariants as kind
 use Rattle.schedule.specs.declared.event.Event.{Event}
 use Rattle.schedule.specs.declared.event.Event.TheVariants as event
 use Rattle.checkpoint_image.specs.declared.receive.RequestStanding.{RequestStanding}

@@ -1,7 +1,7 @@
 -- Messages, and what a change of the world is for.
 use Rattle.std.specs.Prelude.{ℕ, List, map}
-use Rattle.gd_words.specs.declared.message.Request.{Request}
-use Rattle.gd_words.specs.declared.message.Reply.{Reply}
+use Rattle.checkpoint_image.specs.gd_words.specs.declared.message.Request.{Request}
+use Rattle.checkpoint_image.specs.gd_words.specs.declared.message.Reply.{Reply}
 use Rattle.checkpoint_image.specs.declared.message.ImageMessage.{ImageMessage}
 use Rattle.checkpoint_image.specs.declared.message.TakenMessage.{TakenMessage}
 

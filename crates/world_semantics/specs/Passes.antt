@@ -1,8 +1,8 @@
 -- How a checkpoint goes from one copy of a process to the other: Bartlett's checkpoint, applied whole. That era and
 -- number choose it is our own rule.
 use Rattle.std.specs.Prelude.{◌≡◌, ◌≤◌, ◌<◌, ℕ, ◌+◌, Bool, true, false, List, [], ◌∷◌, Some, ◌≢◌, ◌⊎◌, ◌++◌}
-use Rattle.gd_words.specs.Members.{IsAmong}
-use Rattle.tal_tree.specs.declared.act.Act.{Act}
+use Rattle.checkpoint_image.specs.gd_words.specs.Members.{IsAmong}
+use Rattle.checkpoint_image.specs.tal_tree.specs.declared.act.Act.{Act}
 use Rattle.plain_semantics.specs.process_semantics.specs.declared.point.Point.TheVariants as point
 use Rattle.plain_semantics.specs.process_semantics.specs.Process as process
 use Rattle.plain_semantics.specs.process_semantics.specs.declared.point.Point.{Point}

@@ -1,9 +1,9 @@
 -- The records of what happened in a run.
 use Rattle.std.specs.Prelude.{List}
-use Rattle.gd_words.specs.declared.message.Request.{Request}
-use Rattle.gd_words.specs.declared.message.Reply.{Reply}
-use Rattle.tal_tree.specs.declared.act.Act.{Act}
-use Rattle.tal_tree.specs.declared.act.Shown.{Shown}
+use Rattle.checkpoint_image.specs.gd_words.specs.declared.message.Request.{Request}
+use Rattle.checkpoint_image.specs.gd_words.specs.declared.message.Reply.{Reply}
+use Rattle.checkpoint_image.specs.tal_tree.specs.declared.act.Act.{Act}
+use Rattle.checkpoint_image.specs.tal_tree.specs.declared.act.Shown.{Shown}
 use Rattle.world_semantics.specs.World.{World}
 
 -- what happened in a run: the requests and replies ever sent, what was shown, and the acts that are kept, each the

@@ -3,13 +3,13 @@
 use Rattle.std.specs.Prelude.{ℕ, ℤ, Bool, true, false, if◌then◌else◌, List, [], ◌∷◌, ◌++◌, map, slice_get, Option, Some}
 use Rattle.std.specs.Prelude.{None, not}
 use Rattle.std.specs.Option.{option_map}
-use Rattle.gd_words.specs.declared.device.DeviceCall.{DeviceCall}
-use Rattle.gd_words.specs.declared.device.DeviceCall.TheVariants.{Write}
-use Rattle.tal_tree.specs.declared.act.Act.{Act}
-use Rattle.tal_tree.specs.declared.act.Act.TheVariants as act
-use Rattle.tal_tree.specs.declared.act.Shown.TheVariants as shown
-use Rattle.tal_tree.specs.declared.site.Site.{Site}
-use Rattle.tal_tree.specs.declared.site.OpenerSpec.{OpenerSpec}
+use Rattle.checkpoint_image.specs.gd_words.specs.declared.device.DeviceCall.{DeviceCall}
+use Rattle.checkpoint_image.specs.gd_words.specs.declared.device.DeviceCall.TheVariants.{Write}
+use Rattle.checkpoint_image.specs.tal_tree.specs.declared.act.Act.{Act}
+use Rattle.checkpoint_image.specs.tal_tree.specs.declared.act.Act.TheVariants as act
+use Rattle.checkpoint_image.specs.tal_tree.specs.declared.act.Shown.TheVariants as shown
+use Rattle.checkpoint_image.specs.tal_tree.specs.declared.site.Site.{Site}
+use Rattle.checkpoint_image.specs.tal_tree.specs.declared.site.OpenerSpec.{OpenerSpec}
 use Rattle.plain_semantics.specs.process_semantics.specs.declared.point.Point.{Point}
 use Rattle.plain_semantics.specs.process_semantics.specs.declared.point.Point.TheVariants as point
 use Rattle.plain_semantics.specs.process_semantics.specs.Process as process

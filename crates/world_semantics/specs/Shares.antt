@@ -2,8 +2,8 @@
 -- our own rule: a copy that does anew what its process did already adds nothing, and a take and the acts after it are
 -- held back until the next checkpoint.
 use Rattle.std.specs.Prelude.{ℕ, ◌+◌, Bool, true, false, nat_lt, List, [], ◌∷◌, ◌++◌}
-use Rattle.tal_tree.specs.declared.act.Act.{Act}
-use Rattle.tal_tree.specs.declared.act.Act.TheVariants.{Step}
+use Rattle.checkpoint_image.specs.tal_tree.specs.declared.act.Act.{Act}
+use Rattle.checkpoint_image.specs.tal_tree.specs.declared.act.Act.TheVariants.{Step}
 use Rattle.world_semantics.specs.World.{Copy, Pair}
 use Rattle.world_semantics.specs.Kept.{own_acts, is_take}
 use Rattle.plain_semantics.specs.process_semantics.specs.declared.point.Point.{Point}

@@ -5,14 +5,14 @@
 use Rattle.std.specs.Prelude.{ℕ, ◌+◌, ◌==◌, ◌&&◌, Bool, false, not, ◌||◌, List, [], ◌∷◌, map, replicate, slice_get}
 use Rattle.std.specs.Prelude.{slice_set, Option, Some, None, true}
 use Rattle.std.specs.List.{list_any}
-use Rattle.gd_words.specs.declared.message.Request.{Request}
-use Rattle.gd_words.specs.declared.message.Reply.{Reply}
-use Rattle.tal_tree.specs.declared.act.Act.{Act}
-use Rattle.tal_tree.specs.declared.act.Shown.{Shown}
-use Rattle.tal_tree.specs.declared.site.Site.{Site}
-use Rattle.tal_tree.specs.declared.site.ProcessSpec.{ProcessSpec}
-use Rattle.tal_tree.specs.declared.site.Kind.{Kind}
-use Rattle.tal_tree.specs.declared.site.Kind.TheVariants as kind
+use Rattle.checkpoint_image.specs.gd_words.specs.declared.message.Request.{Request}
+use Rattle.checkpoint_image.specs.gd_words.specs.declared.message.Reply.{Reply}
+use Rattle.checkpoint_image.specs.tal_tree.specs.declared.act.Act.{Act}
+use Rattle.checkpoint_image.specs.tal_tree.specs.declared.act.Shown.{Shown}
+use Rattle.checkpoint_image.specs.tal_tree.specs.declared.site.Site.{Site}
+use Rattle.checkpoint_image.specs.tal_tree.specs.declared.site.ProcessSpec.{ProcessSpec}
+use Rattle.checkpoint_image.specs.tal_tree.specs.declared.site.Kind.{Kind}
+use Rattle.checkpoint_image.specs.tal_tree.specs.declared.site.Kind.TheVariants as kind
 use Rattle.disc_device.specs.Sectors.{Stored, blank}
 use Rattle.checkpoint_image.specs.declared.message.ImageMessage.{ImageMessage}
 use Rattle.checkpoint_image.specs.declared.message.TakenMessage.{TakenMessage}

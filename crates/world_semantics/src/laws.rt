@@ -1,6 +1,6 @@
 ghost use Rattle.std.specs.Prelude.{◌≡◌, ◌≤◌, ◌↔◌, ◌⊎◌, ℕ, List, slice_get, Some, None, is_some, true};
-ghost use Rattle.gd_words.specs.Members.{IsAmong};
-ghost use Rattle.tal_tree.specs.declared.site.Site.{Site};
+ghost use Rattle.checkpoint_image.specs.gd_words.specs.Members.{IsAmong};
+ghost use Rattle.checkpoint_image.specs.tal_tree.specs.declared.site.Site.{Site};
 ghost use Rattle.schedule.specs.declared.event.Event.{Event};
 ghost use Rattle.schedule.specs.declared.event.Event.TheVariants.{Run};
 ghost use Rattle.plain_semantics.specs.process_semantics.specs.Process.{in_hand};

@@ -14,7 +14,7 @@ pub mod message_laws;
 pub mod role;
 pub mod which;
 
-pub use checkpoint_image;
+pub use checkpoint_image::{ImageMessage, NoMemory, OpenerBlock, ReceiveBlock, TakenMessage};
 pub use examples::{
     a_disc_finds_its_write_done, a_lost_take_is_replaced, a_repeated_request_is_answered_once,
     a_request_can_wait_ahead, an_adder_is_taken_over, an_adder_is_taken_over_twice,
@@ -32,6 +32,6 @@ pub use message_laws::{
     only_a_kept_reply_is_sent_again, only_a_sent_checkpoint_is_acknowledged,
     only_the_awaited_reply_is_got, only_the_awaited_reply_is_printed, what_was_taken_does_not_wait,
 };
-pub use process_images;
+pub use plain_semantics::{Opener, Point, files_of};
 pub use role::Role;
 pub use which::Which;

@@ -1,11 +1,11 @@
 //! Laws of the messages that come: what may be applied, acknowledged, got and printed, and what waits.
 ghost use Rattle.std.specs.Prelude.{◌≡◌, ◌≤◌, ◌⊎◌, ℕ, ◌+◌, ℤ, List, ◌++◌, slice_get, Some, true, false};
-ghost use Rattle.gd_words.specs.Members.{IsAmong};
-ghost use Rattle.gd_words.specs.declared.message.Request.{Request};
-ghost use Rattle.gd_words.specs.declared.message.Reply.{Reply};
-ghost use Rattle.tal_tree.specs.declared.act.Shown.{Shown};
-ghost use Rattle.tal_tree.specs.declared.act.Shown.TheVariants as shown;
-ghost use Rattle.tal_tree.specs.declared.site.Site.{Site};
+ghost use Rattle.checkpoint_image.specs.gd_words.specs.Members.{IsAmong};
+ghost use Rattle.checkpoint_image.specs.gd_words.specs.declared.message.Request.{Request};
+ghost use Rattle.checkpoint_image.specs.gd_words.specs.declared.message.Reply.{Reply};
+ghost use Rattle.checkpoint_image.specs.tal_tree.specs.declared.act.Shown.{Shown};
+ghost use Rattle.checkpoint_image.specs.tal_tree.specs.declared.act.Shown.TheVariants as shown;
+ghost use Rattle.checkpoint_image.specs.tal_tree.specs.declared.site.Site.{Site};
 ghost use Rattle.schedule.specs.declared.event.Event.{Event};
 ghost use Rattle.plain_semantics.specs.process_semantics.specs.Process.{after_got};
 ghost use Rattle.checkpoint_image.specs.declared.message.ImageMessage.{ImageMessage};

@@ -2,7 +2,7 @@
 use Rattle.std.proofs.Common.{◌≡◌, List, [], ◌∷◌, length, refl, arith}
 use Rattle.tal_syntax.specs.Grammar as g
 use Rattle.tal_names.specs.declared.scope.Scope.{Scope}
-use Rattle.tal_rules.specs.Calls.{values_count}
+use Rattle.tal_meaning.specs.tal_rules.specs.Calls.{values_count}
 use Rattle.tal_meaning.specs.Calls.{values_of_arguments, values_of}
 
 module _ (s : Scope) where

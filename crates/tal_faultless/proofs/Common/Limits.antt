@@ -1,7 +1,7 @@
 -- Counts that haven't reached their limit.
 use Rattle.std.proofs.Common.{◌≡◌, ◌≤◌, ℕ, suc, ◌+◌, min, nat_le, false, ap, ◌∙◌, arith, if◌then◌else◌}
 use Rattle.std.proofs.lemmas.Bool.{leb-false, lt-leb}
-use Rattle.tal_rules.specs.Statements.{next_file}
+use Rattle.tal_meaning.specs.tal_rules.specs.Statements.{next_file}
 
 pub min_is : (most n : ℕ) → n ≤ most → min most n ≡ n
 min_is most n e = omega (arith, e)

@@ -4,7 +4,7 @@ use Rattle.tal_tokens.specs.declared.token.At.{At}
 use Rattle.tal_syntax.specs.Grammar as g
 use Rattle.tal_declarations.specs.Globals.{lines_faults, with_lines, nothing_declared}
 use Rattle.tal_declarations.specs.Headings.{headings_faults}
-use Rattle.tal_rules.specs.Texts.{faults, headed_after, headed_text, bodies_faults, main_missing}
+use Rattle.tal_meaning.specs.tal_rules.specs.Texts.{faults, headed_after, headed_text, bodies_faults, main_missing}
 use Rattle.tal_faultless.proofs.Common.Faultless.{split}
 
 -- the parts of a text without faults have none

@@ -14,8 +14,9 @@ use Rattle.tal_declarations.specs.Files.{opened_named, opened, call_files, state
 use Rattle.tal_names.specs.Systems.{system_of}
 use Rattle.tal_names.specs.Names.{Declarations, meaning_in, is_declared}
 use Rattle.tal_names.specs.Places.{name_of_argument, arguments_of}
-use Rattle.tal_rules.specs.Texts.{scope_of, next_procedure, procedure_files, files_from, files_by, headed_text}
-use Rattle.tal_rules.specs.Texts.{no_files}
+use Rattle.tal_meaning.specs.tal_rules.specs.Texts.{scope_of, next_procedure, procedure_files, files_from, files_by}
+use Rattle.tal_meaning.specs.tal_rules.specs.Texts.{headed_text}
+use Rattle.tal_meaning.specs.tal_rules.specs.Texts.{no_files}
 use Rattle.tal_faultless.proofs.Common.Entries.{get_either}
 
 -- the item of a simple global

@@ -7,7 +7,7 @@ use Rattle.tal_names.specs.declared.meaning.Meaning.{Meaning}
 use Rattle.tal_names.specs.declared.meaning.Meaning.TheVariants as m
 use Rattle.tal_declarations.specs.declared.table.Files.{Files}
 use Rattle.tal_names.specs.declared.scope.Scope.{Scope}
-use Rattle.tal_rules.specs.Calls.{string_faults}
+use Rattle.tal_meaning.specs.tal_rules.specs.Calls.{string_faults}
 use Rattle.tal_declarations.specs.Files as files
 use Rattle.tal_declarations.specs.Files.{file_by, target_of, with_file}
 use Rattle.tal_names.specs.Names.{is_declared}

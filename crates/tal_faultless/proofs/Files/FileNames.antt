@@ -15,15 +15,16 @@ use Rattle.tal_names.specs.declared.meaning.Need.TheVariants as need
 use Rattle.tal_declarations.specs.declared.table.Files.{Files}
 use Rattle.tal_names.specs.declared.scope.Named.{Named}
 use Rattle.tal_names.specs.declared.scope.Scope.{Scope}
-use Rattle.tal_rules.specs.declared.walk.Walk.{Walk}
-use Rattle.tal_rules.specs.Calls.{count_faults, string_faults, opens_receive, is_opened, file_limit, depth_faults}
-use Rattle.tal_rules.specs.Calls.{takes_open, open_faults, name_in, undeclared_faults}
+use Rattle.tal_meaning.specs.tal_rules.specs.declared.walk.Walk.{Walk}
+use Rattle.tal_meaning.specs.tal_rules.specs.Calls.{count_faults, string_faults, opens_receive, is_opened, file_limit}
+use Rattle.tal_meaning.specs.tal_rules.specs.Calls.{depth_faults}
+use Rattle.tal_meaning.specs.tal_rules.specs.Calls.{takes_open, open_faults, name_in, undeclared_faults}
 use Rattle.tal_names.specs.Faults.{fault_at, if_so}
 use Rattle.tal_declarations.specs.Files.{is_receive, file_by, target_of, with_file, simple_global, depth_of}
 use Rattle.tal_declarations.specs.Files.{depth_value, opened_as, opened_named, opened}
 use Rattle.tal_names.specs.Names.{Declarations, meaning_in, is_declared}
 use Rattle.tal_names.specs.Places.{name_of_argument, front_name_of_argument, first_of_argument}
-use Rattle.tal_rules.specs.Statements.{next_file}
+use Rattle.tal_meaning.specs.tal_rules.specs.Statements.{next_file}
 use Rattle.tal_tree.specs.Targets as targets
 use Rattle.tal_faultless.proofs.Files.FileGlobals.{global_is}
 use Rattle.tal_faultless.proofs.Files.FileMeanings.{file_meaning}

@@ -4,23 +4,28 @@ use Rattle.tal_tokens.specs.declared.token.At.{At}
 use Rattle.tal_syntax.specs.Grammar as g
 use Rattle.tal_names.specs.declared.fault.Rule.TheVariants.{Prologue}
 use Rattle.tal_declarations.specs.declared.table.Files.{Files}
-use Rattle.tal_rules.specs.declared.walk.Progress.{Progress}
+use Rattle.tal_meaning.specs.tal_rules.specs.declared.walk.Progress.{Progress}
 use Rattle.tal_names.specs.declared.scope.Scope.{Scope}
-use Rattle.tal_rules.specs.declared.walk.Walk.{Walk}
+use Rattle.tal_meaning.specs.tal_rules.specs.declared.walk.Walk.{Walk}
 use Rattle.tal_names.specs.declared.system.System.{System}
 use Rattle.tal_names.specs.declared.system.System.TheVariants as system
-use Rattle.tal_rules.specs.Calls.{call_faults}
+use Rattle.tal_meaning.specs.tal_rules.specs.Calls.{call_faults}
 use Rattle.tal_names.specs.Faults.{fault_at, if_so}
 use Rattle.tal_declarations.specs.Files.{call_files, statement_files, else_files, row_files}
 use Rattle.tal_names.specs.Systems.{system_of}
 use Rattle.tal_names.specs.Names.{Declarations}
 use Rattle.tal_names.specs.Places.{arguments_of}
-use Rattle.tal_rules.specs.Statements.{stepped, inside_do, after, after_else, after_row, after_call, number_faults}
-use Rattle.tal_rules.specs.Statements.{test_faults, for_head_faults, statement_faults, else_faults, row_faults}
-use Rattle.tal_rules.specs.Texts.{scope_of, next_procedure, procedure_files, files_from, files_by, headed_text}
-use Rattle.tal_rules.specs.Texts.{no_files, entered, body_after, body_faults, heading_locals_faults, lacks_monitor}
-use Rattle.tal_rules.specs.Texts.{name_place, procedure_faults, after_procedure, procedures_faults, first_progress}
-use Rattle.tal_rules.specs.Texts.{bodies_faults}
+use Rattle.tal_meaning.specs.tal_rules.specs.Statements.{stepped, inside_do, after, after_else, after_row, after_call}
+use Rattle.tal_meaning.specs.tal_rules.specs.Statements.{number_faults}
+use Rattle.tal_meaning.specs.tal_rules.specs.Statements.{test_faults, for_head_faults, statement_faults, else_faults}
+use Rattle.tal_meaning.specs.tal_rules.specs.Statements.{row_faults}
+use Rattle.tal_meaning.specs.tal_rules.specs.Texts.{scope_of, next_procedure, procedure_files, files_from, files_by}
+use Rattle.tal_meaning.specs.tal_rules.specs.Texts.{headed_text}
+use Rattle.tal_meaning.specs.tal_rules.specs.Texts.{no_files, entered, body_after, body_faults, heading_locals_faults}
+use Rattle.tal_meaning.specs.tal_rules.specs.Texts.{lacks_monitor}
+use Rattle.tal_meaning.specs.tal_rules.specs.Texts.{name_place, procedure_faults, after_procedure, procedures_faults}
+use Rattle.tal_meaning.specs.tal_rules.specs.Texts.{first_progress}
+use Rattle.tal_meaning.specs.tal_rules.specs.Texts.{bodies_faults}
 use Rattle.tal_faultless.proofs.Files.FileNames.{AreOpened, open_opened}
 use Rattle.tal_faultless.proofs.Scopes.SourceScopes.{without_files}
 use Rattle.tal_faultless.proofs.Common.Faultless.{first_nil, second_nil}

@@ -10,7 +10,7 @@ use Rattle.tal_names.specs.declared.fault.Rule.TheVariants.{Limit}
 use Rattle.tal_names.specs.declared.meaning.Meaning.{Meaning}
 use Rattle.tal_names.specs.declared.meaning.Meaning.TheVariants as m
 use Rattle.tal_names.specs.declared.scope.Scope.{Scope}
-use Rattle.tal_rules.specs.Calls.{is_depth, depth_limit, depth_form, depth_faults}
+use Rattle.tal_meaning.specs.tal_rules.specs.Calls.{is_depth, depth_limit, depth_form, depth_faults}
 use Rattle.tal_declarations.specs.Files.{named_in, declared_before, depth_value, depth_of}
 use Rattle.tal_declarations.specs.Globals.{atom_of, constant_value, atom_faults, literal_faults}
 use Rattle.tal_names.specs.Names.{meaning_in}

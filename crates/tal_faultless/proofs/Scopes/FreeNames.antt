@@ -11,7 +11,7 @@ use Rattle.tal_declarations.specs.Globals.{with_line, lines_faults, with_lines, 
 use Rattle.tal_declarations.specs.Headings.{heading_of, heading_faults, headings_faults, with_heading, with_headings}
 use Rattle.tal_names.specs.Names.{Declarations, meaning_in, with_name}
 use Rattle.tal_names.specs.Systems.{system_of}
-use Rattle.tal_rules.specs.Texts.{headed_after, headed_text}
+use Rattle.tal_meaning.specs.tal_rules.specs.Texts.{headed_after, headed_text}
 use Rattle.tal_faultless.proofs.Scopes.Declared.{meaning_with, with_free_procedure}
 use Rattle.tal_faultless.proofs.Scopes.GlobalNames.{free_name, not_taken}
 use Rattle.tal_faultless.proofs.Common.Faultless.{first_nil, second_nil}

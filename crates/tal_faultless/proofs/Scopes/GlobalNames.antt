@@ -22,7 +22,7 @@ use Rattle.tal_declarations.specs.Headings.{heading_of, heading_faults, with_hea
 use Rattle.tal_declarations.specs.Headings.{main_faults, parameters_of, does_give}
 use Rattle.tal_names.specs.Names.{Declarations, meaning_in, is_declared, with_name}
 use Rattle.tal_names.specs.Systems.{system_of}
-use Rattle.tal_rules.specs.Texts.{headed_after, headed_text}
+use Rattle.tal_meaning.specs.tal_rules.specs.Texts.{headed_after, headed_text}
 use Rattle.tal_meaning.specs.Programs.{name_by}
 use Rattle.tal_faultless.proofs.Scopes.Declared.{meaning_kept, meaning_new, meaning_with, with_free_procedure}
 use Rattle.tal_faultless.proofs.Common.Limits.{limit_is, min_is}

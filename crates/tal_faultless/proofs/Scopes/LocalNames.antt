@@ -16,7 +16,7 @@ use Rattle.tal_declarations.specs.Headings.{parameter_faults, parameters_faults,
 use Rattle.tal_declarations.specs.Headings.{inner_faults}
 use Rattle.tal_names.specs.Names.{Declarations, meaning_in, is_declared}
 use Rattle.tal_names.specs.Systems.{system_of}
-use Rattle.tal_rules.specs.Texts.{locals_by, heading_locals_faults}
+use Rattle.tal_meaning.specs.tal_rules.specs.Texts.{locals_by, heading_locals_faults}
 use Rattle.tal_meaning.specs.Programs.{parameters_by, texts_of}
 use Rattle.tal_faultless.proofs.Scopes.Declared.{meaning_with}
 use Rattle.tal_faultless.proofs.Scopes.GlobalNames.{not_taken}

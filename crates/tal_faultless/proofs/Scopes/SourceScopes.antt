@@ -2,7 +2,7 @@
 use Rattle.std.specs.Prelude.{ℕ, []}
 use Rattle.tal_syntax.specs.Grammar as g
 use Rattle.tal_names.specs.declared.scope.Scope.{Scope}
-use Rattle.tal_rules.specs.Texts.{headed_text, files_by, scope_of}
+use Rattle.tal_meaning.specs.tal_rules.specs.Texts.{headed_text, files_by, scope_of}
 
 -- the scope of a procedure of this number in a text
 abbrev pub scope_in : g.Lines → g.Procedures → ℕ → g.Heading → g.Locals → Scope

@@ -3,7 +3,7 @@ use Rattle.std.specs.Prelude.{◌≡◌, []}
 use Rattle.tal_tokens.specs.declared.token.At.{At}
 use Rattle.tal_syntax.specs.Grammar as g
 use Rattle.tal_declarations.specs.Globals.{with_lines, nothing_declared}
-use Rattle.tal_rules.specs.Texts.{faults, headed_text, files_by}
+use Rattle.tal_meaning.specs.tal_rules.specs.Texts.{faults, headed_text, files_by}
 use Rattle.tal_faultless.proofs.Common.TextParts.{AreFaultless, faultless}
 use Rattle.tal_faultless.proofs.Files.FileWalks.{AtEnd, files_opened}
 use Rattle.tal_faultless.proofs.Scopes.GlobalNames.{AreGlobals, heading_names, global_names}

@@ -15,7 +15,7 @@ use Rattle.tal_declarations.specs.Headings.{locals_of}
 use Rattle.tal_names.specs.Names.{Declarations, meaning_in}
 use Rattle.tal_names.specs.Scopes.{or_else, is_file}
 use Rattle.tal_names.specs.Systems.{system_of}
-use Rattle.tal_rules.specs.Texts.{faults, headed_text, files_by, heading_locals_faults}
+use Rattle.tal_meaning.specs.tal_rules.specs.Texts.{faults, headed_text, files_by, heading_locals_faults}
 use Rattle.tal_meaning.specs.Programs.{texts_of, parameters_by}
 use Rattle.tal_faultless.proofs.Scopes.Declared.{meaning_there}
 use Rattle.tal_faultless.proofs.Files.FileGlobals.{files_are_globals}

@@ -1,4 +1,4 @@
-use Rattle.due_search.proofs.Numbers.{walked-low}
+use Rattle.advice.specs.due_search.proofs.Numbering.{walked-low}
 use Rattle.advise.proofs.advising.advise.Goals as goal
 
 pub advise_by-requires-clause-numbers : goal.advise_by-requires-clause-numbers

@@ -1,6 +1,6 @@
 use Rattle.std.proofs.Common.{arith, subst, sym, length}
 use Rattle.path_semantics.specs.declared.reason.Reason.TheVariants.{Depth}
-use Rattle.due_search.specs.Ends.{HasFound}
+use Rattle.advice.specs.due_search.specs.Ends.{HasFound}
 use Rattle.advice.specs.discipline.proofs.Tried.{aim_with}
 use Rattle.advice.specs.Due.{IsFileDue}
 use Rattle.advise.specs.Gathered.{AreReadable, IsDeepest, AreAdded}

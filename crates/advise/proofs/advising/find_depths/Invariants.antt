@@ -1,5 +1,5 @@
 use Rattle.std.proofs.Common.{◌≡◌, length}
-use Rattle.due_search.specs.Search.{IsClear}
+use Rattle.advice.specs.due_search.specs.Search.{IsClear}
 use Rattle.advice.specs.Due.{IsFileDue}
 use Rattle.advise.specs.Advising.{NoneDeepBefore, AreLeastDepths}
 use Rattle.advise.specs.Gathered.{AreDue}

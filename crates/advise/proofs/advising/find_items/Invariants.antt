@@ -1,5 +1,5 @@
 use Rattle.std.proofs.Common.{◌≡◌, length}
-use Rattle.due_search.specs.Search.{IsClear}
+use Rattle.advice.specs.due_search.specs.Search.{IsClear}
 use Rattle.advice.specs.Due.{IsItemDue}
 use Rattle.advise.specs.Gathered.{AreDue}
 use Rattle.advise.proofs.advising.find_items.Given as goal

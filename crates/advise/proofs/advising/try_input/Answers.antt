@@ -1,6 +1,6 @@
 use Rattle.std.proofs.Common.{subst}
 use Rattle.path_semantics.specs.declared.reason.Reason.TheVariants.{Input}
-use Rattle.due_search.specs.Ends.{HasFound}
+use Rattle.advice.specs.due_search.specs.Ends.{HasFound}
 use Rattle.advice.specs.discipline.proofs.Tried.{aim_with}
 use Rattle.advise.proofs.Answering.{input-none, input-some}
 use Rattle.advise.proofs.advising.try_input.Goals as goal

@@ -1,5 +1,5 @@
 use Rattle.std.proofs.Common.{◌≡◌}
-use Rattle.reason_dues.specs.Sets.{has_number}
+use Rattle.advice.specs.reason_dues.specs.Sets.{has_number}
 use Rattle.advise.specs.Lists.{numbers_below}
 use Rattle.advise.proofs.lists.files_in.Given as goal
 

@@ -1,5 +1,5 @@
 use Rattle.std.proofs.Common.{length}
-use Rattle.alive_rounds.specs.Runs.{Plays}
+use Rattle.alive_rounds.specs.Runs.{PlaysTo}
 use Rattle.alive_rounds.proofs.Running.{runs-fresh, nobody-stopped}
 use Rattle.alive_rounds.proofs.laws.a_calm_schedule_stops_nobody_at_a_tick.Goals as goal
 
@@ -7,6 +7,7 @@ pub returns : goal.returns
 returns c sizes w machine counts watched few has counted shown start lines stop calm fresh events agenda s played plan
     comes
     next =
-    nobody-stopped sizes w counts (Plays machine) watched counted few (length events) agenda s next
-    (runs-fresh sizes w counts (Plays machine) watched few has counted shown start lines stop calm fresh events agenda s
+    nobody-stopped sizes w counts (PlaysTo machine) watched counted few (length events) agenda s next
+    (runs-fresh sizes w counts (PlaysTo machine) watched few has counted shown start lines stop calm fresh events agenda
+    s
     played) plan comes

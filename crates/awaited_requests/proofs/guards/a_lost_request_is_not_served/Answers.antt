@@ -2,10 +2,10 @@ use Rattle.std.proofs.Common.{◌≡◌, inl, inr, ℕ, zero, suc, pos, List, []
 use Rattle.gd_words.specs.Members.{IsAmong}
 use Rattle.tal_tree.specs.declared.site.Who.{Who}
 use Rattle.tal_tree.specs.declared.site.Who.TheVariants as who
-use Rattle.plain_semantics.specs.declared.slot.Opener.{Opener}
-use Rattle.plain_semantics.specs.Openers.{opener_of}
-use Rattle.process_semantics.specs.declared.point.Point.TheVariants as point
-use Rattle.process_semantics.specs.Process as process
+use Rattle.world_semantics.specs.plain_semantics.specs.declared.slot.Opener.{Opener}
+use Rattle.world_semantics.specs.plain_semantics.specs.Openers.{opener_of}
+use Rattle.takeover_laws.specs.process_semantics.specs.declared.point.Point.TheVariants as point
+use Rattle.takeover_laws.specs.process_semantics.specs.Process as process
 use Rattle.takeover_laws.specs.process_histories.specs.Served.{disc_site}
 use Rattle.world_semantics.specs.World.{Pair, Terminal, terminal_node, copy_of}
 use Rattle.world_semantics.specs.declared.role.Role.TheVariants.{Acting}

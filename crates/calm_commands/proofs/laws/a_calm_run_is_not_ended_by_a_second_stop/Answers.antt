@@ -1,5 +1,5 @@
 use Rattle.std.proofs.Common.{List, ℕ, Option, subst}
-use Rattle.command_dues.specs.Decided.{IsDue}
+use Rattle.command_laws.specs.command_dues.specs.Decided.{IsDue}
 use Rattle.calm_commands.proofs.Ended.{calm-ends}
 use Rattle.calm_commands.proofs.laws.a_calm_run_is_not_ended_by_a_second_stop.Goals as goal
 

@@ -1,5 +1,5 @@
 use Rattle.std.proofs.Common.{List, ℕ, Option, subst}
-use Rattle.command_dues.specs.Decided.{IsDue}
+use Rattle.command_laws.specs.command_dues.specs.Decided.{IsDue}
 use Rattle.command_laws.proofs.Faults.{reading-failed, writing-failed}
 use Rattle.calm_commands.proofs.Ended.{calm-ends, without-fault}
 use Rattle.calm_commands.proofs.laws.a_calm_run_without_faults_is_idle_or_cut.Goals as goal

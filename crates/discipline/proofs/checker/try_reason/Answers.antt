@@ -1,6 +1,6 @@
 use Rattle.std.proofs.Common.{◌≤◌, subst, sym, ◌∙◌}
 use Rattle.due_search.specs.Ends.{HasFound}
-use Rattle.due_search.proofs.Numbers.{walked-low}
+use Rattle.due_search.proofs.Numbering.{walked-low}
 use Rattle.discipline.proofs.Tried.{aim_with, found-none, found-some, has-most}
 use Rattle.discipline.proofs.checker.try_reason.Goals as goal
 

@@ -6,7 +6,7 @@ use Rattle.tal_tree.specs.declared.statement.What.TheBlock.{shown-the_row-Statem
 use Rattle.tal_tree.specs.declared.statement.What.TheBlock.{hidden-the_row-Statement-0}
 use Rattle.process_semantics.specs.Process.{ProcessState, Runs, Serves}
 use Rattle.process_semantics.specs.State.{words_of}
-use Rattle.world_semantics.specs.Core.{Core, Took, Answered, takes, answers}
+use Rattle.checkpoint_laws.specs.world_semantics.specs.Core.{Core, Took, Answered, takes, answers}
 use Rattle.process_histories.specs.Histories.{nothing_done, one_more}
 use Rattle.discipline_laws.specs.Careless.{process_of, site_of, hasty, forgetful}
 use Rattle.discipline_laws.specs.Disciplined.{IsDisciplined}

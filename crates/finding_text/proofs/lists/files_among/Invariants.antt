@@ -1,5 +1,5 @@
 use Rattle.std.proofs.Common.{◌≡◌, length}
-use Rattle.advice.specs.Answer.{files_among}
+use Rattle.pair_findings.specs.advice.specs.Answer.{files_among}
 use Rattle.finding_text.proofs.lists.files_among.Given as goal
 
 abbrev pub invariant-loop-one : goal.invariant-loop-one

@@ -13,8 +13,8 @@ use Rattle.world_semantics.specs.Running.{run_done}
 use Rattle.world_semantics.specs.declared.role.Role.TheVariants.{Acting, Gone}
 use Rattle.world_semantics.specs.declared.which.Which.{Which}
 use Rattle.world_semantics.specs.declared.which.Which.TheVariants.{First, Second}
-use Rattle.computed_changes.specs.Entered.{enter_done}
-use Rattle.computed_changes.proofs.Entered.{enter-only}
+use Rattle.served_requests.specs.computed_changes.specs.Entered.{enter_done}
+use Rattle.served_requests.specs.computed_changes.proofs.Entered.{enter-only}
 use Rattle.letters.specs.Routes.{Letter}
 use Rattle.world_semantics.proofs.Lists.{some-same}
 use Rattle.world_semantics.specs.Rules.{by_enter, by_stop, by_mark}

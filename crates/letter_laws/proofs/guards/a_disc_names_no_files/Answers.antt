@@ -1,5 +1,5 @@
 use Rattle.std.proofs.Common.{[], ◌∷◌, inl, refl, arith}
-use Rattle.process_histories.specs.Served.{disc}
+use Rattle.awaited_requests.specs.process_histories.specs.Served.{disc}
 use Rattle.awaited_requests.specs.Examples.{disc_pair}
 use Rattle.letter_laws.specs.Examples.{naming}
 use Rattle.letter_laws.proofs.guards.a_disc_names_no_files.Goals as goal

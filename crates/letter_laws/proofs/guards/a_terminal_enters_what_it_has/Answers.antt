@@ -1,6 +1,6 @@
 use Rattle.std.proofs.Common.{◌≡◌, ◌-◌, ◌≤◌, ℕ, zero, suc, ℤ, pos, List, [], ◌∷◌, Some, slice_get, refl, subst, arith}
 use Rattle.plain_semantics.specs.Machine.{next_request}
-use Rattle.process_histories.specs.Served.{disc_site}
+use Rattle.awaited_requests.specs.process_histories.specs.Served.{disc_site}
 use Rattle.world_semantics.specs.World.{Terminal}
 use Rattle.world_semantics.proofs.Lists.{some-same}
 use Rattle.letter_laws.proofs.guards.a_terminal_enters_what_it_has.Goals as goal

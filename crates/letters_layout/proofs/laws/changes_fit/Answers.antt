@@ -1,4 +1,4 @@
-use Rattle.letters.proofs.Worlds.{played-run}
+use Rattle.letter_laws.specs.letters.proofs.Worlds.{played-run}
 use Rattle.letters_layout.proofs.Checkpoints.{change-fits}
 use Rattle.letters_layout.proofs.laws.changes_fit.Goals as goal
 

@@ -2,7 +2,7 @@ use Rattle.std.proofs.Common.{ℕ, List, sym, subst}
 use Rattle.process_images.proofs.Everything.{whole-listed}
 use Rattle.process_images.specs.Images.{everything_of}
 use Rattle.site_machine.specs.processes.specs.Seen.{state_of}
-use Rattle.whole_states.specs.Listing.{MayList}
+use Rattle.process_images.specs.whole_states.specs.Listing.{MayList}
 use Rattle.machine_views.proofs.process.image_of_everything.Goals as goal
 
 pub image-requires : goal.image-requires

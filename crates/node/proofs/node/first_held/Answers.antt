@@ -1,5 +1,5 @@
 use Rattle.std.proofs.Common.{◌≡◌, ◌-◌, ◌+◌, suc, true, false, ◌∙◌, ap, sym, arith}
-use Rattle.packet_wires.specs.Lines.{first_held}
+use Rattle.event_parts.specs.packet_wires.specs.Lines.{first_held}
 use Rattle.node.proofs.Lines.{held-turn}
 use Rattle.node.proofs.node.first_held.Goals as goal
 

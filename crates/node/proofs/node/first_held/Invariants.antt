@@ -1,5 +1,5 @@
 use Rattle.std.proofs.Common.{◌≡◌, ◌-◌}
-use Rattle.packet_wires.specs.Lines.{first_held}
+use Rattle.event_parts.specs.packet_wires.specs.Lines.{first_held}
 use Rattle.node.proofs.node.first_held.Given as goal
 
 abbrev pub invariant-loop-processor : goal.invariant-loop-processor

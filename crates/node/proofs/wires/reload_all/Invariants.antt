@@ -1,5 +1,5 @@
 use Rattle.std.proofs.Common.{◌≡◌, ◌++◌, take, drop, map}
-use Rattle.packet_wires.specs.Nodes.{node_after_reload}
+use Rattle.event_parts.specs.packet_wires.specs.Nodes.{node_after_reload}
 use Rattle.node.proofs.wires.reload_all.Given as goal
 
 abbrev pub invariant-loop-node : goal.invariant-loop-node

@@ -1,6 +1,6 @@
 use Rattle.std.proofs.Common.{◌∙◌, ◌++◌, ◌∷◌, [], List, map, ap, sym}
 use Rattle.gd_words.specs.declared.message.Reply.{Reply}
-use Rattle.world_semantics.specs.Messages.{Replying, Sending, sent_at}
+use Rattle.kept_acts.specs.world_semantics.specs.Messages.{Replying, Sending, sent_at}
 use Rattle.node_copies.proofs.KeptReplies.{all-settled, fewer-left, more-settled}
 use Rattle.node_copies.proofs.settling.settle.Goals as goal
 

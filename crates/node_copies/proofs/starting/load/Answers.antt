@@ -1,7 +1,7 @@
 use Rattle.std.proofs.Common.{ap, sym, subst, ◌∙◌}
 use Rattle.process_semantics.specs.Process.{ProcessState, in_hand}
-use Rattle.whole_states.specs.Listing.{files_of}
-use Rattle.whole_states.specs.Processes.{IsWholeProcess}
+use Rattle.process_control.specs.whole_states.specs.Listing.{files_of}
+use Rattle.process_control.specs.whole_states.specs.Processes.{IsWholeProcess}
 use Rattle.process_control.proofs.Starting.{start-files, start-free}
 use Rattle.node_copies.proofs.Loads.{starts-whole}
 use Rattle.node_copies.proofs.starting.load.Goals as goal

@@ -1,5 +1,5 @@
 use Rattle.std.proofs.Common.{ℕ, List, [], subst, sym}
-use Rattle.processes.specs.Seen.{state_of}
+use Rattle.machine_views.specs.processes.specs.Seen.{state_of}
 use Rattle.world_semantics.specs.whole_states.specs.Listing.{MayList}
 use Rattle.noted_runs.proofs.Nothing.{nothing_listed}
 use Rattle.noted_runs.proofs.steps.stood_inside.Goals as goal

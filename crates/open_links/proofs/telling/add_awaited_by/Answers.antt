@@ -2,8 +2,8 @@ use Rattle.std.proofs.Common.{◌≡◌, ◌∙◌, ◌++◌, List, Option, Some
 use Rattle.std.proofs.Common.{refl, sym}
 use Rattle.std.proofs.lemmas.Option.{slice_get_past, slice_get_read}
 use Rattle.gd_words.specs.declared.message.Request.{Request}
-use Rattle.world_semantics.specs.World.{Terminal}
-use Rattle.open_links.specs.Parts.{awaited_by}
+use Rattle.world_copies.specs.world_semantics.specs.World.{Terminal}
+use Rattle.open_links.specs.Parts.{awaited_by_terminal}
 use Rattle.open_links.proofs.telling.add_awaited_by.Goals as goal
 
 pub returns-in-None : goal.returns-in-None
@@ -12,7 +12,8 @@ returns-in-None c =
     ap (λ (terminals : List Terminal). slice_get terminals c.args.number) (sym c.terminals.ensures)
     ∙ slice_get_past c.terminals.result.now c.args.number c.in-None.ensures.lookup.3 in
     sym (append-nil c.args.requests.now)
-    ∙ ap (λ (found : Option Terminal). c.args.requests.now ++ awaited_by c.args.world.now.site c.args.number found)
+    ∙ ap (λ (found : Option Terminal).
+    c.args.requests.now ++ awaited_by_terminal c.args.world.now.site c.args.number found)
     (sym none)
 
 pub returns-in-Some : goal.returns-in-Some
@@ -23,4 +24,5 @@ returns-in-Some c =
     c.in-Some.ensures.lookup.3.0 c.in-Some.ensures.lookup.1 in
     subst (λ (those : List Request). OnOk c.add_request.result
     (c.add_request.new.requests ≡ c.args.requests.now ++ those))
-    (c.awaited_from.ensures ∙ ap (awaited_by c.args.world.now.site c.args.number) (sym there)) c.add_request.ensures
+    (c.awaited_from.ensures ∙ ap (awaited_by_terminal c.args.world.now.site c.args.number) (sym there))
+    c.add_request.ensures

@@ -5,9 +5,10 @@ use Rattle.tal_tree.specs.declared.site.ProcessSpec.{ProcessSpec}
 use Rattle.tal_tree.specs.declared.site.Who.TheVariants as who
 use Rattle.gd_words.specs.declared.device.DeviceCall.TheVariants as call
 use Rattle.plain_semantics.specs.Machine.{next_request}
-use Rattle.whole_states.specs.Processes.{IsRegularKind}
-use Rattle.world_semantics.specs.Core.{Checkpointed, Took, Answered, Acted, marks, takes, answers, acts}
-use Rattle.world_semantics.proofs.Lists.{some-same}
+use Rattle.process_histories.specs.whole_states.specs.Processes.{IsRegularKind}
+use Rattle.process_histories.specs.world_semantics.specs.Core.{Checkpointed, Took, Answered, Acted, marks, takes}
+use Rattle.process_histories.specs.world_semantics.specs.Core.{answers, acts}
+use Rattle.process_histories.specs.world_semantics.proofs.Lists.{some-same}
 use Rattle.process_histories.specs.Histories.{nothing_done, one_more}
 use Rattle.process_histories.specs.Served.{disc, disc_site, sector_with}
 use Rattle.plain_histories.specs.Agreeing.{AreRegular}

@@ -3,7 +3,7 @@ use Rattle.tal_tree.specs.declared.act.Act.{Act}
 use Rattle.tal_tree.specs.declared.act.Act.TheVariants.{Step, Take}
 use Rattle.tal_tree.specs.declared.site.Site.{Site}
 use Rattle.tal_tree.specs.declared.site.Who.TheVariants as who
-use Rattle.world_semantics.specs.Core.{Deed}
+use Rattle.process_histories.specs.world_semantics.specs.Core.{Deed}
 use Rattle.process_histories.specs.Served.{disc_site}
 use Rattle.plain_histories.specs.Booking.{AreHeld, none_held, take_held, step_held}
 use Rattle.plain_histories.specs.Ledgers.{Ledger, empty_ledger}

@@ -1,5 +1,5 @@
 use Rattle.std.proofs.Common.{◌≡◌, drop}
-use Rattle.world_semantics.specs.Core.{with_files}
+use Rattle.computed_changes.specs.world_semantics.specs.Core.{with_files}
 use Rattle.process_control.proofs.files.put_files.Given as goal
 
 abbrev pub invariant-loop-named : goal.invariant-loop-named

@@ -1,6 +1,6 @@
 use Rattle.std.proofs.Common.{◌≡◌, Err, ap, drop, sym, subst, take, ◌∙◌}
-use Rattle.deck_reader.specs.Decks.{Decks}
-use Rattle.deck_reader.specs.Refusals.{IsRefusalOf}
+use Rattle.command_dues.specs.deck_reader.specs.Decks.{Decks}
+use Rattle.command_dues.specs.deck_reader.specs.Refusals.{IsRefusalOf}
 use Rattle.command_dues.specs.Verified.{IsDueOfInput, IsDueOfJudged, deck_in, report_in}
 use Rattle.command_dues.specs.Written.{CanBeWritten}
 use Rattle.command_dues.proofs.DecidedLemmas.{fault_is_written}

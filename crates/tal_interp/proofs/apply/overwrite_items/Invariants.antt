@@ -1,5 +1,5 @@
 use Rattle.std.proofs.Common.{◌≡◌, ℤ, List, length}
-use Rattle.whole_states.specs.Whole.{sizes_of, widths_of}
+use Rattle.tal_table.specs.whole_states.specs.Whole.{sizes_of, widths_of}
 use Rattle.tal_interp.specs.Images.{Overwrites}
 use Rattle.tal_interp.proofs.apply.overwrite_items.Given as goal
 

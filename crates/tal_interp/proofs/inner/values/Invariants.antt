@@ -1,6 +1,6 @@
 use Rattle.std.proofs.Common.{◌≡◌, ◌++◌, drop, length}
 use Rattle.std.specs.Option.{option_map}
-use Rattle.tal_values.specs.Seen.{seen}
+use Rattle.process_semantics.specs.tal_values.specs.Seen.{seen}
 use Rattle.process_semantics.specs.Steps.{values_of}
 use Rattle.tal_interp.proofs.inner.values.Given as goal
 

@@ -1,5 +1,5 @@
 use Rattle.std.proofs.Common.{◌≡◌, get_or}
-use Rattle.tal_syntax.specs.Expected.{IsWithin, IsUnfinished, IsUnexpected, IsTooDeep}
+use Rattle.tal_builder.specs.tal_syntax.specs.Expected.{IsWithin, IsUnfinished, IsUnexpected, IsTooDeep}
 use Rattle.tal_reader.specs.Reads.{IsJudged}
 use Rattle.tal_reader.proofs.Reading.{fine-as, misspelt-as, unexpected-as, deep-as, deep-there, token-at}
 use Rattle.tal_reader.proofs.reader.read_program.Goals as goal

@@ -1,5 +1,5 @@
 use Rattle.std.proofs.Common.{◌≡◌, ◌++◌, drop}
-use Rattle.process_images.specs.Images.{asking_from}
+use Rattle.checkpoint_image.specs.process_images.specs.Images.{asking_from}
 use Rattle.tal_table.proofs.everything.asking.Given as goal
 
 abbrev pub invariant-loop-number : goal.invariant-loop-number

@@ -4,7 +4,7 @@ use Rattle.std.specs.Int.{w16}
 use Rattle.tal_tree.specs.declared.expression.Expr.TheVariants as expr
 use Rattle.tal_tree.specs.declared.statement.Statement.{Statement}
 use Rattle.tal_tree.specs.declared.statement.What.{If, While, For, DoUntil}
-use Rattle.tal_values.specs.Spots.{spot_of}
+use Rattle.process_semantics.specs.tal_values.specs.Spots.{spot_of}
 use Rattle.program_deeds.specs.Deed.{counts_by}
 use Rattle.tal_table.specs.Loads.{begins}
 use Rattle.tal_table.specs.declared.node.Work.TheVariants as work

@@ -1,5 +1,5 @@
 use Rattle.std.proofs.Common.{length, option_copied, ap, sym, ◌∙◌, arith}
-use Rattle.checkpoint_image.specs.Receive.{answered}
+use Rattle.world_semantics.specs.checkpoint_image.specs.Receive.{answered}
 use Rattle.world_copies.proofs.Kept.{kept-few, place-fits}
 use Rattle.world_copies.proofs.telling_again.tell_kept.Goals as goal
 

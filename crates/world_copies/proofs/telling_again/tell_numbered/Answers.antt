@@ -1,6 +1,6 @@
 use Rattle.std.proofs.Common.{◌++◌, map, ap, arith}
 use Rattle.world_semantics.specs.Messages.{Replying, sent_at}
-use Rattle.letters.specs.Again.{numbered}
+use Rattle.process_copies.specs.letters.specs.Again.{numbered}
 use Rattle.world_copies.proofs.telling_again.tell_numbered.Goals as goal
 
 pub loop-words-init : goal.loop-words-init

@@ -1,6 +1,6 @@
 use Rattle.std.proofs.Common.{◌≡◌, ◌+◌, ◌-◌, ◌++◌, length, map, drop}
 use Rattle.world_semantics.specs.Messages.{Replying, sent_at}
-use Rattle.letters.specs.Again.{numbered}
+use Rattle.process_copies.specs.letters.specs.Again.{numbered}
 use Rattle.world_copies.proofs.telling_again.tell_numbered.Given as goal
 
 -- what is told so far and what is left

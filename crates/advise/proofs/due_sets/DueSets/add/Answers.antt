@@ -1,6 +1,6 @@
 use Rattle.std.proofs.Common.{◌≡◌, ◌≤◌, ◌+◌, length, take, get_or, slice_get, Some, refl, ap, sym, subst, ◌∙◌, arith}
 use Rattle.std.proofs.lemmas.Option.{slice_get_read}
-use Rattle.due_search.specs.declared.queue.Visit.{Visit}
+use Rattle.advice.specs.due_search.specs.declared.queue.Visit.{Visit}
 use Rattle.advise.specs.Gathered.{due_at, AreAdded}
 use Rattle.advise.specs.declared.due_sets.DueSets.{DueSets}
 use Rattle.advise.proofs.Any.{got-same}

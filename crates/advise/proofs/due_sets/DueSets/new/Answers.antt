@@ -1,5 +1,5 @@
 use Rattle.std.proofs.Common.{◌≡◌, List, false, subst, sym, replicate}
-use Rattle.reason_dues.specs.declared.number_set.Numbers.{Numbers}
+use Rattle.advice.specs.reason_dues.specs.declared.number_set.Numbers.{Numbers}
 use Rattle.advise.specs.Gathered.{has_in}
 use Rattle.advise.proofs.Sets.{none-in}
 use Rattle.advise.proofs.due_sets.DueSets.new.Goals as goal

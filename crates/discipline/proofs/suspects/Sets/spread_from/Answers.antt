@@ -1,5 +1,5 @@
 use Rattle.std.proofs.Common.{◌∙◌, sym, subst, length}
-use Rattle.flow_paths.specs.Graph.{IsWithin}
+use Rattle.due_search.specs.flow_paths.specs.Graph.{IsWithin}
 use Rattle.discipline.proofs.Settling.{first-inside, second-inside}
 use Rattle.discipline.proofs.suspects.Sets.spread_from.Goals as goal
 

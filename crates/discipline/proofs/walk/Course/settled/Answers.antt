@@ -3,7 +3,7 @@ use Rattle.discipline.specs.declared.stack.Position.{Position}
 use Rattle.std.specs.Prelude.{List, min}
 use Rattle.process_semantics.specs.SeenEntries.{entry_of}
 use Rattle.path_semantics.specs.Dues.{changed_by_return}
-use Rattle.reason_dues.specs.Amounts.{after_changed}
+use Rattle.due_search.specs.reason_dues.specs.Amounts.{after_changed}
 use Rattle.discipline.proofs.Walking.{stays, ended, left, returned, lost, shorter, top-none}
 use Rattle.discipline.proofs.walk.Course.settled.Goals as goal
 

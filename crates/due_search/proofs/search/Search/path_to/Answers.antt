@@ -1,5 +1,5 @@
 use Rattle.std.proofs.Common.{◌∙◌, ap, ◌+◌}
-use Rattle.process_semantics.specs.Rests.{entry_number}
+use Rattle.flow_paths.specs.process_semantics.specs.Rests.{entry_number}
 use Rattle.due_search.proofs.Trails.{step-back}
 use Rattle.due_search.proofs.search.Search.path_to.Goals as goal
 

@@ -1,6 +1,6 @@
 use Rattle.std.proofs.Common.{subst, sym}
 use Rattle.due_search.specs.Ends.{AreReached, HasStopped}
-use Rattle.due_search.proofs.Numbers.{queue-trail}
+use Rattle.due_search.proofs.Numbering.{queue-trail}
 use Rattle.due_search.proofs.Paths.{first-end}
 use Rattle.due_search.proofs.search.Search.run.Goals as goal
 

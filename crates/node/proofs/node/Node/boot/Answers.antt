@@ -1,7 +1,7 @@
 use Rattle.std.proofs.Common.{◌≡◌, ◌-◌, ◌+◌, suc, List, ◌∙◌, ap₂, arith}
 use Rattle.alive_regroup.specs.Watching.{Watching}
 use Rattle.link_control.specs.Ends.{End, new_end}
-use Rattle.packet_wires.specs.Nodes.{Node, never_reloaded}
+use Rattle.event_parts.specs.packet_wires.specs.Nodes.{Node, never_reloaded}
 use Rattle.node.proofs.Loops.{pushed-all, pushed-turn}
 use Rattle.node.proofs.node.Node.boot.Goals as goal
 

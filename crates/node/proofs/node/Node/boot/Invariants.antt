@@ -1,6 +1,6 @@
 use Rattle.std.proofs.Common.{◌≡◌, ◌-◌, ◌++◌, map}
 use Rattle.link_control.specs.Ends.{new_end}
-use Rattle.packet_wires.specs.Nodes.{all_nodes, never_reloaded, numbers}
+use Rattle.event_parts.specs.packet_wires.specs.Nodes.{all_nodes, never_reloaded, numbers}
 use Rattle.node.proofs.node.Node.boot.Given as goal
 
 abbrev pub invariant-loop-other : goal.invariant-loop-other

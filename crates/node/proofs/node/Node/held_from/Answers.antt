@@ -1,7 +1,7 @@
 use Rattle.std.proofs.Common.{◌≡◌, ◌≤◌, ◌<◌, ◌+◌, ℕ, true, inl, inr, slice_get, sym, ap, ◌∙◌, arith}
 use Rattle.std.proofs.Math.Nat.{eq-or-lt_of_le}
-use Rattle.packet_wires.specs.Idle.{holds_nothing}
-use Rattle.packet_wires.specs.Nodes.{Node}
+use Rattle.event_parts.specs.packet_wires.specs.Idle.{holds_nothing}
+use Rattle.event_parts.specs.packet_wires.specs.Nodes.{Node}
 use Rattle.node.proofs.node.Node.held_from.Goals as goal
 
 -- none before, and not this one

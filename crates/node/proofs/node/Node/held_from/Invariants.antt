@@ -1,5 +1,5 @@
 use Rattle.std.proofs.Common.{◌≡◌, ◌≤◌, ◌<◌, ℕ, true, slice_get}
-use Rattle.packet_wires.specs.Idle.{holds_nothing}
+use Rattle.event_parts.specs.packet_wires.specs.Idle.{holds_nothing}
 use Rattle.node.proofs.node.Node.held_from.Given as goal
 
 abbrev pub invariant-loop-other : goal.invariant-loop-other

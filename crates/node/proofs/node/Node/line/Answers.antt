@@ -1,6 +1,6 @@
 use Rattle.std.proofs.Common.{◌∙◌, ap}
-use Rattle.packet_wires.specs.Lines.{line_pulled}
-use Rattle.packet_wires.specs.Nodes.{Node}
+use Rattle.event_parts.specs.packet_wires.specs.Lines.{line_pulled}
+use Rattle.event_parts.specs.packet_wires.specs.Nodes.{Node}
 use Rattle.node.proofs.node.Node.line.Goals as goal
 
 pub returns : goal.returns

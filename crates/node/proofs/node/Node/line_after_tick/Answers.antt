@@ -2,8 +2,8 @@ use Rattle.std.proofs.Common.{◌∙◌, ap}
 use Rattle.alive_regroup.specs.Watching as watching
 use Rattle.alive_regroup.specs.Watching.{Watching}
 use Rattle.alive_regroup.proofs.NoneMissed.{none-held}
-use Rattle.packet_wires.specs.Lines.{first_held, line_pulled}
-use Rattle.packet_wires.specs.Nodes.{Node}
+use Rattle.event_parts.specs.packet_wires.specs.Lines.{first_held, line_pulled}
+use Rattle.event_parts.specs.packet_wires.specs.Nodes.{Node}
 use Rattle.node.specs.Calls.{with_watch_changed}
 use Rattle.node.proofs.Lines.{none-first}
 use Rattle.node.proofs.node.Node.line_after_tick.Goals as goal

@@ -1,6 +1,6 @@
 use Rattle.std.proofs.Common.{List, slice_get, sym, ap, ◌∙◌}
 use Rattle.link_control.specs.Ends.{End}
-use Rattle.packet_wires.specs.Nodes.{Node}
+use Rattle.event_parts.specs.packet_wires.specs.Nodes.{Node}
 use Rattle.node.proofs.node.Node.on_reload.Goals as goal
 
 pub reload_all-requires : goal.reload_all-requires

@@ -1,5 +1,5 @@
 use Rattle.std.proofs.Common.{◌≡◌, ◌-◌, ◌+◌, suc, ◌∙◌, arith}
-use Rattle.packet_wires.specs.Nodes.{node_at_boot}
+use Rattle.event_parts.specs.packet_wires.specs.Nodes.{node_at_boot}
 use Rattle.node.proofs.Loops.{pushed-turn}
 use Rattle.node.proofs.wires.PacketWires.boot.Goals as goal
 

@@ -1,5 +1,5 @@
 use Rattle.std.proofs.Common.{◌≡◌, ◌-◌, ◌++◌, map}
-use Rattle.packet_wires.specs.Nodes.{node_at_boot, nodes_at_boot, numbers}
+use Rattle.event_parts.specs.packet_wires.specs.Nodes.{node_at_boot, nodes_at_boot, numbers}
 use Rattle.node.proofs.wires.PacketWires.boot.Given as goal
 
 abbrev pub invariant-loop-node : goal.invariant-loop-node

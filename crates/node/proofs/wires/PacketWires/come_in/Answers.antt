@@ -2,7 +2,7 @@ use Rattle.std.proofs.Common.{◌≡◌, ℕ, Some, slice_get, refl, arith, ◌�
 use Rattle.std.proofs.lemmas.Option.{slice_get_read}
 use Rattle.link_control.specs.Ends.{after_packet, sent_by_packet}
 use Rattle.packet_words.specs.declared.packet.Packet.{Packet}
-use Rattle.packet_wires.specs.Wires.{Wires, any_goes_over, at_end}
+use Rattle.event_parts.specs.packet_wires.specs.Wires.{Wires, any_goes_over, at_end}
 use Rattle.event_parts.specs.Parts.{carried_out}
 use Rattle.node.specs.contracts.wires.PacketWires.{the_view}
 use Rattle.node.proofs.Ends.{carried-end, does_at}

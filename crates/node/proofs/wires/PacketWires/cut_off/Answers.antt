@@ -1,7 +1,7 @@
 use Rattle.std.proofs.Common.{◌∙◌, ap}
 use Rattle.alive_regroup.specs.Watching as watching
 use Rattle.alive_regroup.specs.Watching.{changed_at}
-use Rattle.packet_wires.specs.Wires.{at_end, down_at, learns}
+use Rattle.event_parts.specs.packet_wires.specs.Wires.{at_end, down_at, learns}
 use Rattle.event_parts.specs.Parts.{carried_out}
 use Rattle.event_parts.proofs.Adds.{adds-learns}
 use Rattle.event_parts.proofs.Turns.{carried-then}

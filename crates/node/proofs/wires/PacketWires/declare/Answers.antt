@@ -1,8 +1,8 @@
 use Rattle.std.proofs.Common.{◌≡◌, ℕ, ℤ, List, ◌∙◌, ap, ap₂}
-use Rattle.packet_wires.specs.message_layout.specs.Messages.{Declaring}
-use Rattle.packet_wires.specs.message_layout.specs.Layout.{words_of}
-use Rattle.packet_wires.specs.Nodes.{others}
-use Rattle.packet_wires.specs.Wires.{Wires, at_end, for_each, push_at}
+use Rattle.event_parts.specs.packet_wires.specs.message_layout.specs.Messages.{Declaring}
+use Rattle.event_parts.specs.packet_wires.specs.message_layout.specs.Layout.{words_of}
+use Rattle.event_parts.specs.packet_wires.specs.Nodes.{others}
+use Rattle.event_parts.specs.packet_wires.specs.Wires.{Wires, at_end, for_each, push_at}
 use Rattle.event_parts.specs.Parts.{carried_out}
 use Rattle.event_parts.proofs.Adds.{adds-push}
 use Rattle.event_parts.proofs.Numbers.{can-for-each, can-push}

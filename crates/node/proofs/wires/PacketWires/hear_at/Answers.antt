@@ -1,7 +1,7 @@
 use Rattle.std.proofs.Common.{slice_get, sym, ◌∙◌, ap}
 use Rattle.alive_regroup.specs.Watching as watching
 use Rattle.alive_regroup.specs.Watching.{changed_at}
-use Rattle.packet_wires.specs.Wires.{learns, on_bus}
+use Rattle.event_parts.specs.packet_wires.specs.Wires.{learns, on_bus}
 use Rattle.event_parts.specs.Parts.{carried_out}
 use Rattle.node.proofs.Arrivals.{delivered-alive}
 use Rattle.node.proofs.wires.PacketWires.hear_at.Goals as goal

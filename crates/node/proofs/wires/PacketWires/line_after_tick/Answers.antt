@@ -2,9 +2,9 @@ use Rattle.std.proofs.Common.{◌≡◌, ◌≤◌, ℕ, Option, Some, slice_get
 use Rattle.std.specs.Option.{option_and_then}
 use Rattle.std.proofs.lemmas.Option.{slice_get_past, slice_get_read}
 use Rattle.alive_regroup.specs.Watching as watching
-use Rattle.packet_wires.specs.Lines.{line_pulled}
-use Rattle.packet_wires.specs.Nodes.{Node}
-use Rattle.packet_wires.specs.Wires.{Wires}
+use Rattle.event_parts.specs.packet_wires.specs.Lines.{line_pulled}
+use Rattle.event_parts.specs.packet_wires.specs.Nodes.{Node}
+use Rattle.event_parts.specs.packet_wires.specs.Wires.{Wires}
 use Rattle.node.specs.Calls.{with_watch_changed}
 use Rattle.node.proofs.Lines.{line-ticked}
 use Rattle.node.proofs.wires.PacketWires.line_after_tick.Goals as goal

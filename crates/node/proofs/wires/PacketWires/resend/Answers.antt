@@ -1,5 +1,5 @@
 use Rattle.std.proofs.Common.{ap, ◌∙◌}
-use Rattle.packet_wires.specs.Wires.{resends}
+use Rattle.event_parts.specs.packet_wires.specs.Wires.{resends}
 use Rattle.event_parts.specs.Parts.{carried_out}
 use Rattle.node.proofs.Quiet.{quiet-resends}
 use Rattle.node.proofs.wires.PacketWires.resend.Goals as goal

@@ -1,5 +1,5 @@
 use Rattle.std.proofs.Common.{◌≡◌, ◌-◌, ◌+◌, suc, ◌∙◌, sym, arith}
-use Rattle.packet_wires.specs.Wires.{at_end, tick_at}
+use Rattle.event_parts.specs.packet_wires.specs.Wires.{at_end, tick_at}
 use Rattle.event_parts.proofs.Adds.{adds-tick}
 use Rattle.node.proofs.Loops.{each-turn}
 use Rattle.node.proofs.Quiet.{skipped-ticks}

@@ -1,6 +1,6 @@
 use Rattle.std.proofs.Common.{◌≡◌, ◌-◌, ◌≤◌}
-use Rattle.packet_wires.specs.Nodes.{numbers}
-use Rattle.packet_wires.specs.Wires.{at_end, for_each, resends, tick_at}
+use Rattle.event_parts.specs.packet_wires.specs.Nodes.{numbers}
+use Rattle.event_parts.specs.packet_wires.specs.Wires.{at_end, for_each, resends, tick_at}
 use Rattle.event_parts.specs.Parts.{carried_out}
 use Rattle.node.proofs.wires.PacketWires.resend_all.Given as goal
 

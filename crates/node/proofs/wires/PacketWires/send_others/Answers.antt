@@ -1,5 +1,5 @@
 use Rattle.std.proofs.Common.{◌≡◌, ◌-◌, ◌+◌, ◌==◌, suc, ◌∙◌, arith}
-use Rattle.packet_wires.specs.Wires.{at_end, push_at}
+use Rattle.event_parts.specs.packet_wires.specs.Wires.{at_end, push_at}
 use Rattle.event_parts.proofs.Adds.{adds-push}
 use Rattle.event_parts.proofs.Numbers.{can-push}
 use Rattle.node.proofs.Loops.{can-after-if, other-turn}

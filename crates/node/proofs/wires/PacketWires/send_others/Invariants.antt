@@ -1,7 +1,7 @@
 use Rattle.std.proofs.Common.{◌≡◌, ◌-◌, ◌==◌, not}
 use Rattle.std.specs.List.{filter}
-use Rattle.packet_wires.specs.Nodes.{numbers, others}
-use Rattle.packet_wires.specs.Wires.{at_end, for_each, push_at}
+use Rattle.event_parts.specs.packet_wires.specs.Nodes.{numbers, others}
+use Rattle.event_parts.specs.packet_wires.specs.Wires.{at_end, for_each, push_at}
 use Rattle.event_parts.specs.Numbers.{CanPush}
 use Rattle.event_parts.specs.Parts.{carried_out}
 use Rattle.node.proofs.wires.PacketWires.send_others.Given as goal

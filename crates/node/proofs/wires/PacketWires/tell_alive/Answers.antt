@@ -1,5 +1,5 @@
 use Rattle.std.proofs.Common.{◌≡◌, ◌-◌, ◌+◌, suc, ◌∙◌, arith}
-use Rattle.packet_wires.specs.Wires.{alive_at, at_end}
+use Rattle.event_parts.specs.packet_wires.specs.Wires.{alive_at, at_end}
 use Rattle.event_parts.proofs.Adds.{adds-alive}
 use Rattle.node.proofs.Loops.{other-turn}
 use Rattle.node.proofs.wires.PacketWires.tell_alive.Goals as goal

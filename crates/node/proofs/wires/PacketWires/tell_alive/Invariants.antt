@@ -1,7 +1,7 @@
 use Rattle.std.proofs.Common.{◌≡◌, ◌-◌, ◌==◌, not}
 use Rattle.std.specs.List.{filter}
-use Rattle.packet_wires.specs.Nodes.{numbers, others}
-use Rattle.packet_wires.specs.Wires.{alive_at, at_end, for_each}
+use Rattle.event_parts.specs.packet_wires.specs.Nodes.{numbers, others}
+use Rattle.event_parts.specs.packet_wires.specs.Wires.{alive_at, at_end, for_each}
 use Rattle.event_parts.specs.Parts.{carried_out}
 use Rattle.node.proofs.wires.PacketWires.tell_alive.Given as goal
 

@@ -1,7 +1,7 @@
 use Rattle.std.proofs.Common.{◌≡◌, ℕ, Some, slice_get, refl, arith, ◌∙◌, ap₂}
 use Rattle.std.proofs.lemmas.Option.{slice_get_read}
 use Rattle.link_control.specs.Ends.{after_down}
-use Rattle.packet_wires.specs.Wires.{Wires, at_end, down_at}
+use Rattle.event_parts.specs.packet_wires.specs.Wires.{Wires, at_end, down_at}
 use Rattle.event_parts.specs.Parts.{carried_out}
 use Rattle.node.specs.contracts.wires.PacketWires.{the_view}
 use Rattle.node.proofs.Ends.{carried-quietly}

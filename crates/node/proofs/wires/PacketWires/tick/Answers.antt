@@ -1,5 +1,5 @@
 use Rattle.std.proofs.Common.{◌∙◌, ap}
-use Rattle.packet_wires.specs.Wires.{checks, resends, tells_alive}
+use Rattle.event_parts.specs.packet_wires.specs.Wires.{checks, resends, tells_alive}
 use Rattle.event_parts.specs.Parts.{carried_out}
 use Rattle.event_parts.proofs.Adds.{adds-checks, adds-resends}
 use Rattle.event_parts.proofs.Numbers.{can-tells-alive}

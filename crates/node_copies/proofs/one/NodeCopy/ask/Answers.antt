@@ -1,9 +1,9 @@
 use Rattle.std.proofs.Common.{◌≡◌, ◌∙◌, Option, ap, sym, rules}
-use Rattle.plain_semantics.specs.declared.slot.Opener.{Opener}
+use Rattle.number_ranges.specs.plain_semantics.specs.declared.slot.Opener.{Opener}
 use Rattle.process_semantics.specs.Process.{asked_file, asked_words}
 use Rattle.process_control.specs.declared.told.Asking.{Asking}
-use Rattle.world_semantics.specs.Core.{next_on}
-use Rattle.world_semantics.specs.Own.{asked_on, request_to}
+use Rattle.kept_acts.specs.world_semantics.specs.Core.{next_on}
+use Rattle.kept_acts.specs.world_semantics.specs.Own.{asked_on, request_to}
 use Rattle.node_copies.specs.Acting.{opener_among, requests_in}
 use Rattle.node_copies.specs.Seen.{CopyAndDepths}
 use Rattle.node_copies.proofs.Acts.{asks}

@@ -1,7 +1,7 @@
 use Rattle.std.proofs.Common.{◌≡◌, ◌∙◌, ℕ, Option, ap, sym, subst}
 use Rattle.std.specs.Prelude.{is_some}
 use Rattle.checkpoint_image.specs.declared.receive.ReceiveBlock.{ReceiveBlock}
-use Rattle.sync_ids.specs.Tables.{IsSound}
+use Rattle.file_calls.specs.sync_ids.specs.Tables.{IsSound}
 use Rattle.node_copies.specs.Acting.{Scene, around_in}
 use Rattle.node_copies.specs.Seen.{CopyAndDepths}
 use Rattle.node_copies.proofs.Abilities.{can-answer, sound-as}

@@ -1,5 +1,5 @@
 use Rattle.std.proofs.Common.{refl, subst, sym}
-use Rattle.computed_changes.specs.Stopped.{world_at_down}
+use Rattle.message_wires.specs.computed_changes.specs.Stopped.{world_at_down}
 use Rattle.pair_machine.specs.Room.{AreCounted}
 use Rattle.pair_machine.proofs.Marks.{marked-steps}
 use Rattle.pair_machine.proofs.whole.MachineParts.mark_down.Goals as goal

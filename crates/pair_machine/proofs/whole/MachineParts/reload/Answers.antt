@@ -1,5 +1,5 @@
 use Rattle.std.proofs.Common.{◌∙◌, refl, sym}
-use Rattle.computed_changes.specs.Stopped.{reload_done}
+use Rattle.message_wires.specs.computed_changes.specs.Stopped.{reload_done}
 use Rattle.machine_states.specs.declared.effect.Effect.TheVariants.{Done, Skipped}
 use Rattle.pair_machine.proofs.Loads.{reloads-done, reloads-none}
 use Rattle.pair_machine.proofs.whole.MachineParts.reload.Goals as goal

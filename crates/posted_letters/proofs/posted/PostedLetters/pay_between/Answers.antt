@@ -1,6 +1,6 @@
 use Rattle.std.proofs.Common.{rules, not, refl}
 use Rattle.std.proofs.lemmas.Fn.{filter_same}
-use Rattle.letters.specs.Routes.{is_between}
+use Rattle.message_wires.specs.letters.specs.Routes.{is_between}
 use Rattle.posted_letters.proofs.Rising.{filtered}
 use Rattle.posted_letters.proofs.posted.PostedLetters.pay_between.Goals as goal
 

@@ -1,6 +1,6 @@
 use Rattle.std.proofs.Common.{rules, not, refl}
 use Rattle.std.proofs.lemmas.Fn.{filter_same}
-use Rattle.letters.specs.Posts.{is_from_or_to}
+use Rattle.message_wires.specs.letters.specs.Posts.{is_from_or_to}
 use Rattle.posted_letters.proofs.Rising.{filtered}
 use Rattle.posted_letters.proofs.posted.PostedLetters.reload.Goals as goal
 

@@ -1,6 +1,6 @@
 use Rattle.std.proofs.Common.{List, ℕ, sym, subst}
-use Rattle.process_images.specs.Images.{everything_of}
-use Rattle.process_images.proofs.Everything.{whole-listed}
+use Rattle.checkpoint_image.specs.process_images.specs.Images.{everything_of}
+use Rattle.checkpoint_image.specs.process_images.proofs.Everything.{whole-listed}
 use Rattle.whole_states.specs.Listing.{MayList}
 use Rattle.process_control.proofs.inside.CopyCore.carried_whole.Goals as goal
 

@@ -1,6 +1,6 @@
 use Rattle.std.proofs.Common.{is_some, sym, ap, ◌∙◌}
 use Rattle.checkpoint_image.specs.declared.receive.ReceiveBlock.{ReceiveBlock}
-use Rattle.sync_ids.specs.Changes.{changed}
+use Rattle.computed_changes.specs.sync_ids.specs.Changes.{changed}
 use Rattle.process_control.proofs.Consistent.{applying}
 use Rattle.process_control.proofs.Tables.{put-table}
 use Rattle.process_control.proofs.inside.CopyCore.put_change.Goals as goal

@@ -7,7 +7,7 @@ use Rattle.tal_tree.specs.declared.site.Site.{Site}
 use Rattle.plain_semantics.specs.Openers.{openers_of}
 use Rattle.plain_semantics.specs.SiteLimits.{KeepsSiteLimits}
 use Rattle.plain_semantics.proofs.Few.{openers-few}
-use Rattle.sync_ids.specs.Tables.{IsDepth}
+use Rattle.node_copies.specs.sync_ids.specs.Tables.{IsDepth}
 use Rattle.process_copies.specs.Seen.{Placed}
 use Rattle.process_copies.specs.Starting.{HasDepths}
 use Rattle.process_copies.proofs.Blanks.{blank-is}

@@ -1,5 +1,5 @@
 use Rattle.std.proofs.Common.{length, subst}
-use Rattle.machine_states.specs.Drives.{turned}
+use Rattle.node_copies.specs.machine_states.specs.Drives.{turned}
 use Rattle.node_copies.specs.Seen.{drives_on, sectors_on}
 use Rattle.process_copies.specs.Seen.{Placed}
 use Rattle.process_copies.specs.Turning.{TurnsPlaced}

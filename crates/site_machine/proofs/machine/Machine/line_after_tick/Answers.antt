@@ -1,7 +1,7 @@
 use Rattle.std.proofs.Common.{◌∙◌, ℕ, Option, ap, slice_get}
 use Rattle.std.specs.Option.{option_and_then}
-use Rattle.packet_wires.specs.Lines.{line_pulled}
-use Rattle.packet_wires.specs.Wires.{Wires, nothing_sent, ticked}
+use Rattle.node.specs.packet_wires.specs.Lines.{line_pulled}
+use Rattle.node.specs.packet_wires.specs.Wires.{Wires, nothing_sent, ticked}
 use Rattle.site_machine.specs.Seen.{MachineStanding}
 use Rattle.site_machine.specs.declared.machine.Machine.TheInside.{Inside}
 use Rattle.site_machine.proofs.machine.Machine.line_after_tick.Goals as goal

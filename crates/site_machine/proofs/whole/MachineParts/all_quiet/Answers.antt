@@ -1,7 +1,7 @@
 use Rattle.std.proofs.Common.{◌≡◌, ◌-◌, ◌+◌, ℕ, suc, ◌∙◌, arith}
 use Rattle.std.specs.List.{list_all}
-use Rattle.packet_wires.specs.Idle.{is_quiet}
-use Rattle.packet_wires.specs.Nodes.{all_nodes}
+use Rattle.node.specs.packet_wires.specs.Idle.{is_quiet}
+use Rattle.node.specs.packet_wires.specs.Nodes.{all_nodes}
 use Rattle.site_machine.proofs.Passes.{all-done, all-next, all-stop}
 use Rattle.site_machine.proofs.whole.MachineParts.all_quiet.Goals as goal
 

@@ -1,5 +1,5 @@
 use Rattle.std.proofs.Common.{subst, sym}
-use Rattle.packet_wires.specs.Play.{Packeted}
+use Rattle.node.specs.packet_wires.specs.Play.{Packeted}
 use Rattle.site_machine.specs.Needs.{HaveNumbersLeft}
 use Rattle.site_machine.proofs.whole.MachineParts.arrive.Goals as goal
 

@@ -1,5 +1,5 @@
 use Rattle.std.proofs.Common.{slice_get, sym, ◌∙◌}
-use Rattle.packet_wires.specs.Wires.{on_bus}
+use Rattle.node.specs.packet_wires.specs.Wires.{on_bus}
 use Rattle.site_machine.proofs.Deliveries.{alive-comes, alive-dropped}
 use Rattle.site_machine.proofs.whole.MachineParts.deliver_alive.Goals as goal
 

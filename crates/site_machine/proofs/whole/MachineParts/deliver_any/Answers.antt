@@ -1,9 +1,9 @@
 use Rattle.std.proofs.Common.{slice_get, sym, subst, ◌∙◌}
-use Rattle.machine_states.specs.States.{Settles}
-use Rattle.machine_states.specs.declared.effect.Effect.TheVariants as effect
+use Rattle.node.specs.machine_states.specs.States.{Settles}
+use Rattle.node.specs.machine_states.specs.declared.effect.Effect.TheVariants as effect
 use Rattle.packet_words.specs.declared.bus_name.BusName.{BusName}
-use Rattle.packet_wires.specs.Play.{begun, deliver_acted, ended}
-use Rattle.packet_wires.specs.Wires.{on_bus, without_packet}
+use Rattle.node.specs.packet_wires.specs.Play.{underway, deliver_acted, ended}
+use Rattle.node.specs.packet_wires.specs.Wires.{on_bus, without_packet}
 use Rattle.site_machine.proofs.Deliveries.{can-hand, delivery-comes, delivery-dropped}
 use Rattle.site_machine.proofs.whole.MachineParts.deliver_any.Goals as goal
 
@@ -14,7 +14,7 @@ hand_words-requires c =
 pub returns-then-not-comes_in : goal.returns-then-not-comes_in
 returns-then-not-comes_in c =
     subst (λ (name : BusName). Settles (ended (without_packet name c.args.k c.args.self.now.wires)
-    (deliver_acted name (begun c.args.self.now) (slice_get (on_bus name c.args.self.now.wires) c.args.k)))
+    (deliver_acted name (underway c.args.self.now) (slice_get (on_bus name c.args.self.now.wires) c.args.k)))
     c.args.self.now effect.Done c.drop_packet.new.self) c.bus_named-bus.ensures
     (delivery-dropped c.bus_named-bus.result c.args.k c.args.self.now
     (slice_get (on_bus c.bus_named-bus.result c.args.self.now.wires) c.args.k) c.in-Some.receiver c.drop_packet.new.self
@@ -23,7 +23,7 @@ returns-then-not-comes_in c =
 pub returns-in_ok-hand_words-in-Some : goal.returns-in_ok-hand_words-in-Some
 returns-in_ok-hand_words-in-Some c =
     subst (λ (name : BusName). Settles (ended (without_packet name c.args.k c.args.self.now.wires)
-    (deliver_acted name (begun c.args.self.now) (slice_get (on_bus name c.args.self.now.wires) c.args.k)))
+    (deliver_acted name (underway c.args.self.now) (slice_get (on_bus name c.args.self.now.wires) c.args.k)))
     c.args.self.now effect.Done c.hand_words.new.self) c.bus_named-bus.ensures
     (delivery-comes c.bus_named-bus.result c.args.k c.args.self.now
     (slice_get (on_bus c.bus_named-bus.result c.args.self.now.wires) c.args.k) c.in-Some.receiver c.arrive.new.self _

@@ -1,9 +1,9 @@
 use Rattle.std.proofs.Common.{subst, sym}
 use Rattle.std.specs.Prelude.{IfOk}
 use Rattle.schedule.specs.declared.event.Event.TheVariants.{Deliver}
-use Rattle.machine_states.specs.declared.effect.Effect.{Effect}
-use Rattle.machine_states.specs.States.{Settles}
-use Rattle.packet_wires.specs.Play.{Packeted, play}
+use Rattle.node.specs.machine_states.specs.declared.effect.Effect.{Effect}
+use Rattle.node.specs.machine_states.specs.States.{Settles}
+use Rattle.node.specs.packet_wires.specs.Play.{Packeted, play}
 use Rattle.site_machine.specs.Needs.{IsReady}
 use Rattle.site_machine.proofs.whole.MachineParts.deliver_front.Goals as goal
 

@@ -1,4 +1,4 @@
-use Rattle.computed_changes.specs.Entered.{enter_done}
+use Rattle.node.specs.computed_changes.specs.Entered.{enter_done}
 use Rattle.site_machine.proofs.Steps.{answered, told-within}
 use Rattle.site_machine.proofs.whole.MachineParts.enter.Goals as goal
 

@@ -1,4 +1,4 @@
-use Rattle.computed_changes.specs.Handed.{handed_done}
+use Rattle.node.specs.computed_changes.specs.Handed.{handed_done}
 use Rattle.open_links.specs.sendings.specs.Seen.{message_of}
 use Rattle.site_machine.proofs.Steps.{told-within}
 use Rattle.site_machine.proofs.whole.MachineParts.hand_carried.Goals as goal

@@ -1,4 +1,4 @@
-use Rattle.computed_changes.specs.Changed.{change_done}
+use Rattle.node.specs.computed_changes.specs.Changed.{change_done}
 use Rattle.site_machine.proofs.Steps.{told-within}
 use Rattle.site_machine.proofs.whole.MachineParts.hand_changed.Goals as goal
 

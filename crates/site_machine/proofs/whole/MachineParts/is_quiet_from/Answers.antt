@@ -1,5 +1,5 @@
 use Rattle.std.proofs.Common.{◌≡◌, ◌-◌, ◌+◌, suc, ◌∙◌, arith}
-use Rattle.packet_wires.specs.Idle.{is_quiet}
+use Rattle.node.specs.packet_wires.specs.Idle.{is_quiet}
 use Rattle.site_machine.proofs.Passes.{all-done, all-next, all-stop}
 use Rattle.site_machine.proofs.whole.MachineParts.is_quiet_from.Goals as goal
 

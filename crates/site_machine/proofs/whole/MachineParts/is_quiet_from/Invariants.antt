@@ -1,7 +1,7 @@
 use Rattle.std.proofs.Common.{◌≡◌, ◌-◌}
 use Rattle.std.specs.List.{list_all}
-use Rattle.packet_wires.specs.Idle.{is_quiet}
-use Rattle.packet_wires.specs.Nodes.{all_nodes, numbers}
+use Rattle.node.specs.packet_wires.specs.Idle.{is_quiet}
+use Rattle.node.specs.packet_wires.specs.Nodes.{all_nodes, numbers}
 use Rattle.site_machine.proofs.whole.MachineParts.is_quiet_from.Given as goal
 
 abbrev pub invariant-loop-to : goal.invariant-loop-to

@@ -1,6 +1,6 @@
 use Rattle.std.proofs.Common.{◌∙◌, ap, subst, sym}
-use Rattle.packet_wires.specs.Play.{Packeted, begun, marks}
-use Rattle.packet_wires.specs.Wires.{declares}
+use Rattle.node.specs.packet_wires.specs.Play.{Packeted, underway, marks}
+use Rattle.node.specs.packet_wires.specs.Wires.{declares}
 use Rattle.node.specs.event_parts.specs.Numbers.{CanPush}
 use Rattle.node.specs.event_parts.specs.Parts.{carried_out}
 use Rattle.site_machine.proofs.Turns.{can-marks, declared-after}
@@ -17,4 +17,4 @@ returns c =
     ∙ ap (λ (s : Packeted). record s
     { wires = carried_out (declares s.site.processors c.args.node c.args.processor) s.wires }) c.in_ok-mark.ensures
     ∙ declared-after c.args.node c.args.processor c.args.self.now
-    (marks c.args.node c.args.processor (begun c.args.self.now))
+    (marks c.args.node c.args.processor (underway c.args.self.now))

@@ -1,6 +1,6 @@
 use Rattle.std.proofs.Common.{◌∙◌, ap, subst₂, sym}
-use Rattle.computed_changes.specs.Stopped.{world_at_down}
-use Rattle.packet_wires.specs.Play.{Packeted}
+use Rattle.node.specs.computed_changes.specs.Stopped.{world_at_down}
+use Rattle.node.specs.packet_wires.specs.Play.{Packeted}
 use Rattle.site_machine.specs.Needs.{AreWithin}
 use Rattle.site_machine.proofs.Marks.{marked-steps}
 use Rattle.site_machine.proofs.whole.MachineParts.mark_down.Goals as goal

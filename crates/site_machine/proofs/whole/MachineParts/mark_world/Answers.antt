@@ -1,5 +1,5 @@
 use Rattle.std.proofs.Common.{subst, sym}
-use Rattle.packet_wires.specs.Play.{Packeted}
+use Rattle.node.specs.packet_wires.specs.Play.{Packeted}
 use Rattle.open_links.specs.world_copies.specs.Room.{AllWatchersHaveRoom}
 use Rattle.site_machine.proofs.whole.MachineParts.mark_world.Goals as goal
 

@@ -1,6 +1,6 @@
 use Rattle.std.proofs.Common.{◌≡◌}
 use Rattle.std.specs.Option.{option_map}
-use Rattle.packet_wires.specs.message_layout.specs.Reading.{node_message_in}
+use Rattle.node.specs.packet_wires.specs.message_layout.specs.Reading.{node_message_in}
 use Rattle.node.specs.message_words.specs.Seen.{message_of}
 use Rattle.site_machine.proofs.Known.{read-within}
 use Rattle.site_machine.proofs.whole.MachineParts.message_in.Goals as goal

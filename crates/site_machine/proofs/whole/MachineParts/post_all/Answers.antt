@@ -1,8 +1,8 @@
 use Rattle.std.proofs.Common.{rules, ◌≡◌, [], ◌∷◌, List, ◌∙◌, ap, sym, subst}
 use Rattle.std.proofs.lemmas.List.Elements.{All-head, All-tail}
 use Rattle.std.specs.Vec.Iter.{into_iter_items}
-use Rattle.world_semantics.specs.Messages.{Sending}
-use Rattle.packet_wires.specs.Play.{Packeted}
+use Rattle.node.specs.world_semantics.specs.Messages.{Sending}
+use Rattle.node.specs.packet_wires.specs.Play.{Packeted}
 use Rattle.node.specs.event_parts.specs.Numbers.{CanPush}
 use Rattle.site_machine.specs.Needs.{AreWithin, IsSentWithin}
 use Rattle.site_machine.specs.Told.{sent_all}

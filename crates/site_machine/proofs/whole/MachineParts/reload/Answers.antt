@@ -1,5 +1,5 @@
 use Rattle.std.proofs.Common.{sym, ◌∙◌}
-use Rattle.computed_changes.specs.Stopped.{reload_done}
+use Rattle.node.specs.computed_changes.specs.Stopped.{reload_done}
 use Rattle.site_machine.proofs.Stops.{can-reload, reloads-done, reloads-none}
 use Rattle.site_machine.proofs.whole.MachineParts.reload.Goals as goal
 

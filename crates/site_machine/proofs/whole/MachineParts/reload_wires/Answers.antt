@@ -1,5 +1,5 @@
 use Rattle.std.proofs.Common.{sym, subst}
-use Rattle.packet_wires.specs.Play.{Packeted}
+use Rattle.node.specs.packet_wires.specs.Play.{Packeted}
 use Rattle.node.specs.event_parts.specs.Numbers.{CanReload}
 use Rattle.site_machine.proofs.whole.MachineParts.reload_wires.Goals as goal
 

@@ -1,4 +1,4 @@
-use Rattle.world_semantics.specs.Running.{run_done}
+use Rattle.node.specs.world_semantics.specs.Running.{run_done}
 use Rattle.site_machine.proofs.Steps.{answered, told-within}
 use Rattle.site_machine.proofs.whole.MachineParts.run.Goals as goal
 

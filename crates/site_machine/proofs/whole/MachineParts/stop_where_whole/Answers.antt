@@ -1,6 +1,6 @@
 use Rattle.std.proofs.Common.{◌≡◌, true, false, refl, ap, sym, ◌∙◌}
-use Rattle.world_semantics.specs.World.{is_whole}
-use Rattle.packet_wires.specs.Play.{Packeted}
+use Rattle.node.specs.world_semantics.specs.World.{is_whole}
+use Rattle.node.specs.packet_wires.specs.Play.{Packeted}
 use Rattle.site_machine.proofs.Stops.{stops-none, stops-whole}
 use Rattle.site_machine.proofs.whole.MachineParts.stop_where_whole.Goals as goal
 

@@ -1,7 +1,7 @@
 use Rattle.std.proofs.Common.{◌≡◌, true, None, Some, ◌∙◌, refl, ap, sym}
-use Rattle.world_semantics.specs.World.{is_running}
-use Rattle.machine_states.specs.declared.effect.Effect.TheVariants as effect
-use Rattle.packet_wires.specs.Play.{Packeted}
+use Rattle.node.specs.world_semantics.specs.World.{is_running}
+use Rattle.node.specs.machine_states.specs.declared.effect.Effect.TheVariants as effect
+use Rattle.node.specs.packet_wires.specs.Play.{Packeted}
 use Rattle.site_machine.proofs.Ticks.{line_in, tick-settles}
 use Rattle.site_machine.proofs.whole.MachineParts.tick.Goals as goal
 

@@ -1,9 +1,9 @@
 use Rattle.std.proofs.Common.{◌≡◌, Bool, Some, true, false, [], ◌∙◌, refl, ap, slice_get, subst, sym}
-use Rattle.world_semantics.specs.World.{is_whole}
-use Rattle.computed_changes.specs.Stopped.{stopped_world}
-use Rattle.machine_states.specs.States.{Settles}
-use Rattle.machine_states.specs.declared.effect.Effect.TheVariants as effect
-use Rattle.packet_wires.specs.Play.{Packeted, ended, pulled}
+use Rattle.node.specs.world_semantics.specs.World.{is_whole}
+use Rattle.node.specs.computed_changes.specs.Stopped.{stopped_world}
+use Rattle.node.specs.machine_states.specs.States.{Settles}
+use Rattle.node.specs.machine_states.specs.declared.effect.Effect.TheVariants as effect
+use Rattle.node.specs.packet_wires.specs.Play.{Packeted, ended, pulled}
 use Rattle.node.specs.event_parts.specs.Numbers.{CanPush}
 use Rattle.open_links.specs.world_copies.specs.Room.{AllWatchersHaveRoom}
 use Rattle.site_machine.specs.Needs.{MarksWithin}

@@ -1,7 +1,7 @@
 use Rattle.std.proofs.Common.{Bool, Option, refl, subst}
-use Rattle.machine_states.specs.States.{Settles}
-use Rattle.machine_states.specs.declared.effect.Effect.TheVariants as effect
-use Rattle.packet_wires.specs.Play.{ended, pulled}
+use Rattle.node.specs.machine_states.specs.States.{Settles}
+use Rattle.node.specs.machine_states.specs.declared.effect.Effect.TheVariants as effect
+use Rattle.node.specs.packet_wires.specs.Play.{ended, pulled}
 use Rattle.site_machine.specs.Told.{in_tick}
 use Rattle.site_machine.proofs.whole.MachineParts.tick_and_pull.Goals as goal
 

@@ -1,7 +1,7 @@
 use Rattle.std.proofs.Common.{◌∙◌, ap}
 use Rattle.tal_tree.specs.declared.site.Site.{Site}
-use Rattle.packet_wires.specs.Play.{Packeted}
-use Rattle.packet_wires.specs.Wires.{Wires, ticked}
+use Rattle.node.specs.packet_wires.specs.Play.{Packeted}
+use Rattle.node.specs.packet_wires.specs.Wires.{Wires, ticked}
 use Rattle.node.specs.event_parts.specs.Parts.{carried_out}
 use Rattle.site_machine.specs.contracts.whole.MachineParts.{the_view}
 use Rattle.site_machine.proofs.whole.MachineParts.tick_wires.Goals as goal

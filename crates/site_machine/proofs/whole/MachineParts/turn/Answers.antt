@@ -1,8 +1,8 @@
 use Rattle.std.proofs.Common.{subst}
 use Rattle.schedule.specs.declared.event.Event.TheVariants as event
-use Rattle.machine_states.specs.Drives.{drives_turned}
-use Rattle.machine_states.specs.States.{Settles}
-use Rattle.packet_wires.specs.Play.{Packeted, play}
+use Rattle.node.specs.machine_states.specs.Drives.{drives_turned}
+use Rattle.node.specs.machine_states.specs.States.{Settles}
+use Rattle.node.specs.packet_wires.specs.Play.{Packeted, play}
 use Rattle.site_machine.proofs.Drives.{machine-settles, over_wires}
 use Rattle.site_machine.proofs.whole.MachineParts.turn.Goals as goal
 

@@ -1,5 +1,5 @@
 use Rattle.std.proofs.Common.{arith}
-use Rattle.process_images.proofs.FewFrames.{frames-few}
+use Rattle.tal_table.specs.process_images.proofs.FewFrames.{frames-few}
 use Rattle.tal_interp.proofs.Imaged.{frames-below, items-below, items-few, image-parts}
 use Rattle.tal_interp.proofs.interpreter.Interpreter.image.Goals as goal
 

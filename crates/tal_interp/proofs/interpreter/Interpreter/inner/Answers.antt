@@ -1,5 +1,5 @@
 use Rattle.std.proofs.Common.{ap, sym, ◌∙◌}
-use Rattle.tal_values.specs.Value.{cell_of, truth_of, value_of}
+use Rattle.process_semantics.specs.tal_values.specs.Value.{cell_of, truth_of, value_of}
 use Rattle.process_semantics.specs.State.{ProgramState}
 use Rattle.tal_table.specs.Places.{places, rest_at}
 use Rattle.tal_table.specs.Seen.{seen}

@@ -2,7 +2,7 @@ use Rattle.std.proofs.Common.{◌≡◌, List, slice_get, refl, ap, subst, sym, 
 use Rattle.tal_tree.specs.Ordered.{numbers_in_all}
 use Rattle.tal_tree.specs.declared.program.Procedure.{Procedure}
 use Rattle.tal_tree.specs.declared.program.Program.{Program}
-use Rattle.process_images.specs.Images.{asking_from, listable_from}
+use Rattle.checkpoint_image.specs.process_images.specs.Images.{asking_from, listable_from}
 use Rattle.tal_table.specs.Loads.{AreSmall}
 use Rattle.tal_table.specs.Tables.{IsTable}
 use Rattle.tal_table.proofs.Filled.{table-is, few-locals}

@@ -2,10 +2,10 @@ use Rattle.std.proofs.Common.{◌≡◌, ◌∙◌, ℕ, Option, Some, ap, slice
 use Rattle.std.proofs.lemmas.Option.{slice_get_read}
 use Rattle.world_copies.specs.SiteWorld.{SiteWorld}
 use Rattle.process_copies.specs.number_ranges.specs.HasRoom.{WorldHasRoom}
-use Rattle.sendings.specs.Seen.{message_of}
-use Rattle.computed_changes.specs.Handed.{brought}
+use Rattle.process_copies.specs.sendings.specs.Seen.{message_of}
+use Rattle.process_copies.specs.computed_changes.specs.Handed.{brought}
 use Rattle.world_semantics.specs.Running.{Done}
-use Rattle.computed_changes.specs.Laws.{NamesOpener}
+use Rattle.process_copies.specs.computed_changes.specs.Laws.{NamesOpener}
 use Rattle.world_copies.proofs.Places.{standing-set}
 use Rattle.world_copies.proofs.Room.{placed-room}
 use Rattle.world_copies.proofs.Steps.{IsFound, stands, told-found, tells}

@@ -1,5 +1,5 @@
 use Rattle.std.proofs.Common.{◌∙◌}
-use Rattle.letters.specs.Again.{asks_again}
+use Rattle.process_copies.specs.letters.specs.Again.{asks_again}
 use Rattle.world_copies.proofs.Again.{copies-step}
 use Rattle.world_copies.proofs.copies.WorldCopies.copies_ask.Goals as goal
 

@@ -1,6 +1,6 @@
 use Rattle.std.proofs.Common.{◌≡◌, ◌++◌, drop}
 use Rattle.world_semantics.specs.Messages.{sent_at}
-use Rattle.letters.specs.Again.{tells_again, of_copies}
+use Rattle.process_copies.specs.letters.specs.Again.{tells_again, of_copies}
 use Rattle.world_copies.proofs.copies.WorldCopies.copies_tell.Given as goal
 
 -- what is told so far and what is left

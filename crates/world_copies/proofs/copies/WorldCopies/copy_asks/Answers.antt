@@ -2,7 +2,7 @@ use Rattle.std.proofs.Common.{◌≡◌, ◌<◌, ◌≤◌, ◌∙◌, ◌++◌
 use Rattle.std.proofs.lemmas.List.{length-map}
 use Rattle.std.proofs.lemmas.Option.{slice_get_read}
 use Rattle.world_semantics.specs.Messages.{sent_at}
-use Rattle.letters.specs.Again.{asks_again}
+use Rattle.process_copies.specs.letters.specs.Again.{asks_again}
 use Rattle.world_copies.specs.SiteWorld.{SiteWorld}
 use Rattle.process_copies.specs.Seen.{Placed}
 use Rattle.world_copies.specs.Again.{of_copy}

@@ -1,8 +1,8 @@
 use Rattle.std.proofs.Common.{◌≡◌, ap, sym, ◌∙◌}
-use Rattle.checkpoint_image.specs.declared.message.ImageMessage.{ImageMessage}
+use Rattle.world_semantics.specs.checkpoint_image.specs.declared.message.ImageMessage.{ImageMessage}
 use Rattle.world_semantics.specs.Messages.{Checkpointing}
-use Rattle.computed_changes.specs.Handed.{brought, handed_done}
-use Rattle.sendings.specs.Seen.{message_of}
+use Rattle.process_copies.specs.computed_changes.specs.Handed.{brought, handed_done}
+use Rattle.process_copies.specs.sendings.specs.Seen.{message_of}
 use Rattle.world_copies.specs.SiteWorld.{SiteWorld, changed_by}
 use Rattle.world_copies.specs.Told.{sent_in}
 use Rattle.world_copies.proofs.copies.WorldCopies.hand.Goals as goal

@@ -1,6 +1,6 @@
 use Rattle.std.proofs.Common.{◌≡◌, ℕ, Option, Some, slice_get, refl, arith}
 use Rattle.std.proofs.lemmas.Option.{slice_get_read}
-use Rattle.computed_changes.specs.Changed.{change_brought}
+use Rattle.process_copies.specs.computed_changes.specs.Changed.{change_brought}
 use Rattle.world_semantics.specs.Running.{Done}
 use Rattle.world_copies.specs.SiteWorld.{SiteWorld}
 use Rattle.world_copies.proofs.Places.{standing-set}

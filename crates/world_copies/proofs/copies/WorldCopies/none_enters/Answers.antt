@@ -1,5 +1,5 @@
 use Rattle.std.proofs.Common.{◌<◌, ◌∙◌, ap, arith, is_none, length, not, sym}
-use Rattle.computed_changes.specs.Entered.{enter_done}
+use Rattle.process_copies.specs.computed_changes.specs.Entered.{enter_done}
 use Rattle.world_copies.proofs.Sweeps.{all-after}
 use Rattle.world_copies.proofs.copies.WorldCopies.none_enters.Goals as goal
 

@@ -1,5 +1,5 @@
 use Rattle.std.proofs.Common.{◌≡◌, ◌-◌, length, is_none}
-use Rattle.computed_changes.specs.Entered.{enter_done}
+use Rattle.process_copies.specs.computed_changes.specs.Entered.{enter_done}
 use Rattle.process_copies.specs.message_wires.specs.Idle.{all_from, none_enters}
 use Rattle.world_copies.proofs.copies.WorldCopies.none_enters.Given as goal
 

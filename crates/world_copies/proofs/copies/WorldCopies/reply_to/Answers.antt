@@ -1,6 +1,6 @@
 use Rattle.std.proofs.Common.{◌≡◌, ap, sym, ◌∙◌}
 use Rattle.world_semantics.specs.Messages.{Replying}
-use Rattle.computed_changes.specs.Handed.{brought, replied_to}
+use Rattle.process_copies.specs.computed_changes.specs.Handed.{brought, replied_to}
 use Rattle.world_copies.specs.SiteWorld.{SiteWorld, changed_by}
 use Rattle.world_copies.specs.Told.{sent_in}
 use Rattle.world_copies.proofs.copies.WorldCopies.reply_to.Goals as goal

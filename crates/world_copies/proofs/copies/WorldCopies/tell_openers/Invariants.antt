@@ -1,6 +1,6 @@
 use Rattle.std.proofs.Common.{◌≡◌, ◌++◌, map, drop}
 use Rattle.world_semantics.specs.Messages.{Replying, sent_at}
-use Rattle.letters.specs.Again.{kept_from}
+use Rattle.process_copies.specs.letters.specs.Again.{kept_from}
 use Rattle.world_copies.proofs.copies.WorldCopies.tell_openers.Given as goal
 
 -- what is told so far and what is left

@@ -1,6 +1,6 @@
 use Rattle.std.proofs.Common.{◌≡◌, ◌++◌, drop}
 use Rattle.world_semantics.specs.Messages.{sent_at}
-use Rattle.letters.specs.Again.{of_terminals}
+use Rattle.process_copies.specs.letters.specs.Again.{of_terminals}
 use Rattle.world_copies.specs.Again.{terminal_asking}
 use Rattle.world_copies.proofs.copies.WorldCopies.terminals_ask.Given as goal
 

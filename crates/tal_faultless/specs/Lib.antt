@@ -1,0 +1,2 @@
+pub use Rattle.tal_meaning
+pub use Rattle.tal_meaning.specs.tal_rules
