@@ -20,15 +20,19 @@ mapped-more f xs first k d within room =
     ∙ ap (λ items. items ++ drop (k + 1) first) (map-append f (take k xs) (x ∷ []))
     ∙ append_assoc done (f x ∷ []) (drop (k + 1) first))
 
--- the item at the seam is still that of the list
-pub at-seam : {A : Type 0} (f : A → A) (xs : List A) (k : ℕ) (d : A) → k < length xs
-    → get_or (map f (take k xs) ++ drop k xs) k d ≡ get_or xs k d
-at-seam f xs k d within =
+-- the item at the seam is still the one that was first there
+pub first-at-seam : {A B : Type 0} (f : A → B) (xs : List A) (first : List B) (k : ℕ) (d : B) → k < length xs
+    → k < length first → get_or (map f (take k xs) ++ drop k first) k d ≡ get_or first k d
+first-at-seam f xs first k d within room =
     let done = map f (take k xs) in
     let len : length done ≡ k = length-map (take k xs) f ∙ length-take-le k xs (omega (arith, within)) in
-    ap (λ rest. get_or (done ++ rest) k d) (drop-cons xs k d within)
-    ∙ ap (λ j. get_or (done ++ get_or xs k d ∷ drop (suc k) xs) j d) (sym len)
-    ∙ get_or-append_seam done (get_or xs k d) (drop (suc k) xs) d
+    ap (λ rest. get_or (done ++ rest) k d) (drop-cons first k d room)
+    ∙ ap (λ j. get_or (done ++ get_or first k d ∷ drop (suc k) first) j d) (sym len)
+    ∙ get_or-append_seam done (get_or first k d) (drop (suc k) first) d
+
+pub at-seam : {A : Type 0} (f : A → A) (xs : List A) (k : ℕ) (d : A) → k < length xs
+    → get_or (map f (take k xs) ++ drop k xs) k d ≡ get_or xs k d
+at-seam f xs k d within = first-at-seam f xs xs k d within within
 
 -- one after the other in their place
 pub mapped-in-place : {A : Type 0} (f : A → A) (xs : List A) (k : ℕ) (d : A) → k < length xs

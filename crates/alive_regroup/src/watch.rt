@@ -290,7 +290,9 @@ fn check_all(neighbours: &mut [Neighbour; 16]) -> [bool; 16]
 {
     let mut members = [false; 16];
     for place in 0..16 {
-        members[place] = neighbours[place].check();
+        if neighbours[place].check() {
+            members[place] = true;
+        }
     }
     members
 }
