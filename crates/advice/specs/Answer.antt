@@ -90,7 +90,7 @@ pub record IsUnmendable (program : Program) (reason : Reason) (path : List ℕ) 
       → Breaks (deepest program) other earlier → ⊥
 
 -- what comes of asking for advice: the lists and depths, or calls too deep, or else too many statements with the calls
--- written out, as in the verdict, or else what can't be mended. Want of memory is free
+-- written out, as in the verdict, or else what can't be mended. That memory ran out is free
 abbrev pub IsAdvised : Program → Result Advice AdviseFault → Type 0
 IsAdvised program (Ok advice) = IsAnswer program advice
 IsAdvised program (Err TooDeep) = IsVerdict program (Err verdict.TooDeep)

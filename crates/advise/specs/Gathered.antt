@@ -11,6 +11,7 @@ use Rattle.advice.specs.reason_dues.specs.Sets.{has_number}
 use Rattle.advice.specs.reason_dues.specs.declared.number_set.Numbers.{Numbers}
 use Rattle.advice.specs.due_search.specs.declared.queue.Visit.{Visit}
 use Rattle.advice.specs.Due.{is_checkpoint, is_ask_next}
+use Rattle.gd_words.specs.declared.limits.TheConstants.{MOST_GLOBALS, MOST_STATEMENTS}
 
 -- the number of a CHECKPOINT
 abbrev pub checkpoint_at : Entry → Option ℕ
@@ -46,18 +47,19 @@ has_in sets number n = holds (slice_get sets number) n
 pub record AreReadable (nodes : List Node) (visits : List Visit) : Type 0 where
   pub there : (place : ℕ) (visit : Visit) → slice_get visits place ≡ Some visit → visit.node < length nodes
   pub low : (place : ℕ) (visit : Visit) (node : Node) → slice_get visits place ≡ Some visit
-      → slice_get nodes visit.node ≡ Some node → entry_number node.entry ≤ 2000
+      → slice_get nodes visit.node ≡ Some node → entry_number node.entry ≤ MOST_STATEMENTS
   pub few : (place : ℕ) (visit : Visit) → slice_get visits place ≡ Some visit → visit.due ≤ 4
 
 -- sets to which a member is added wherever one of these visits stands at a CHECKPOINT with something due
 abbrev pub AreAdded : List Node → List Visit → ℕ → List Numbers → List Numbers → Type 0
-AreAdded nodes visits member old new = (number n : ℕ) → number < length old → n < 64
+AreAdded nodes visits member old new = (number n : ℕ) → number < length old → n < MOST_GLOBALS
     → has_in new number n ≡ (((member == n) && is_due_among nodes visits number) || has_in old number n)
 
 -- the sets have exactly those of the first members of which this holds
 abbrev pub AreDue : (ℕ → ℕ → Type 0) → List Numbers → ℕ → Type 0
 AreDue IsDue sets count =
-    (number n : ℕ) → number ≤ 2000 → n < 64 → IsTrue (has_in sets number n) ↔ ((n < count) × IsDue number n)
+    (number n : ℕ) → number ≤ MOST_STATEMENTS → n < MOST_GLOBALS
+    → IsTrue (has_in sets number n) ↔ ((n < count) × IsDue number n)
 
 -- whether a node is a WRITEREAD on this file
 abbrev pub asks_in : ℕ → Option Node → Bool

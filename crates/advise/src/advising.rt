@@ -15,13 +15,11 @@ use crate::deepest::deepest;
 use crate::due_sets::DueSets;
 use crate::lists::lists_of;
 use advice::{Advice, AdviseFault, Aim, Flow, FlowFault, Search};
+use gd_words::limits::MOST_DEPTH;
 use gd_words::{List, NoMemory};
 use path_semantics::Reason;
 use std::alloc::Global;
 use tal_tree::Program;
-
-/// As many replies as may be kept for a file.
-const MOST_DEPTH: u8 = 4;
 
 /// The advice for a program: for each CHECKPOINT the globals and files that it has to name, and for each file how many
 /// replies have to be kept; or why no lists and depths mend the program. Among causes too deep calls come first, then

@@ -1,13 +1,15 @@
 -- Where the last check missed no processor, none is silent after the next tick.
 use Rattle.std.specs.List.{list_all}
 use Rattle.std.specs.Option.{option_map, unwrap_or}
-use Rattle.std.proofs.Common.{◌≡◌, ℕ, zero, suc, ◌&&◌, not, nat_lt, Bool, true, false, List, [], ◌∷◌, map, slice_get, refl}
+use Rattle.std.proofs.Common.{◌≡◌, ℕ, zero, suc, ◌&&◌, not, nat_lt, Bool, true, false, List, [], ◌∷◌, map, slice_get}
+use Rattle.std.proofs.Common.{refl}
 use Rattle.std.proofs.Common.{if◌then◌else◌}
 use Rattle.alive_regroup.specs.declared.neighbour.Missed.TheVariants as missed
 use Rattle.alive_regroup.specs.declared.neighbour.Neighbour.{Neighbour}
 use Rattle.alive_regroup.specs.declared.neighbour.Neighbour.TheVariants.{Absent, Up, Down}
 use Rattle.alive_regroup.specs.Watching.{Watching, after_check, after_tick, agrees, all_but, does_check, is_coordinator}
-use Rattle.alive_regroup.specs.Watching.{is_held, is_missed, is_silent, is_silent_at, misses_none, neighbour_after_check}
+use Rattle.alive_regroup.specs.Watching.{is_held, is_missed, is_silent, is_silent_at, misses_none}
+use Rattle.alive_regroup.specs.Watching.{neighbour_after_check}
 
 heard-of : (one : Neighbour) → not (is_missed one) ≡ true
     → (is_silent one ≡ false) × (is_silent (neighbour_after_check one) ≡ false)

@@ -187,6 +187,6 @@ at_first me processors place =
 abbrev pub places : List ℕ
 places = 0 ∷ 1 ∷ 2 ∷ 3 ∷ 4 ∷ 5 ∷ 6 ∷ 7 ∷ 8 ∷ 9 ∷ 10 ∷ 11 ∷ 12 ∷ 13 ∷ 14 ∷ 15 ∷ []
 
-abbrev pub begun : ℕ → ℕ → Watching
-begun me processors =
+abbrev pub new_watch : ℕ → ℕ → Watching
+new_watch me processors =
     record { me = me; checks = false; neighbours = map (at_first me processors) places; told = nobody; due = false }

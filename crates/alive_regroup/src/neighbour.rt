@@ -18,8 +18,8 @@ pub enum Missed {
 }
 
 /// What a node knows of a number up to 15: it is no other processor of the site; it is one, with the checks missed and
-/// the silent set that it reported last; or it is one that is marked down. Of either an alive packet came since the last
-/// check or not.
+/// the silent set that it reported last; or it is one that is marked down. Of either an alive packet came since the
+/// last check or not.
 #[derive(Clone, Copy)]
 pub enum Neighbour {
     Absent,

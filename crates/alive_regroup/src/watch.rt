@@ -6,7 +6,8 @@ ghost use Rattle.alive_regroup.specs.Sets.{has};
 ghost use Rattle.alive_regroup.specs.Watching.{Watching, neighbour_after_alive, neighbour_after_report};
 ghost use Rattle.alive_regroup.specs.Watching.{neighbour_after_down, is_down, is_up, is_silent, changed_at};
 ghost use Rattle.alive_regroup.specs.Watching.{neighbour_after_check, is_marked, is_missed, after_tick, misses_none};
-ghost use Rattle.alive_regroup.specs.Watching.{is_coordinator, is_held, all_but, agrees, begun, at_first, is_silent_at};
+ghost use Rattle.alive_regroup.specs.Watching.{is_coordinator, is_held, all_but, agrees, new_watch, at_first};
+ghost use Rattle.alive_regroup.specs.Watching.{is_silent_at};
 ghost use Rattle.alive_regroup.specs.Watching.{after_up, does_check, neighbour_after_up, neighbour_after_up_of};
 ghost use Rattle.alive_regroup.specs.Watching.{told_by_tick};
 
@@ -53,7 +54,7 @@ impl Watch {
     /// What node `me`, a processor or 16, knows at the beginning of a site of so many processors: all others are up,
     /// and none was missed.
     pub fn new(me: u8, processors: u8) -> Watch
-        ensures { result ≡ begun me processors }
+        ensures { result ≡ new_watch me processors }
     {
         let neighbours = PLACES.map(|place| at_first(me, processors, place));
         Watch {

@@ -25,7 +25,7 @@ use Rattle.world_semantics.proofs.Roles.{AllRoles, reload-all}
 use Rattle.world_semantics.proofs.Steady.{IsSeated, IsSteady, now-none, there-is}
 use Rattle.world_semantics.specs.Core.{Core, next_on}
 use Rattle.world_semantics.specs.Messages.{Asking, Reloading, Replying}
-use Rattle.world_semantics.specs.Rules.{most_reloads, begun, by_reload, reloaded_at, reloaded_by, reloaded_from}
+use Rattle.world_semantics.specs.Rules.{most_reloads, new_core, by_reload, reloaded_at, reloaded_by, reloaded_from}
 use Rattle.world_semantics.specs.Rules.{without_marks}
 use Rattle.world_semantics.specs.World.{Copy, Pair, Terminal, World, copy_of, has_noted, is_running}
 use Rattle.world_semantics.specs.World.{receives, terminal_node}
@@ -135,7 +135,7 @@ module _ (site : Site) (out : IsLaidOut site) (w : World) (x times : ℕ) (roles
       by (pair.first.processor == x) refl (pair.second.processor == x) refl pair.led refl
     where
       core : Core
-      core = begun site number (slice_get site.processes number) pair.first.core
+      core = new_core site number (slice_get site.processes number) pair.first.core
 
       elsewhere : (p : ℕ) → (p == x) ≡ false → p ≢ x
       elsewhere p f same = let t = eq-eqb p x same in cc
@@ -208,7 +208,7 @@ module _ (site : Site) (out : IsLaidOut site) (w : World) (x times : ℕ) (roles
   alike number pair k off = by (pair.first.processor == x) refl (pair.second.processor == x) refl k off
     where
       core : Core
-      core = begun site number (slice_get site.processes number) pair.first.core
+      core = new_core site number (slice_get site.processes number) pair.first.core
 
       by : (a : Bool) → (pair.first.processor == x) ≡ a → (b : Bool) → (pair.second.processor == x) ≡ b → (k : Which)
           → (copy_of k pair).processor ≢ x
@@ -225,7 +225,7 @@ module _ (site : Site) (out : IsLaidOut site) (w : World) (x times : ℕ) (roles
   acted number pair k acts here = by (pair.first.processor == x) refl (pair.second.processor == x) refl k acts here
     where
       core : Core
-      core = begun site number (slice_get site.processes number) pair.first.core
+      core = new_core site number (slice_get site.processes number) pair.first.core
 
       by : (a : Bool) → (pair.first.processor == x) ≡ a → (b : Bool) → (pair.second.processor == x) ≡ b → (k : Which)
           → (copy_of k (reloaded_by core pair a b)).role ≡ Acting → (copy_of k pair).processor ≡ x → ⊥

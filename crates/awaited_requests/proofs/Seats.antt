@@ -17,7 +17,7 @@ use Rattle.world_semantics.specs.Passes.{Passes, by_send, by_pass_again, by_pass
 use Rattle.world_semantics.specs.Passes.{by_apply, by_acknowledge}
 use Rattle.world_semantics.specs.Rules.{Change, by_own, by_checkpoint, by_request, by_early_request, by_enter, by_print}
 use Rattle.world_semantics.specs.Rules.{by_stop, by_mark, by_reload, stopped_pair, taker}
-use Rattle.world_semantics.specs.Rules.{pair_after_down, pair_at_down, renewals_ended, begun, reloaded_by}
+use Rattle.world_semantics.specs.Rules.{pair_after_down, pair_at_down, renewals_ended, new_core, reloaded_by}
 use Rattle.world_semantics.specs.World.{Copy, Pair, Terminal, World, pair_at_boot, pairs_at_boot, has_noted}
 use Rattle.world_semantics.specs.World.{copy_of, other_of, with_copy, receives}
 use Rattle.world_semantics.specs.declared.role.Role.{Role}
@@ -265,7 +265,7 @@ change-free w next cause sendings (by_mark node processor stopped runs unmarked)
     (λ n p there. mark-free node processor p (taker node processor p) (ok n p there))
 change-free {site = site} w next cause sendings (by_reload x stopped all counted less) roles ok =
     reload-all (λ n p. HoldsApart p) site x w.processes
-    (λ n p there. reload-free (begun site n (slice_get site.processes n) p.first.core) p (p.first.processor == x)
+    (λ n p there. reload-free (new_core site n (slice_get site.processes n) p.first.core) p (p.first.processor == x)
     (p.second.processor == x) (ok n p there))
 
 run-free : (site : Site) (events : List Event) (w : World) → IsRun site events w → AllHoldApart w
@@ -417,7 +417,7 @@ reloads-or site placed w next cause sendings (by_mark node x stopped runs unmark
 reloads-or site placed w next cause sendings (by_reload x stopped all counted less) kept ok =
     inr (reload-all (λ n p. Leads p) site x w.processes (λ n p there.
     (let acts = survives site placed w kept x (record { down = stopped; all = all }) n p there in
-    reload-leads (begun site n (slice_get site.processes n) p.first.core) p (p.first.processor == x)
+    reload-leads (new_core site n (slice_get site.processes n) p.first.core) p (p.first.processor == x)
     (p.second.processor == x) acts.0 (λ e. (acts.1 e).0) (ok n p there))))
 
 change-leads : (site : Site) → IsPlaced site → (w next : World) (cause : Cause) (sendings : List Sending)

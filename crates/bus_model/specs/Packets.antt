@@ -1,10 +1,11 @@
 -- The packets on a bus. That a bus has room for 4,096 of them is this project's own rule.
 use Rattle.std.specs.Prelude.{Bool, nat_lt, List, [], ◌∷◌, ◌++◌, length, Option, Some, None, if◌then◌else◌}
 use Rattle.packet_words.specs.declared.packet.Packet.{Packet}
+use Rattle.packet_words.specs.gd_words.specs.declared.limits.TheConstants.{MOST_PACKETS}
 
 -- whether one more packet goes onto the bus
 abbrev pub has_room : List Packet → Bool
-has_room packets = nat_lt (length packets) 4096
+has_room packets = nat_lt (length packets) MOST_PACKETS
 
 -- a packet that is sent goes to the end, and is lost on a full bus
 abbrev pub sent : Packet → List Packet → List Packet

@@ -3,13 +3,10 @@ ghost use Rattle.std.specs.List.{remove};
 ghost use Rattle.std.specs.Option.{option_copied, option_map};
 ghost use Rattle.bus_model.specs.Packets.{has_room, sent, sent_again};
 
-use packet_words::{NoMemory, Packet};
+use packet_words::{MOST_PACKETS, NoMemory, Packet};
 use std::alloc::Global;
 use std::collections::VecDeque;
 use std::marker::Model;
-
-/// Most packets on a bus.
-const ROOM: usize = 4_096;
 
 /// The packets on a bus, the one that was sent first at position 0. Only `new` takes memory.
 #[derive(Drop)]
@@ -34,7 +31,7 @@ impl Bus {
     pub fn new(alloc: Global) -> Result<Bus, NoMemory>
         ensures { IfOk result (λ bus. bus ≡ []) }
     {
-        let packets = VecDeque::with_capacity(alloc, ROOM)?;
+        let packets = VecDeque::with_capacity(alloc, MOST_PACKETS)?;
         Ok(Bus { packets })
     }
 
@@ -58,7 +55,7 @@ impl Bus {
         ensures went { result ≡ has_room self.old }
         ensures after { self.new ≡ sent packet self.old }
     {
-        if self.packets.len() < ROOM {
+        if self.packets.len() < MOST_PACKETS {
             self.packets.push_back_reserved(packet);
             true
         } else {

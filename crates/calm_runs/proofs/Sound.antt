@@ -21,7 +21,7 @@ use Rattle.link_control.specs.Ends.{End, new_end, packet_of}
 use Rattle.alive_regroup.specs.declared.neighbour.Missed.TheVariants as missed
 use Rattle.alive_regroup.specs.declared.neighbour.Neighbour.TheVariants.{Absent, Up}
 use Rattle.alive_regroup.specs.Sets.{nobody}
-use Rattle.alive_regroup.specs.Watching.{Watching, after_tick, at_first, begun as first_watch, is_silent, places}
+use Rattle.alive_regroup.specs.Watching.{Watching, after_tick, at_first, new_watch as first_watch, is_silent, places}
 use Rattle.world_semantics.specs.World.{is_running, runs_by}
 use Rattle.channel_laws.specs.Net.{Net, incarnation_of}
 use Rattle.channel_laws.specs.Rounds.{Passes, nothing, by_push, by_packet, by_drop, by_tick, by_alive, by_bus, by_stop}

@@ -8,7 +8,8 @@ use Rattle.std.specs.Option.{option_to_list}
 use Rattle.packet_words.specs.declared.bus_name.BusName.{BusName}
 use Rattle.packet_words.specs.declared.piece.Piece.{Piece}
 use Rattle.packet_words.specs.Pieces.{pieces, joined, completed, first_piece}
-use Rattle.link_control.specs.Ends.{Sending, Receiving, numbered_at, begun, after_push_of, after_tick_of, moved_on}
+use Rattle.link_control.specs.Ends.{Sending, Receiving, numbered_at, new_sending, after_push_of, after_tick_of}
+use Rattle.link_control.specs.Ends.{moved_on}
 use Rattle.link_control.specs.Ends.{is_next}
 use Rattle.channel_laws.specs.Way.{Way, AtSender, AtReceiver, IsJoint, IsCut, IsPieceOf, IsWithin, quiet_way, pushing}
 use Rattle.channel_laws.specs.Way.{coming, telling, ticking, total, first_of, Filled, opened}
@@ -101,7 +102,7 @@ joint-pushing m w n j =
 
 sender-begun : (pushes : List (List ℤ)) (a : ℕ) (done queue : List (List ℤ)) (numbered : ℕ) → Filled pushes
     → pushes ≡ done ++ queue → a ≡ total done → numbered ≡ a
-    → AtSender pushes a (begun queue numbered)
+    → AtSender pushes a (new_sending queue numbered)
 sender-begun pushes a done [] numbered f sent count n =
     record { done = done; sent = sent; place = refl; count = omega (arith, count); numbered = omega (arith, n) }
 sender-begun pushes a done (q ∷ queue) numbered f sent count n = record {
@@ -126,7 +127,8 @@ sender-moved : (pushes : List (List ℤ)) (a : ℕ) (q : List ℤ) (queue : List
 sender-moved pushes a q queue place numbered waited resend_bus f h = by_more (nat_lt (10 * (place + 1)) (length q)) refl
   where
     by_more : (b : Bool) → nat_lt (10 * (place + 1)) (length q) ≡ b
-        → AtSender pushes (a + 1) (if b then numbered_at (place + 1) (q ∷ queue) numbered else begun queue numbered)
+        → AtSender pushes (a + 1)
+        (if b then numbered_at (place + 1) (q ∷ queue) numbered else new_sending queue numbered)
     by_more true is = record {
       done = h.done;
       sent = h.sent;

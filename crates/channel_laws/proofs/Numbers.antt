@@ -6,7 +6,7 @@ use Rattle.packet_words.specs.declared.piece.Piece.{Piece}
 use Rattle.packet_words.specs.declared.packet.PacketKind.{PacketKind}
 use Rattle.packet_words.specs.declared.packet.PacketKind.TheVariants as kind
 use Rattle.packet_words.specs.Pieces.{joined}
-use Rattle.link_control.specs.Ends.{End, Sending, Receiving, numbered_at, begun, after_push_of, moved_on}
+use Rattle.link_control.specs.Ends.{End, Sending, Receiving, numbered_at, new_sending, after_push_of, moved_on}
 use Rattle.link_control.specs.Ends.{after_acknowledgement, after_tick_of, kept, is_next, after_kind}
 use Rattle.channel_laws.specs.Way.{IsOneOn}
 use Rattle.channel_laws.proofs.Joints.{same-piece}
@@ -25,7 +25,7 @@ one-pushed m s = go s.queue s.place s.numbered s.waited s.resend_bus
     go [] place numbered waited resend_bus = omega arith
     go (q ∷ queue) place numbered waited resend_bus = omega arith
 
-one-begun : (queue : List (List ℤ)) (numbered : ℕ) → (begun queue numbered).numbered ≤ numbered + 1
+one-begun : (queue : List (List ℤ)) (numbered : ℕ) → (new_sending queue numbered).numbered ≤ numbered + 1
 one-begun [] numbered = omega arith
 one-begun (q ∷ queue) numbered = omega arith
 
@@ -33,7 +33,8 @@ one-acknowledged : (number : ℕ) (s : Sending) → (after_acknowledgement numbe
 one-acknowledged number s = go s.queue s.place s.numbered s.waited s.resend_bus
   where
     moved : (q : List ℤ) (queue : List (List ℤ)) (place numbered : ℕ) (b : Bool)
-        → (if b then numbered_at (place + 1) (q ∷ queue) numbered else begun queue numbered).numbered ≤ numbered + 1
+        → (if b then numbered_at (place + 1) (q ∷ queue) numbered else new_sending queue numbered).numbered
+        ≤ numbered + 1
     moved q queue place numbered true = omega arith
     moved q queue place numbered false = one-begun queue numbered
 

@@ -10,7 +10,7 @@ use Rattle.packet_words.specs.Pieces.{joined, piece_at}
 use Rattle.packet_words.specs.declared.packet.PacketKind.{PacketKind}
 use Rattle.packet_words.specs.declared.packet.PacketKind.TheVariants as kind
 use Rattle.packet_words.specs.Layout.{is_kind, is_piece}
-use Rattle.link_control.specs.Ends.{Sending, Receiving, numbered_at, begun, after_tick_of, after_acknowledgement}
+use Rattle.link_control.specs.Ends.{Sending, Receiving, numbered_at, new_sending, after_tick_of, after_acknowledgement}
 use Rattle.link_control.specs.Ends.{moved_on, is_next, kept}
 use Rattle.channel_laws.specs.Way.{Way, IsJoint, IsCut, IsPieceOf, IsReceiptOf, pushing, coming, telling, ticking}
 use Rattle.channel_laws.specs.Way.{opened}
@@ -20,7 +20,7 @@ use Rattle.channel_laws.proofs.Joints.{numbered-pushed, same-piece}
 
 -- Numbers only rise
 
-pub numbered-begun : (queue : List (List ℤ)) (numbered : ℕ) → numbered ≤ (begun queue numbered).numbered
+pub numbered-begun : (queue : List (List ℤ)) (numbered : ℕ) → numbered ≤ (new_sending queue numbered).numbered
 numbered-begun [] numbered = omega arith
 numbered-begun (q ∷ queue) numbered = omega arith
 
@@ -28,7 +28,7 @@ pub numbered-acknowledged : (number : ℕ) (s : Sending) → s.numbered ≤ (aft
 numbered-acknowledged number s = go s.queue s.place s.numbered s.waited s.resend_bus
   where
     moved : (q : List ℤ) (queue : List (List ℤ)) (place numbered : ℕ) (b : Bool)
-        → numbered ≤ (if b then numbered_at (place + 1) (q ∷ queue) numbered else begun queue numbered).numbered
+        → numbered ≤ (if b then numbered_at (place + 1) (q ∷ queue) numbered else new_sending queue numbered).numbered
     moved q queue place numbered true = omega arith
     moved q queue place numbered false = numbered-begun queue numbered
 

@@ -4,7 +4,7 @@ use Rattle.std.proofs.Common.{sym, subst, arith}
 use Rattle.std.proofs.lemmas.Bool.{eqb-false, ltb-true, ltb-false}
 use Rattle.std.specs.Prelude.{◌==◌, nat_lt, if◌then◌else◌}
 use Rattle.packet_words.specs.declared.bus_name.BusName.{BusName}
-use Rattle.link_control.specs.Ends.{Sending, numbered_at, begun, after_push_of, after_acknowledgement, moved_on}
+use Rattle.link_control.specs.Ends.{Sending, numbered_at, new_sending, after_push_of, after_acknowledgement, moved_on}
 use Rattle.link_control.specs.Ends.{after_tick_of}
 use Rattle.channel_laws.specs.Way.{opened, IsEnded}
 use Rattle.channel_laws.specs.Rounds.{HasWaited}
@@ -35,7 +35,7 @@ on-pushed n m s low = go s.queue s.place s.numbered s.waited s.resend_bus low
     go [] place numbered waited resend_bus low = (λ e. omega (arith, low), λ e. inl (omega (arith, low)))
     go (q ∷ queue) place numbered waited resend_bus low = (λ e. e, λ e. e)
 
-ended-begun : (n : ℕ) (queue : List (List ℤ)) (numbered : ℕ) → n ≤ numbered → IsEnded n (begun queue numbered)
+ended-begun : (n : ℕ) (queue : List (List ℤ)) (numbered : ℕ) → n ≤ numbered → IsEnded n (new_sending queue numbered)
 ended-begun n [] numbered low = omega (arith, low)
 ended-begun n (q ∷ queue) numbered low = omega (arith, low)
 
@@ -46,7 +46,7 @@ told-cases : (n number : ℕ) (s : Sending) → n ≤ s.numbered
 told-cases n number s low = go s.queue s.place s.numbered s.waited s.resend_bus low
   where
     moved : (q : List ℤ) (queue : List (List ℤ)) (place numbered : ℕ) (b : Bool) → n ≤ numbered
-        → IsEnded n (if b then numbered_at (place + 1) (q ∷ queue) numbered else begun queue numbered)
+        → IsEnded n (if b then numbered_at (place + 1) (q ∷ queue) numbered else new_sending queue numbered)
     moved q queue place numbered true low = omega (arith, low)
     moved q queue place numbered false low = ended-begun n queue numbered low
 

@@ -2,7 +2,7 @@ ghost use Rattle.std.specs.Prelude.{◌≡◌};
 ghost use Rattle.chart_marks.specs.Drawn as spec;
 ghost use Rattle.chart_marks.specs.Drawn.{drawn_by, own_drawn};
 
-use crate::layout::TERMINALS;
+use gd_words::limits::TERMINAL_NODE;
 use schedule::Event;
 use tal_tree::Shown;
 use trace_lines::{Fate, Finding, PacketSight};
@@ -109,7 +109,7 @@ pub(crate) fn drawn_by(event: Event, finding: Finding) -> Drawn
         } => at_copy(Sign::Dot, process, processor),
         Finding::Keeps(_) => Drawn::Nothing,
         Finding::HoldsBack(_) => Drawn::Nothing,
-        Finding::Enters(_) => at_node(Sign::Letter(b'E'), TERMINALS),
+        Finding::Enters(_) => at_node(Sign::Letter(b'E'), TERMINAL_NODE),
         Finding::Drive(_) => own_drawn(event, Sign::Letter(b'D')),
     }
 }
@@ -172,6 +172,6 @@ pub(crate) fn drawn_of(shown: &Shown) -> Drawn
             terminal: _,
             number: _,
             words: _,
-        } => at_node(Sign::Letter(b'R'), TERMINALS),
+        } => at_node(Sign::Letter(b'R'), TERMINAL_NODE),
     }
 }

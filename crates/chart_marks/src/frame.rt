@@ -3,7 +3,8 @@ ghost use Rattle.std.specs.Option.{option_copied};
 ghost use Rattle.chart_marks.specs.Frame as spec;
 ghost use Rattle.chart_marks.specs.Frame.{all_lanes, all_names, lane_marks, lane_words, name_mark, names_by};
 
-use crate::layout::{Layout, TERMINALS};
+use crate::layout::Layout;
+use gd_words::limits::TERMINAL_NODE;
 use gd_words::{List, NoMemory};
 use std::alloc::Global;
 use svg_text::{Group, Look, Mark, Spot};
@@ -37,7 +38,7 @@ fn put_lanes(
     ensures { OnOk result (marks.new ≡ marks.old ++ all_lanes layout bottom) }
 {
     put_processors(alloc, marks, layout, bottom)?;
-    put_lane(alloc, marks, layout, bottom, TERMINALS)
+    put_lane(alloc, marks, layout, bottom, TERMINAL_NODE)
 }
 
 fn put_processors(
@@ -81,7 +82,7 @@ fn lane_words(alloc: Global, node: u8) -> Result<List<u8>, NoMemory>
     ensures { IfOk result (λ words. words ≡ lane_words node) }
 {
     let mut words = List::new(alloc);
-    if node < TERMINALS {
+    if node < TERMINAL_NODE {
         put(&mut words, b"processor ")?;
         put_number(&mut words, u64::from(node))?;
     } else {

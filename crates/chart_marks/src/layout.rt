@@ -2,10 +2,8 @@ ghost use Rattle.std.specs.Prelude.{◌≡◌, ◌≤◌};
 ghost use Rattle.chart_marks.specs.Layout.{IsOnChart, bottom, copy_spot, copy_x, event_y, lane_of, lane_spot, lane_x};
 ghost use Rattle.chart_marks.specs.Layout.{pitch, row_of, top, width};
 
+use gd_words::limits::TERMINAL_NODE;
 use svg_text::Spot;
-
-/// The node of the terminals.
-pub(crate) const TERMINALS: u8 = 16;
 
 /// What the places in a chart depend on: how many processors and processes there are, and the number of the first event
 /// that is drawn; and whether alive packets are drawn.
@@ -22,7 +20,7 @@ impl Layout {
     fn lane_of(self, node: u8) -> u8
         ensures { result ≡ lane_of self node }
     {
-        if node < TERMINALS {
+        if node < TERMINAL_NODE {
             node
         } else {
             self.processors
@@ -65,7 +63,7 @@ impl Layout {
     pub(crate) fn width(self) -> u32
         ensures { result ≡ width self }
     {
-        self.lane_x(TERMINALS) + 160
+        self.lane_x(TERMINAL_NODE) + 160
     }
 
     /// Where the lanes end of a chart of so many events.

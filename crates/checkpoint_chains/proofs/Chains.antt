@@ -30,7 +30,7 @@ use Rattle.world_semantics.specs.Passes.{checkpoint_of}
 use Rattle.world_semantics.specs.Rules.{Change, by_checkpoint, by_early_request, by_enter, by_mark, by_own, by_print}
 use Rattle.world_semantics.specs.Rules.{by_reload, by_request, by_stop, pair_after_down, pair_at_down, stopped_pair}
 use Rattle.world_semantics.specs.Rules.{taker}
-use Rattle.world_semantics.specs.Rules.{begun, reloaded_by, renewals_ended, without_marks}
+use Rattle.world_semantics.specs.Rules.{new_core, reloaded_by, renewals_ended, without_marks}
 use Rattle.world_semantics.specs.Laws.{IsPlaced}
 use Rattle.world_semantics.specs.World.{Copy, Down, Pair, World, boot, copy_of, has_noted, pair_at_boot}
 use Rattle.world_semantics.specs.World.{other_of, with_copy}
@@ -468,7 +468,7 @@ module _ (site : Site) (placed : IsPlaced site) (w : World) (reached : IsReached
       (λ number pair there.
       (let both = survives site placed w kept x (record { down = down; all = noted }) number pair there in
       reload-chained site number w.marks pair (all number pair there) (one-of number pair there)
-      (stands-of number pair there) x (begun site number (slice_get site.processes number) pair.first.core)
+      (stands-of number pair there) x (new_core site number (slice_get site.processes number) pair.first.core)
       (without_marks x w.marks)
       (λ node other is. kept.steady.one other x (marked-down w.stopped w.marks node other kept.marks is) down)
       (dated-of number pair there) (pair.first.processor == x) (pair.second.processor == x) refl refl both.0 both.1))

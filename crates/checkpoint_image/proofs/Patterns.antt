@@ -5,8 +5,8 @@ use Rattle.std.proofs.lemmas.Bool.{le-leb, leb-true}
 use Rattle.std.proofs.lemmas.Int.{of_z-to_z, to_z-of_z, SFits-int_wrap}
 use Rattle.std.specs.Int.{w16, cast_signed, cast_unsigned, int_wrap}
 use Rattle.std.specs.Prelude.{FitsSigned}
-use Rattle.process_images.specs.whole_states.specs.gd_words.specs.Arithmetic.{wrap}
-use Rattle.process_images.specs.whole_states.specs.process_semantics.specs.Words.{half_of, long, long_in}
+use Rattle.process_images.specs.gd_words.specs.Arithmetic.{wrap}
+use Rattle.process_images.specs.process_semantics.specs.Words.{half_of, long, long_in}
 use Rattle.checkpoint_image.specs.Reading.{is_word, pair_in}
 use Rattle.checkpoint_image.proofs.Readers.{WasWritten, IsReader}
 

@@ -8,7 +8,7 @@ use Rattle.std.proofs.lemmas.List.Elements.{All-head, All-tail, All-cons, All-ni
 use Rattle.std.proofs.Math.Seq.{take-append_seam, drop-append_seam}
 use Rattle.std.specs.List.{All}
 use Rattle.std.specs.Option.{option_map}
-use Rattle.process_images.specs.whole_states.specs.process_semantics.specs.Words.{Front, whole, words_in}
+use Rattle.process_images.specs.process_semantics.specs.Words.{Front, whole, words_in}
 use Rattle.checkpoint_image.specs.Layout.{listed}
 use Rattle.checkpoint_image.specs.Reading.{number_in, sized_in, both_in, many_in, listed_in}
 

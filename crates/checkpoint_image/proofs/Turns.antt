@@ -2,7 +2,7 @@
 use Rattle.std.proofs.Common.{◌≡◌, ℕ, suc, ℤ, List, [], ◌∷◌, ◌++◌, Some, None, refl, ap, sym, ◌∙◌, append_assoc}
 use Rattle.std.proofs.Common.{option_and_then}
 use Rattle.std.specs.Option.{option_map}
-use Rattle.process_images.specs.whole_states.specs.process_semantics.specs.Words.{Front}
+use Rattle.process_images.specs.process_semantics.specs.Words.{Front}
 use Rattle.checkpoint_image.specs.Reading.{many_in}
 
 -- what is read, with these before it

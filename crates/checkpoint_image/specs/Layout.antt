@@ -2,7 +2,7 @@
 -- numbers of its files and what was taken and answered is Bartlett's; the layout is this project's own.
 use Rattle.std.specs.List.{All, flat_map}
 use Rattle.std.specs.Prelude.{ℕ, ◌<◌, ◌≤◌, ◌^◌, ℤ, pos, negsuc, zero, List, [], ◌∷◌, ◌++◌, length, Option, Some, None}
-use Rattle.process_images.specs.whole_states.specs.process_semantics.specs.Words.{long, counted}
+use Rattle.process_images.specs.process_semantics.specs.Words.{long, counted}
 use Rattle.checkpoint_image.specs.declared.message.FileNumber.{FileNumber}
 use Rattle.checkpoint_image.specs.declared.message.Image.{Image}
 use Rattle.checkpoint_image.specs.declared.message.ImageMessage.{ImageMessage}

@@ -2,9 +2,8 @@
 use Rattle.std.specs.Option.{option_map, option_and_then}
 use Rattle.std.specs.Prelude.{◌≡◌, ℕ, zero, suc, ◌==◌, ℤ, pos, negsuc, Bool, ◌&&◌, if◌then◌else◌, nat_le, nat_lt, List}
 use Rattle.std.specs.Prelude.{[], ◌∷◌, Option, Some, None, Result, Ok, Err}
-use Rattle.process_images.specs.whole_states.specs.gd_words.specs.Memory.{no_memory}
-use Rattle.process_images.specs.whole_states.specs.process_semantics.specs.Words.{Front, count_in, words_in, whole}
-use Rattle.process_images.specs.whole_states.specs.process_semantics.specs.Words.{long_in}
+use Rattle.process_images.specs.gd_words.specs.Memory.{no_memory}
+use Rattle.process_images.specs.process_semantics.specs.Words.{Front, count_in, words_in, whole, long_in}
 use Rattle.checkpoint_image.specs.declared.message.FileNumber.{FileNumber}
 use Rattle.checkpoint_image.specs.declared.message.Image.{Image}
 use Rattle.checkpoint_image.specs.declared.message.ImageMessage.{ImageMessage}

@@ -5,8 +5,8 @@ use Rattle.std.specs.Prelude.{ℕ, ◌+◌, ◌-◌, ◌==◌, ℤ, Bool, true, 
 use Rattle.std.specs.Prelude.{[], ◌∷◌, ◌++◌, length, drop, reverse, slice_get, slice_set, Option, Some, None}
 use Rattle.std.specs.Option.{option_map}
 use Rattle.std.specs.List.{filter, flat_map, list_any}
-use Rattle.process_images.specs.whole_states.specs.gd_words.specs.declared.message.Request.{Request}
-use Rattle.process_images.specs.whole_states.specs.gd_words.specs.declared.message.Reply.{Reply}
+use Rattle.process_images.specs.gd_words.specs.declared.message.Request.{Request}
+use Rattle.process_images.specs.gd_words.specs.declared.message.Reply.{Reply}
 use Rattle.checkpoint_image.specs.declared.receive.OpenerBlock.{OpenerBlock}
 use Rattle.checkpoint_image.specs.declared.receive.ReceiveBlock.{ReceiveBlock}
 use Rattle.checkpoint_image.specs.declared.receive.RequestStanding.{RequestStanding}

@@ -1,7 +1,7 @@
 ghost use Rattle.std.specs.List.{All, flat_map};
 ghost use Rattle.std.specs.Prelude.{◌≡◌, ◌≤◌, [], ◌∷◌, ◌++◌, length, OnOk, pos};
-ghost use Rattle.process_images.specs.whole_states.specs.gd_words.specs.Arithmetic.{wrap};
-ghost use Rattle.process_images.specs.whole_states.specs.process_semantics.specs.Words.{long, counted};
+ghost use Rattle.process_images.specs.gd_words.specs.Arithmetic.{wrap};
+ghost use Rattle.process_images.specs.process_semantics.specs.Words.{long, counted};
 ghost use Rattle.checkpoint_image.specs.Layout.{IsPlace, listed, file_words, opener_words, place_word, receive_words};
 ghost use Rattle.checkpoint_image.specs.Layout.{image_words, heading_words};
 

@@ -1,5 +1,5 @@
 ghost use Rattle.std.specs.Prelude.{◌≡◌, ◌≤◌, length};
-ghost use Rattle.process_images.specs.whole_states.specs.process_semantics.specs.Words.{words_in};
+ghost use Rattle.process_images.specs.process_semantics.specs.Words.{words_in};
 ghost use Rattle.checkpoint_image.specs.Reading.{Gives, Tells, number_in, pair_in, body_in, many_in, listed_in};
 ghost use Rattle.checkpoint_image.specs.Reading.{file_in, reply_in, opener_in, place_in, receive_in, contents_in};
 ghost use Rattle.checkpoint_image.specs.Reading.{image_in, named_in, heading_in, message_in};

@@ -21,7 +21,7 @@ use Rattle.report_judge.specs.site_advice.specs.SiteAdvised.{AreAdvised, IsFirst
 use Rattle.report_judge.specs.verdicts.specs.Refused.{AreAccepted, IsFirstRefused}
 use Rattle.command_dues.specs.RunEnds.{acts_of_run, shown_in}
 use Rattle.command_dues.specs.Mirrors.{mirrors_from}
-use Rattle.command_dues.specs.Stopped.{stopped_from}
+use Rattle.schedule_sweeps.specs.site_machine.specs.Stopped.{stopped_from}
 use Rattle.command_dues.specs.Tasks.{can_stop, judges, load_task}
 use Rattle.command_dues.specs.Verified.{IsDueOfInput}
 use Rattle.command_dues.specs.declared.due.Due.{Due}

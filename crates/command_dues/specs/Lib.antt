@@ -3,7 +3,6 @@ pub mod Ends
 pub mod Mirrors
 pub mod Numbers
 pub mod RunEnds
-pub mod Stopped
 pub mod Tasks
 pub mod Verified
 pub mod Written

@@ -12,6 +12,7 @@ use Rattle.tal_tree.specs.declared.site.Site.{Site}
 use Rattle.report_judge.specs.verdicts.specs.Refused.{AreAccepted, IsFirstRefused}
 use Rattle.command_dues.specs.declared.due.Due.{Due}
 use Rattle.command_dues.specs.declared.due.Due.TheVariants as due
+use Rattle.gd_words.specs.declared.limits.TheConstants.{MOST_INPUT_BYTES}
 
 -- the deck with which bytes begin, and the report that follows it
 abbrev pub deck_in : List ℕ → List ℕ
@@ -38,11 +39,12 @@ IsDueOfJudged deck report decided = AreAccepted deck.site.processes × IsDueOfRe
 -- why bytes are refused: there are more than 67,108,864 of them, or else they begin with no deck
 abbrev pub IsRefusalOfInput : List ℕ → DeckFault → Type 0
 IsRefusalOfInput bytes fault =
-    ((67108864 < length bytes) × (fault ≡ TooLong)) ⊎ ((length bytes ≤ 67108864) × IsRefusalOf (deck_in bytes) fault)
+    ((MOST_INPUT_BYTES < length bytes) × (fault ≡ TooLong))
+    ⊎ ((length bytes ≤ MOST_INPUT_BYTES) × IsRefusalOf (deck_in bytes) fault)
 
 -- what is due of bytes, of which the first are a deck
 abbrev pub IsDueOfInput : List ℕ → Due → Type 0
 IsDueOfInput bytes (due.DeckRefused fault) = IsRefusalOfInput bytes fault
 IsDueOfInput bytes (due.NoMemory _) = Unit {0}
-IsDueOfInput bytes decided = (length bytes ≤ 67108864) × (deck : Deck) × Decks (deck_in bytes) deck
+IsDueOfInput bytes decided = (length bytes ≤ MOST_INPUT_BYTES) × (deck : Deck) × Decks (deck_in bytes) deck
     × IsDueOfJudged deck (report_in bytes) decided

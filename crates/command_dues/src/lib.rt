@@ -17,5 +17,5 @@ pub use report_judge::{
     write_advised, write_checked, write_fault, write_load_report, write_refusal, write_rejected,
     write_report, write_sweep, write_usage, write_verified,
 };
-pub use schedule_sweeps::{Machine, run, sweep};
+pub use schedule_sweeps::{Machine, run, stopped_processors, sweep};
 pub use task::{Task, Telling};

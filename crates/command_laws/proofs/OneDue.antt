@@ -42,7 +42,7 @@ use Rattle.command_dues.specs.Decided.{IsDue, IsDueOfTask, IsDueOfBytes, IsDueOf
 use Rattle.command_dues.specs.Decided.{IsDueOfAdvice, IsDueOfSweep, IsDueOfVerify, IsDueOn, IsReportOf}
 use Rattle.command_dues.specs.Mirrors.{mirrors_from}
 use Rattle.command_dues.specs.RunEnds.{shown_in}
-use Rattle.command_dues.specs.Stopped.{stopped_from}
+use Rattle.command_dues.specs.site_machine.specs.Stopped.{stopped_from}
 use Rattle.command_dues.specs.Tasks.{can_stop, judges, load_task}
 use Rattle.command_dues.specs.declared.due.AdvisedSite.{AdvisedSite}
 use Rattle.command_dues.specs.declared.due.Due.{Due}

@@ -10,7 +10,7 @@ use Rattle.tal_tree.specs.declared.site.Site.{Site}
 use Rattle.tal_tree.specs.declared.site.ProcessSpec.{ProcessSpec}
 use Rattle.tal_tree.specs.declared.site.OpenerSpec.{OpenerSpec}
 use Rattle.schedule.specs.declared.event.Event.{Event}
-use Rattle.world_semantics.specs.checkpoint_image.specs.process_semantics.specs.Image.{restored}
+use Rattle.world_semantics.specs.process_semantics.specs.Image.{restored}
 use Rattle.world_semantics.specs.plain_semantics.specs.Openers.{files_of}
 use Rattle.world_semantics.specs.checkpoint_image.specs.declared.message.FileNumber.{FileNumber}
 use Rattle.world_semantics.specs.checkpoint_image.specs.declared.message.Image.{Image}
@@ -21,7 +21,7 @@ use Rattle.world_semantics.specs.declared.which.Which.{Which}
 use Rattle.world_semantics.specs.declared.which.Which.TheVariants.{First, Second}
 use Rattle.world_semantics.specs.World.{Copy, Pair, World, copy_of, pair_at_boot, pairs_at_boot}
 use Rattle.world_semantics.specs.Messages.{Sending, Cause}
-use Rattle.world_semantics.specs.Rules.{Change, begun}
+use Rattle.world_semantics.specs.Rules.{Change, new_core}
 use Rattle.world_semantics.specs.Follows.{IsRun}
 use Rattle.world_semantics.proofs.Hands.{map-some}
 use Rattle.world_semantics.proofs.Lists.{some-same}
@@ -54,7 +54,7 @@ put-length core applied image e =
 
 begun-length : (site : Site) (number : ℕ) (spec : ProcessSpec) (core : Core)
     → slice_get site.processes number ≡ Some spec
-    → length (begun site number (slice_get site.processes number) core).next ≡ length (files_of spec.what)
+    → length (new_core site number (slice_get site.processes number) core).next ≡ length (files_of spec.what)
 begun-length site number spec core named = rw named (length-map (files_of spec.what) (λ (file : FileUse). 1))
 
 becomes-length : {site : Site} {w : World} {number : ℕ} {pair : Pair} {sent : List ImageMessage} {k : Which}

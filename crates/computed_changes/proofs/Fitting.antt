@@ -1,7 +1,6 @@
 -- The receive tables of all copies in a run, and those that sent checkpoints carry, fit their process.
 use Rattle.std.proofs.Common.{◌≡◌, inl, inr, ℕ, zero, suc, ◌+◌, ◌<◌, ◌&&◌, ℤ, true, List, [], ◌∷◌, ◌++◌, map, length}
-use Rattle.std.proofs.Common.{Option, None}
-use Rattle.std.proofs.Common.{Some, is_some, option_map, slice_get, refl, sym, ap, subst, ◌∙◌, arith}
+use Rattle.std.proofs.Common.{Option, None, Some, is_some, option_map, slice_get, refl, sym, ap, subst, ◌∙◌, arith}
 use Rattle.std.specs.Prelude.{nat_le}
 use Rattle.std.specs.Cmp.Derive.{both_true}
 use Rattle.std.proofs.lemmas.Bool.{le-leb, leb-true, lt-ltb, ltb-true}
@@ -11,7 +10,7 @@ use Rattle.tal_tree.specs.declared.site.Site.{Site}
 use Rattle.tal_tree.specs.declared.site.ProcessSpec.{ProcessSpec}
 use Rattle.tal_tree.specs.declared.site.OpenerSpec.{OpenerSpec}
 use Rattle.schedule.specs.declared.event.Event.{Event}
-use Rattle.world_semantics.specs.checkpoint_image.specs.process_semantics.specs.Image.{restored}
+use Rattle.world_semantics.specs.process_semantics.specs.Image.{restored}
 use Rattle.world_semantics.specs.plain_semantics.specs.Openers.{files_of, openers_of}
 use Rattle.world_semantics.specs.checkpoint_image.specs.declared.receive.OpenerBlock.{OpenerBlock}
 use Rattle.world_semantics.specs.checkpoint_image.specs.declared.receive.ReceiveBlock.{ReceiveBlock}
@@ -28,7 +27,7 @@ use Rattle.world_semantics.specs.declared.which.Which.TheVariants.{First, Second
 use Rattle.world_semantics.specs.World.{Copy, Pair, World, copy_of, pair_at_boot, pairs_at_boot}
 use Rattle.world_semantics.specs.Messages.{Sending, Cause}
 use Rattle.world_semantics.specs.Passes.{checkpoint_of}
-use Rattle.world_semantics.specs.Rules.{Change, begun}
+use Rattle.world_semantics.specs.Rules.{Change, new_core}
 use Rattle.world_semantics.specs.Follows.{IsRun}
 use Rattle.world_semantics.proofs.Hands.{map-some}
 use Rattle.world_semantics.proofs.Lists.{some-same, set-there}
@@ -125,7 +124,7 @@ record AreFitting (depths : List ℕ) (pair : Pair) : Type 0 where
 
 -- the table of a process at its beginning
 begun-fits : (site : Site) (number : ℕ) (spec : Option ProcessSpec) (core : Core)
-    → Fits (depths_of site number) core.receive → Fits (depths_of site number) (begun site number spec core).receive
+    → Fits (depths_of site number) core.receive → Fits (depths_of site number) (new_core site number spec core).receive
 begun-fits site number None core ok = ok
 begun-fits site number (Some spec) core ok = both_true (begin-of (openers_of site number)) refl
 

@@ -8,8 +8,8 @@ use Rattle.tal_tree.specs.gd_words.specs.declared.message.Reply.{Reply}
 use Rattle.tal_tree.specs.declared.act.Act.{Act}
 use Rattle.tal_tree.specs.declared.site.Site.{Site}
 use Rattle.tal_tree.specs.declared.site.Who.TheVariants as who
-use Rattle.world_semantics.specs.checkpoint_image.specs.process_semantics.specs.declared.point.Point.TheVariants as point
-use Rattle.world_semantics.specs.checkpoint_image.specs.process_semantics.specs.Process as process
+use Rattle.world_semantics.specs.process_semantics.specs.declared.point.Point.TheVariants as point
+use Rattle.world_semantics.specs.process_semantics.specs.Process as process
 use Rattle.world_semantics.specs.plain_semantics.specs.Openers.{openers_of, opener_of}
 use Rattle.world_semantics.specs.checkpoint_image.specs.declared.message.ImageMessage.{ImageMessage}
 use Rattle.world_semantics.specs.checkpoint_image.specs.declared.message.TakenMessage.{TakenMessage}
@@ -24,9 +24,9 @@ use Rattle.world_semantics.specs.Messages.{Message, Asking, Replying, Checkpoint
 use Rattle.world_semantics.specs.Messages.{Handing}
 use Rattle.world_semantics.specs.Own.{Around, around, Causes, by_inner, by_take, by_ask, by_answer, by_device, by_write}
 use Rattle.world_semantics.specs.Own.{by_reply}
-use Rattle.world_semantics.specs.Passes.{Passes, by_send, by_pass_again, by_pass, by_end, by_apply_behind}
-use Rattle.world_semantics.specs.Passes.{by_apply, by_acknowledge, taken_of, after_applying, after_applying_behind}
-use Rattle.world_semantics.specs.Passes.{after_told, kept_at}
+use Rattle.world_semantics.specs.Passes.{Passes, by_send, by_pass_again, by_pass, by_end, by_apply_behind, by_apply}
+use Rattle.world_semantics.specs.Passes.{by_acknowledge, taken_of, after_applying, after_applying_behind, after_told}
+use Rattle.world_semantics.specs.Passes.{kept_at}
 use Rattle.world_semantics.specs.Records.{records_of}
 use Rattle.world_semantics.specs.Rules.{Change, by_own, by_checkpoint, by_request, by_early_request, by_enter, by_print}
 use Rattle.world_semantics.specs.Rules.{by_stop, by_mark, by_reload, after_own}
@@ -40,8 +40,7 @@ use Rattle.computed_changes.specs.Requests.{early_step}
 use Rattle.computed_changes.specs.Laws.{FitsWhereItComes}
 use Rattle.computed_changes.proofs.Homes.{AreApart, at-found}
 use Rattle.computed_changes.proofs.Lifted.{acknowledged_where, applied_as, applied_done, applied_where, asked_done}
-use Rattle.computed_changes.proofs.Lifted.{checkpoint_done}
-use Rattle.computed_changes.proofs.Lifted.{got_done, got_made, got_where, taken_done}
+use Rattle.computed_changes.proofs.Lifted.{checkpoint_done, got_done, got_made, got_where, taken_done}
 use Rattle.computed_changes.proofs.Placed.{opener-placed}
 use Rattle.computed_changes.proofs.Reached.{AllApart, AreNamed, AllNamed}
 

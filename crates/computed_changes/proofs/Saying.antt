@@ -15,7 +15,7 @@ use Rattle.world_semantics.specs.Passes.{by_apply, by_acknowledge}
 use Rattle.world_semantics.specs.Passes.{checkpoint_of, taken_of}
 use Rattle.world_semantics.specs.Rules.{Change, by_own, by_checkpoint, by_request, by_early_request, by_enter, by_print}
 use Rattle.world_semantics.specs.Rules.{by_stop, by_mark, by_reload, stopped_pair, taker, pair_after_down}
-use Rattle.world_semantics.specs.Rules.{pair_at_down, renewals_ended, reloaded_by, begun}
+use Rattle.world_semantics.specs.Rules.{pair_at_down, renewals_ended, reloaded_by, new_core}
 use Rattle.world_semantics.proofs.Lists.{Changed, is_new, is_same, changed, mapped}
 use Rattle.world_semantics.proofs.Roles.{reload-all}
 
@@ -111,6 +111,6 @@ change-said {site = site} w next cause sendings (by_reload x s m t l) =
     reload-all (Said w) site x w.processes (λ number pair there. record {
       before = pair;
       there = there;
-      says = reload-says number (begun site number (slice_get site.processes number) pair.first.core) pair
+      says = reload-says number (new_core site number (slice_get site.processes number) pair.first.core) pair
           (pair.first.processor == x) (pair.second.processor == x);
     })

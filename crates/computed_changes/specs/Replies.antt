@@ -7,9 +7,9 @@ use Rattle.tal_tree.specs.declared.act.Act.TheVariants as act
 use Rattle.tal_tree.specs.declared.act.Shown.TheVariants as shown
 use Rattle.tal_tree.specs.declared.site.Site.{Site}
 use Rattle.tal_tree.specs.declared.site.Who.TheVariants as who
-use Rattle.world_semantics.specs.checkpoint_image.specs.process_semantics.specs.declared.point.Point.{Point}
-use Rattle.world_semantics.specs.checkpoint_image.specs.process_semantics.specs.declared.point.Point.TheVariants as point
-use Rattle.world_semantics.specs.checkpoint_image.specs.process_semantics.specs.Process as process
+use Rattle.world_semantics.specs.process_semantics.specs.declared.point.Point.{Point}
+use Rattle.world_semantics.specs.process_semantics.specs.declared.point.Point.TheVariants as point
+use Rattle.world_semantics.specs.process_semantics.specs.Process as process
 use Rattle.world_semantics.specs.plain_semantics.specs.declared.slot.Opener.{Opener}
 use Rattle.world_semantics.specs.plain_semantics.specs.Openers.{opener_of}
 use Rattle.world_semantics.specs.declared.role.Role.{Role}

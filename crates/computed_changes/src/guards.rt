@@ -3,8 +3,8 @@ ghost use Rattle.tal_tree.specs.gd_words.specs.declared.message.Request.{Request
 ghost use Rattle.tal_tree.specs.gd_words.specs.declared.message.Reply.{Reply};
 ghost use Rattle.tal_tree.specs.declared.site.Site.{Site};
 ghost use Rattle.tal_tree.specs.declared.site.Who.TheVariants.{File, Terminal};
-ghost use Rattle.world_semantics.specs.checkpoint_image.specs.process_semantics.specs.declared.point.Point.TheVariants.{Await};
-ghost use Rattle.world_semantics.specs.checkpoint_image.specs.process_semantics.specs.Process.{point, asked_file};
+ghost use Rattle.world_semantics.specs.process_semantics.specs.declared.point.Point.TheVariants.{Await};
+ghost use Rattle.world_semantics.specs.process_semantics.specs.Process.{point, asked_file};
 ghost use Rattle.world_semantics.specs.plain_semantics.specs.Machine.{next_request};
 ghost use Rattle.world_semantics.specs.plain_semantics.specs.Openers.{opener_of};
 ghost use Rattle.world_semantics.specs.checkpoint_image.specs.declared.message.ImageMessage.{ImageMessage};
@@ -16,8 +16,7 @@ ghost use Rattle.world_semantics.specs.Core.{Core, next_on};
 ghost use Rattle.world_semantics.specs.declared.which.Which.{Which};
 ghost use Rattle.world_semantics.specs.declared.which.Which.TheVariants.{First, Second};
 ghost use Rattle.world_semantics.specs.World.{Pair, World, copy_of, terminal_node, is_running, has_noted};
-ghost use Rattle.world_semantics.specs.World.{is_noted_by_all, is_whole};
-ghost use Rattle.world_semantics.specs.World.{Terminal as AtTerminal};
+ghost use Rattle.world_semantics.specs.World.{is_noted_by_all, is_whole, Terminal as AtTerminal};
 ghost use Rattle.world_semantics.specs.Messages.{Asking, Replying, Checkpointing, Taking};
 ghost use Rattle.world_semantics.specs.Running.{Done, sendings_of};
 ghost use Rattle.change_layout.specs.declared.message.ChangeMessage.{ChangeMessage};
@@ -205,7 +204,10 @@ pub fn what_fits_is_told()
         (record {
           body = [];
           files = record { file = 1; next = 9 } ∷ [];
-          receive = record { openers = record { taken = 3; kept = [] ∷ (pos 7 ∷ []) ∷ [] } ∷ record { taken = 0; kept = [] } ∷ []; in_hand = Some 0 };
+          receive = record {
+            openers = record { taken = 3; kept = [] ∷ (pos 7 ∷ []) ∷ [] } ∷ record { taken = 0; kept = [] } ∷ [];
+            in_hand = Some 0;
+          };
         }) ≡ true }
     ensures file { (core : Core) → fits [] (record core { next = 4 ∷ 1 ∷ [] })
         (record {

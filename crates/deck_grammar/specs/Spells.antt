@@ -26,6 +26,7 @@ use Rattle.deck_reader.specs.Limits.{IsWithinDeckLimits}
 use Rattle.deck_reader.specs.declared.deck.Deck.{Deck}
 use Rattle.deck_grammar.specs.Grammar.{AreItems, Block, Disc, Pair, Terminal, deck_items, point, text_of}
 use Rattle.schedule.specs.declared.event.DriveChange.TheVariants.{Copy}
+use Rattle.gd_words.specs.declared.limits.TheConstants.{MOST_DECK_BYTES}
 
 -- where a process, or a terminal, of this name stands, counted from 0
 abbrev pub process_at : Site → List ℕ → Option ℕ
@@ -119,7 +120,7 @@ line_of site (asked.Until writes count rounds) = Some (line.Until writes count r
 
 -- the bytes, at most 1,048,576, are a text of the grammar, and the deck is what it declares and asks for
 pub record Spells (bytes : List ℕ) (deck : Deck) : Type 0 where
-  pub short : length bytes ≤ 1048576
+  pub short : length bytes ≤ MOST_DECK_BYTES
   pub blocks : List Block
   pub events : List EventSaying
   pub text : AreItems (lines_of bytes) (deck_items deck.site.processors blocks events)

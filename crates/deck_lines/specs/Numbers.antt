@@ -1,16 +1,13 @@
 -- The numbers of a deck.
-use Rattle.std.specs.Prelude.{ℕ, ◌+◌, ◌-◌, ◌*◌, Bool, ◌==◌, ◌&&◌, nat_le, List, [], ◌∷◌, length, Option, Some, None}
+use Rattle.std.specs.Prelude.{ℕ, Bool, ◌==◌, ◌&&◌, nat_le, List, [], ◌∷◌, length, Option, Some, None}
 use Rattle.std.specs.Prelude.{if◌then◌else◌, ℤ, pos, neg_ℤ}
 use Rattle.std.specs.Char.{is_ascii_digit}
 use Rattle.std.specs.List.{list_all}
+use Rattle.gd_words.specs.Digits.{value_from}
 
--- what decimal digits stand for, after digits that stand for `value`
-abbrev pub digits_from : ℕ → List ℕ → ℕ
-digits_from value [] = value
-digits_from value (c ∷ cs) = digits_from (10 * value + (c - 48)) cs
-
+-- what decimal digits stand for
 abbrev pub digits_value : List ℕ → ℕ
-digits_value digits = digits_from 0 digits
+digits_value digits = value_from 10 0 digits
 
 -- one to `most` decimal digits
 abbrev pub are_digits : ℕ → List ℕ → Bool

@@ -13,7 +13,7 @@ fn digits_value(digits: &[u8]) -> u32
 {
     let mut value = 0;
     for c in digits {
-        value = 10 * value + u32::from(*c - b'0');
+        value = value * 10 + u32::from(*c - b'0');
     }
     value
 }

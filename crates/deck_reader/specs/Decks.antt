@@ -16,6 +16,7 @@ use Rattle.deck_reader.specs.declared.outline.Outline.{Outline}
 use Rattle.deck_reader.specs.declared.outline.ProcessLines.{ProcessLines}
 use Rattle.deck_reader.specs.declared.outline.TerminalLines.{TerminalLines}
 use Rattle.deck_reader.specs.declared.told.Told.TheVariants as told
+use Rattle.gd_words.specs.declared.limits.TheConstants.{MOST_DECK_BYTES}
 
 -- one after another, each x with its y
 abbrev pub EachWith : {X Y : Type 0} → (X → Y → Type 0) → List X → List Y → Type 0
@@ -60,5 +61,5 @@ pub record IsDeckOf (outline : Outline) (deck : Deck) : Type 0 where
 
 -- the bytes, at most 1,048,576, are the lines of the deck
 pub record Decks (bytes : List ℕ) (deck : Deck) : Type 0 where
-  pub short : length bytes ≤ 1048576
+  pub short : length bytes ≤ MOST_DECK_BYTES
   pub outlined : (outline : Outline) × (outline_of (lines_of bytes) ≡ told.Whole outline) × IsDeckOf outline deck

@@ -13,6 +13,7 @@ use Rattle.deck_reader.specs.declared.outline.Body.{Body}
 use Rattle.deck_reader.specs.declared.outline.Body.TheVariants as body
 use Rattle.deck_reader.specs.declared.outline.Outline.{Outline}
 use Rattle.deck_reader.specs.declared.outline.ProcessLines.{ProcessLines}
+use Rattle.gd_words.specs.declared.limits.TheConstants.{TERMINAL_NODE}
 
 -- a step of a process that is there
 abbrev pub run_line : Outline → List ℕ → Option Line
@@ -29,7 +30,8 @@ enter_line outline name = option_map (λ place. line.One (event.Enter place)) (p
 
 -- the tick of a processor of the site, or of node 16
 abbrev pub tick_line : ℕ → ℕ → Option Line
-tick_line processors node = if nat_lt node processors || node == 16 then Some (line.One (event.Tick node)) else None
+tick_line processors node =
+    if nat_lt node processors || node == TERMINAL_NODE then Some (line.One (event.Tick node)) else None
 
 -- the stop of a processor of the site
 abbrev pub fail_line : ℕ → ℕ → Option Line

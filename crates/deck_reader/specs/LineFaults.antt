@@ -17,6 +17,8 @@ use Rattle.deck_reader.specs.declared.outline.ProcessLines.{ProcessLines}
 use Rattle.deck_reader.specs.declared.outline.Sums.{Sums}
 use Rattle.deck_reader.specs.declared.outline.TerminalLines.{TerminalLines}
 use Rattle.deck_lines.specs.declared.saying.Placing.{Placing}
+use Rattle.gd_words.specs.declared.limits.TheConstants.{MOST_PROCESSES, MOST_PROCESSORS, MOST_ROUNDS, MOST_SECTORS}
+use Rattle.gd_words.specs.declared.limits.TheConstants.{MOST_SINGLES, MOST_TERMINALS, TERMINAL_NODE}
 
 -- `processors N`: a site of 2 to 16 processors, with nothing else yet
 abbrev pub outline_with : ℕ → Outline
@@ -30,7 +32,7 @@ outline_with processors = record {
 abbrev pub processors_of : ℕ → Result Outline LineFault
 processors_of count =
     if nat_lt count 2 then Err (fault.Limit 8)
-    else if nat_lt 16 count then Err (fault.Limit 8)
+    else if nat_lt MOST_PROCESSORS count then Err (fault.Limit 8)
     else Ok (outline_with count)
 
 -- no process and no terminal has the name
@@ -44,7 +46,7 @@ heading_of outline placing =
     else if placing.primary == placing.backup then Err fault.SameProcessor
     else if nat_le outline.processors placing.primary then Err fault.NoProcessor
     else if nat_le outline.processors placing.backup then Err fault.NoProcessor
-    else if nat_le 16 (length outline.processes) then Err (fault.Limit 1)
+    else if nat_le MOST_PROCESSES (length outline.processes) then Err (fault.Limit 1)
     else Ok (record { name = placing.name; primary = placing.primary; backup = placing.backup })
 
 -- a process: under the name of its heading stand the processors of its two copies, and what it is
@@ -56,7 +58,7 @@ abbrev pub with_sectors : ℕ → Bool → Result Heading LineFault → Result (
 with_sectors sectors mirrored (Err why) = Err why
 with_sectors sectors mirrored (Ok heading) =
     if nat_lt sectors 1 then Err (fault.Limit 5)
-    else if nat_lt 64 sectors then Err (fault.Limit 5)
+    else if nat_lt MOST_SECTORS sectors then Err (fault.Limit 5)
     else Ok (process_with heading (body.Disc sectors mirrored))
 
 -- `disc NAME P B SECTORS` and `mirror NAME P B SECTORS`
@@ -67,18 +69,18 @@ disc_of outline placing sectors mirrored = with_sectors sectors mirrored (headin
 abbrev pub terminal_of : Outline → ℕ → List ℕ → List ℕ → Result TerminalLines LineFault
 terminal_of outline line name target =
     if not (is_new outline name) then Err fault.NameTwice
-    else if nat_le 16 (length outline.terminals) then Err (fault.Limit 2)
+    else if nat_le MOST_TERMINALS (length outline.terminals) then Err (fault.Limit 2)
     else Ok (record { line = line; target = target; requests = [] })
 
 -- so many more single events, or rounds
 abbrev pub more_singles : Sums → ℕ → Result Sums LineFault
 more_singles sums more =
-    if nat_lt 1000000 (sums.singles + more) then Err (fault.Limit 6) else Ok
+    if nat_lt MOST_SINGLES (sums.singles + more) then Err (fault.Limit 6) else Ok
     (record { singles = sums.singles + more; rounds = sums.rounds })
 
 abbrev pub more_rounds : Sums → ℕ → Result Sums LineFault
 more_rounds sums more =
-    if nat_lt 100000 (sums.rounds + more) then Err (fault.Limit 7) else Ok
+    if nat_lt MOST_ROUNDS (sums.rounds + more) then Err (fault.Limit 7) else Ok
     (record { singles = sums.singles; rounds = sums.rounds + more })
 
 -- `run NAME TIMES` and `copy NAME D TIMES`: at least once
@@ -88,7 +90,7 @@ times_asks sums times = if nat_lt times 1 then Err fault.Form else more_singles 
 -- `tick N`: a processor of the site, or node 16, which is that of the terminals
 abbrev pub tick_asks : ℕ → Sums → ℕ → Result Sums LineFault
 tick_asks processors sums node =
-    if nat_lt node processors || node == 16 then more_singles sums 1 else Err fault.NoProcessor
+    if nat_lt node processors || node == TERMINAL_NODE then more_singles sums 1 else Err fault.NoProcessor
 
 -- `fail P` and `reload P`: a processor of the site
 abbrev pub processor_asks : ℕ → Sums → ℕ → Result Sums LineFault

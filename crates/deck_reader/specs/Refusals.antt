@@ -28,6 +28,7 @@ use Rattle.deck_reader.specs.declared.outline.ProgramLines.{ProgramLines}
 use Rattle.deck_reader.specs.declared.step.Breach.{Breach}
 use Rattle.deck_reader.specs.declared.told.Told.{Told}
 use Rattle.deck_reader.specs.declared.told.Told.TheVariants as told
+use Rattle.gd_words.specs.declared.limits.TheConstants.{MOST_DECK_BYTES}
 
 -- the program of a pair is refused
 abbrev pub IsRefusedAs : Body → DeckFault → Type 0
@@ -80,9 +81,9 @@ IsFaultOf (told.Broken breach) why = IsBreachFault breach why
 
 -- why bytes are refused
 abbrev pub IsRefusalOf : List ℕ → DeckFault → Type 0
-IsRefusalOf bytes fault.TooLong = 1048576 < length bytes
+IsRefusalOf bytes fault.TooLong = MOST_DECK_BYTES < length bytes
 IsRefusalOf bytes (fault.NoMemory _) = ⊥
-IsRefusalOf bytes why = (length bytes ≤ 1048576) × IsFaultOf (outline_of (lines_of bytes)) why
+IsRefusalOf bytes why = (length bytes ≤ MOST_DECK_BYTES) × IsFaultOf (outline_of (lines_of bytes)) why
 
 -- what is told is right, unless memory ran out, which is told as no fault of a program
 abbrev pub Tells : (DeckFault → Type 0) → DeckFault → Type 0

@@ -5,6 +5,7 @@ use Rattle.schedule.specs.declared.event.Event.{Event}
 use Rattle.schedule.specs.declared.event.Event.TheVariants as event
 use Rattle.schedule.specs.declared.line.Line.{Line}
 use Rattle.schedule.specs.declared.line.Line.TheVariants as line
+use Rattle.gd_words.specs.declared.limits.TheConstants.{TERMINAL_NODE}
 
 -- how many single events a line asks for
 abbrev pub singles_in : Line → ℕ
@@ -38,7 +39,7 @@ IsManyBelow processes _ = ⊥
 
 -- a processor of so many, or node 16, which is that of the terminals
 abbrev pub IsNodeOf : ℕ → ℕ → Type 0
-IsNodeOf processors node = (node < processors) ⊎ (node ≡ 16)
+IsNodeOf processors node = (node < processors) ⊎ (node ≡ TERMINAL_NODE)
 
 -- an event of a site with so many processors, processes and terminals: a step of a process, the next request of a
 -- terminal, what becomes of a packet, the tick of a node, the stop or the reload of a processor or what befalls a drive

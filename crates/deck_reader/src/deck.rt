@@ -7,19 +7,18 @@ ghost use Rattle.deck_reader.specs.Refusals.{IsOutlineFault, IsRefusalOf, Tells,
 ghost use Rattle.deck_reader.specs.Sizes.{text_size};
 ghost use Rattle.tal_tree.specs.declared.fault.DeckFault.{DeckFault};
 ghost use Rattle.deck_reader.specs.declared.deck.Deck.{Deck};
+ghost use Rattle.gd_words.specs.declared.limits.TheConstants.{MOST_PROCESSES};
 
 use crate::names::{NameFault, earlier, earlier_than, event_misnamed, name_fault};
 use crate::outline::{Outline, ProcessLines, TerminalLines, place_of};
 use crate::programs::{ReadProcesses, breach_fault, processes_of};
 use crate::told::{Told, outline_of};
+use gd_words::limits::MOST_DECK_BYTES;
 use gd_words::{List, Name, NoMemory};
 use name_table::NameTable;
 use schedule::Line;
 use std::alloc::Global;
 use tal_tree::{DeckFault, Site, TalFault, TerminalSpec};
-
-/// A deck has at most this many bytes.
-const MOST_BYTES: usize = 1_048_576;
 
 /// A system and the schedule of its run.
 #[derive(Drop)]
@@ -35,7 +34,7 @@ pub fn read_deck(alloc: Global, bytes: &[u8]) -> Result<Deck, DeckFault>
     ensures err { IfErr result (λ fault. fault ≢ DeckFault.NoMemory no_memory → IsRefusalOf bytes.now fault) }
     ensures told { (number : ℕ) → result ≢ Err (DeckFault.Program number (TalFault.NoMemory no_memory)) }
 {
-    if bytes.len() > MOST_BYTES {
+    if bytes.len() > MOST_DECK_BYTES {
         return Err(DeckFault::TooLong);
     }
     match outline_of(alloc, bytes) {
@@ -48,7 +47,7 @@ pub fn read_deck(alloc: Global, bytes: &[u8]) -> Result<Deck, DeckFault>
 /// The deck of an outline: programs are read and names looked up.
 fn deck_of(alloc: Global, outline: Outline) -> Result<Deck, DeckFault>
     requires short { text_size outline.processes < 4294967295 }
-    requires few { length outline.processes ≤ 16 }
+    requires few { length outline.processes ≤ MOST_PROCESSES }
     ensures ok { IfOk result (λ deck. IsDeckOf outline deck) }
     ensures err { IfErr result (λ fault. Tells (IsOutlineFault outline) fault) }
 {
@@ -93,7 +92,7 @@ fn terminals_of(
     processes: &NameTable<ProcessLines>,
     terminals: NameTable<TerminalLines>,
 ) -> Result<Result<List<TerminalSpec>, NameFault>, NoMemory>
-    requires few { length processes.now ≤ 16 }
+    requires few { length processes.now ≤ MOST_PROCESSES }
     ensures { IfOk result (λ specs. MatchResult specs (λ specs. AreTerminalsOf processes.now terminals specs)
         (λ target. targets_misnamed processes.now terminals ≡ Some target)) }
 {
@@ -113,7 +112,7 @@ fn terminal_of(
     name: Name,
     lines: TerminalLines,
 ) -> Result<TerminalSpec, NameFault>
-    requires few { length processes.now ≤ 16 }
+    requires few { length processes.now ≤ MOST_PROCESSES }
     ensures { MatchResult result (λ terminal. IsTerminalOf processes.now (name, lines) terminal)
         (λ target. IsMisnamedTarget processes.now lines target) }
 {

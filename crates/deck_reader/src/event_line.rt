@@ -8,10 +8,8 @@ ghost use Rattle.deck_reader.specs.Few.{AreFew};
 use crate::outline::{Outline, mirror_of, place_of};
 use deck_lines::{EventSaying, PacketPlace};
 use gd_words::Name;
+use gd_words::limits::TERMINAL_NODE;
 use schedule::{DriveChange, DriveEvent, Event, Line};
-
-/// The number of the terminals' node.
-const TERMINAL_NODE: u32 = 16;
 
 /// The event line that is said; none where it names no process to run, no terminal to enter at or no mirrored disc, a
 /// processor or node that isn't there, or no steps.
@@ -135,7 +133,7 @@ fn repeat_line(place: PacketPlace) -> Option<Line>
 fn tick_line(processors: u8, node: u32) -> Option<Line>
     ensures { result ≡ tick_line processors node }
 {
-    if node < u32::from(processors) || node == TERMINAL_NODE {
+    if node < u32::from(processors) || node == TERMINAL_NODE as u32 {
         Some(Line::One(Event::Tick(node as u8)))
     } else {
         None

@@ -6,17 +6,11 @@ use crate::outline::{
     Body, Heading, Outline, ProcessLines, Sums, TerminalLines, is_new, process_with,
 };
 use deck_lines::{EventSaying, Placing};
+use gd_words::limits::{
+    MOST_PROCESSES, MOST_ROUNDS, MOST_SECTORS, MOST_SINGLES, MOST_TERMINALS, TERMINAL_NODE,
+};
 use gd_words::{List, Name};
 use std::alloc::Global;
-
-/// The lines of a schedule ask for at most this many single events together.
-const MOST_SINGLES: u64 = 1_000_000;
-
-/// The lines of a schedule ask for at most this many rounds together.
-const MOST_ROUNDS: u64 = 100_000;
-
-/// The number of the terminals' node.
-const TERMINAL_NODE: u32 = 16;
 
 /// Why a line can't stand where it does.
 #[derive(Clone, Copy, PartialEq, Eq, Drop)]
@@ -54,7 +48,7 @@ pub fn heading_of(outline: &Outline, placing: Placing) -> Result<Heading, LineFa
     if count <= backup {
         return Err(LineFault::NoProcessor);
     }
-    if 16 <= outline.processes.len() {
+    if MOST_PROCESSES <= outline.processes.len() {
         return Err(LineFault::Limit(1));
     }
     Ok(Heading {
@@ -77,7 +71,7 @@ pub fn disc_of(
     if sectors < 1 {
         return Err(LineFault::Limit(5));
     }
-    if 64 < sectors {
+    if MOST_SECTORS < sectors {
         return Err(LineFault::Limit(5));
     }
     let body = Body::Disc {
@@ -100,7 +94,7 @@ pub fn terminal_of(
     if !is_new(outline, name) {
         return Err(LineFault::NameTwice);
     }
-    if 16 <= outline.terminals.len() {
+    if MOST_TERMINALS <= outline.terminals.len() {
         return Err(LineFault::Limit(2));
     }
     Ok(TerminalLines {
@@ -175,7 +169,7 @@ fn times_asks(sums: Sums, times: u32) -> Result<Sums, LineFault>
 fn tick_asks(processors: u8, sums: Sums, node: u32) -> Result<Sums, LineFault>
     ensures { result ≡ tick_asks processors sums node }
 {
-    if node < u32::from(processors) || node == TERMINAL_NODE {
+    if node < u32::from(processors) || node == TERMINAL_NODE as u32 {
         more_singles(sums, 1)
     } else {
         Err(LineFault::NoProcessor)

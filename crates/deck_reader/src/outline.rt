@@ -3,6 +3,7 @@ ghost use Rattle.name_table.specs.Entries.{place_of};
 ghost use Rattle.deck_reader.specs.LineFaults.{is_new, outline_with, process_with};
 ghost use Rattle.deck_reader.specs.EventLineOf.{is_mirror, mirror_of};
 ghost use Rattle.deck_reader.specs.Names.{is_process};
+ghost use Rattle.gd_words.specs.declared.limits.TheConstants.{MOST_PROCESSES};
 
 use gd_words::{List, Name, Words};
 use name_table::NameTable;
@@ -120,7 +121,7 @@ pub fn is_new(outline: &Outline, name: &Name) -> bool
 
 /// Where the name stands among at most 16.
 pub fn place_of<T>(table: &NameTable<T>, name: &Name) -> Option<u8>
-    requires few { length table.now ≤ 16 }
+    requires few { length table.now ≤ MOST_PROCESSES }
     ensures { result ≡ place_of table.now name.now }
 {
     let place = table.place_of(name)?;
@@ -129,7 +130,7 @@ pub fn place_of<T>(table: &NameTable<T>, name: &Name) -> Option<u8>
 
 /// Where the mirrored disc of this name stands among at most 16.
 pub fn mirror_of(processes: &NameTable<ProcessLines>, name: &Name) -> Option<u8>
-    requires few { length processes.now ≤ 16 }
+    requires few { length processes.now ≤ MOST_PROCESSES }
     ensures { result ≡ mirror_of processes.now name.now }
 {
     let place = place_of(processes, name)?;

@@ -17,6 +17,7 @@ use crate::outline::{
     process_with,
 };
 use deck_lines::{Placing, Saying, saying_of};
+use gd_words::limits::{MOST_PROCESSORS, MOST_REQUESTS};
 use gd_words::{List, Name, NoMemory, Words};
 use name_table::NameTable;
 use schedule::Line;
@@ -129,7 +130,7 @@ fn processors_of(alloc: Global, count: u32) -> Result<Outline, LineFault>
     if count < 2 {
         return Err(LineFault::Limit(8));
     }
-    if 16 < count {
+    if (MOST_PROCESSORS as u32) < count {
         return Err(LineFault::Limit(8));
     }
     Ok(Outline::new(alloc, count as u8))
@@ -314,7 +315,7 @@ fn request_told(
 ) -> Result<LineOutcome, NoMemory>
     ensures { IfOk result (λ next. next ≡ request_told outline name terminal number words) }
 {
-    if 1_000 <= terminal.requests.len() {
+    if MOST_REQUESTS <= terminal.requests.len() {
         return Ok(LineOutcome::Broken(broken(outline, number, LineFault::Limit(3))));
     }
     let mut terminal = terminal;
@@ -326,7 +327,7 @@ fn request_told(
 fn long_request_told(outline: Outline, terminal: &TerminalLines, number: u32) -> LineOutcome
     ensures { result ≡ long_request_told outline terminal.now number }
 {
-    if 1_000 <= terminal.requests.len() {
+    if MOST_REQUESTS <= terminal.requests.len() {
         LineOutcome::Broken(broken(outline, number, LineFault::Limit(3)))
     } else {
         LineOutcome::Broken(broken(outline, number, LineFault::Limit(4)))

@@ -11,7 +11,7 @@ use Rattle.path_semantics.specs.Accepted.{IsAccepted}
 use Rattle.path_semantics.specs.Break.{Breaks}
 use Rattle.discipline.specs.Verdict.{IsEarlier, IsFirst, IsVerdict, Agree}
 
--- an accepted program is refused only for want of memory
+-- an accepted program is refused only if memory ran out
 pub accepted-ok : (program : Program) (result : Result ⊤ RefusalFault) → IsVerdict program result → IsAccepted program
     → (result ≡ Ok tt) ⊎ (result ≡ Err (NoMemory no_memory))
 accepted-ok program (Ok _) verdict accepted = inl refl

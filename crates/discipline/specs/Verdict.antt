@@ -46,7 +46,7 @@ pub record IsFirst (program : Program) (reason : Reason) (path : List ℕ) : Typ
   pub first : NoneBefore program reason
 
 -- the verdict: accepted, or calls too deep, or else too many statements with the calls written out, or else the first
--- reason with a shortest path that breaks for it. Want of memory is free
+-- reason with a shortest path that breaks for it. That memory ran out is free
 abbrev pub IsVerdict : Program → Result ⊤ RefusalFault → Type 0
 IsVerdict program (Ok _) = IsAccepted program
 IsVerdict program (Err TooDeep) = HasTooDeepCalls program

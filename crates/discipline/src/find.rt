@@ -82,8 +82,8 @@ fn find_in(statement: &Statement, after: u32, number: u32) -> Option<Found<'_>>
 /// The entry of a number among those that come before a statement's own, which are those of a DO's body.
 #[cycle(find)]
 fn find_before(statement: &Statement, number: u32) -> Option<Found<'_>>
-    ensures { (after : ℕ) → IsFoundIn (λ later. rests_before statement.now.what (Run statement.now ∷ later)) after number
-        result }
+    ensures { (after : ℕ)
+        → IsFoundIn (λ later. rests_before statement.now.what (Run statement.now ∷ later)) after number result }
 {
     match &statement.what {
         What::DoUntil { body, test: _ } => {

@@ -6,13 +6,14 @@ ghost use Rattle.path_semantics.specs.declared.reason.RefusalFault.TheVariants.{
 ghost use Rattle.path_semantics.specs.Accepted.{IsAccepted};
 ghost use Rattle.discipline.specs.Verdict.{IsVerdict, Agree};
 
-/// The verdict on an accepted program is that it is accepted, or want of memory.
+/// The verdict on an accepted program is that it is accepted, or that memory ran out.
 pub fn accepted_is_ok()
     ensures { (program : Program) (result : Result ⊤ RefusalFault) → IsVerdict program result → IsAccepted program
         → (result ≡ Ok tt) ⊎ (result ≡ Err (NoMemory no_memory)) }
 {}
 
-/// Two verdicts on one program, neither of them want of memory, are one but for the path, and their paths are as long.
+/// Two verdicts on one program, neither of them that memory ran out, are one but for the path, and their paths are as
+/// long.
 pub fn one_verdict()
     ensures { (program : Program) (one other : Result ⊤ RefusalFault) → IsVerdict program one → IsVerdict program other
         → Agree one other }

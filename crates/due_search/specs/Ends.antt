@@ -15,6 +15,7 @@ use Rattle.reason_dues.specs.Amounts.{amount}
 use Rattle.due_search.specs.declared.queue.Visit.{Visit}
 use Rattle.due_search.specs.declared.search.Aim.{Aim}
 use Rattle.due_search.specs.Search.{ends_with, IsSearched, EndsAt}
+use Rattle.gd_words.specs.declared.limits.TheConstants.{MOST_STATEMENTS}
 
 -- how much of what is due a search counts
 abbrev pub counted : Aim → Dues → ℕ
@@ -43,7 +44,7 @@ pub record IsFirstEnd (program : Program) (aim : Aim) (path : List ℕ) : Type 0
 -- the entries to which walks lead have numbers of a text
 abbrev pub AreNumbered : List Node → Type 0
 AreNumbered nodes = (path : List ℕ) (k : ℕ) (dues : Dues) (node : Node) → Goes nodes 0 no_dues path k dues
-    → slice_get nodes k ≡ Some node → entry_number node.entry ≤ 2000
+    → slice_get nodes k ≡ Some node → entry_number node.entry ≤ MOST_STATEMENTS
 
 module _ (nodes : List Node) (aim : Aim) where
   -- a walk from the first node leads to the node of a visit, with as much due

@@ -12,6 +12,7 @@ use Rattle.flow_paths.specs.Graph.{Node, edges_of}
 use Rattle.reason_dues.specs.Amounts.{cut_after, after_changed, may_break_at}
 use Rattle.due_search.specs.declared.queue.Visit.{Visit}
 use Rattle.due_search.specs.declared.search.Aim.{Aim}
+use Rattle.gd_words.specs.declared.limits.TheConstants.{MOST_STATEMENTS}
 
 -- the visit with which a search begins
 abbrev pub first_visit : Visit
@@ -109,7 +110,7 @@ pub record IsTrail (nodes : List Node) (queue : List Visit) : Type 0 where
   pub earlier : (place : ℕ) (visit : Visit) → slice_get queue place ≡ Some visit → visit.from < length queue
   pub steps : (place : ℕ) (visit : Visit) → slice_get queue place ≡ Some visit → visit.steps ≤ place
   pub numbers : (place : ℕ) (visit : Visit) (node : Node) → slice_get queue place ≡ Some visit
-      → slice_get nodes visit.node ≡ Some node → entry_number node.entry ≤ 2000
+      → slice_get nodes visit.node ≡ Some node → entry_number node.entry ≤ MOST_STATEMENTS
 
 -- nothing is marked
 abbrev pub IsClear : List Bool → Type 0

@@ -10,14 +10,12 @@ ghost use Rattle.machine_views.specs.site_machine.specs.packet_wires.specs.Play.
 
 use crate::messages::message_named;
 use gd_words::List;
+use gd_words::limits::TERMINAL_NODE;
 use link_control::Channel;
 use machine_views::Machine;
 use packet_words::{Packet, PacketKind};
 use schedule::Event;
 use trace_lines::{Fate, Finding, MessageName, PacketSight, PacketSort};
-
-/// The node of the terminals, which doesn't stop.
-const TERMINALS: u8 = 16;
 
 /// What becomes of the packet that an event names, if there is one.
 pub(crate) fn named_found(machine: &Machine, event: Event) -> Option<Finding>
@@ -210,7 +208,7 @@ fn is_running(stopped: &[bool], node: u8) -> bool
     ensures { result ≡ is_running stopped.now node }
 {
     match stopped.get(usize::from(node)) {
-        None => node == TERMINALS,
+        None => node == TERMINAL_NODE,
         Some(stopped) => !*stopped,
     }
 }

@@ -11,15 +11,13 @@ ghost use Rattle.event_findings.specs.Steps.{acting_of};
 use crate::messages::message_named;
 use crate::noting::Queued;
 use crate::steps::acting_of;
+use gd_words::limits::TERMINAL_NODE;
 use gd_words::{List, NoMemory};
 use link_control::{Channel, Sender};
 use machine_views::{Machine, View};
 use schedule::Event;
 use std::alloc::Global;
 use trace_lines::{Finding, MessageName};
-
-/// The node of the terminals.
-const TERMINALS: u8 = 16;
 
 /// The nodes: 16 processors and the node of the terminals.
 const NODES: [u8; 17] = [0, 1, 2, 3, 4, 5, 6, 7, 8, 9, 10, 11, 12, 13, 14, 15, 16];
@@ -84,7 +82,7 @@ fn sender_of(machine: &Machine, event: Event, view: &View) -> Option<u8>
 {
     match event {
         Event::Run(process) => processor_of(process, view),
-        Event::Enter(_) => Some(TERMINALS),
+        Event::Enter(_) => Some(TERMINAL_NODE),
         Event::Deliver { y, k } => receiver_of(machine, y, k),
         Event::Lose { y: _, k: _ } => None,
         Event::Repeat { y: _, k: _ } => None,

@@ -9,7 +9,7 @@ use Rattle.packet_words.specs.declared.packet.PacketKind.TheVariants as kind
 use Rattle.packet_words.specs.Buses.{other_bus}
 use Rattle.link_control.specs.declared.channel.Resent.{Resent}
 use Rattle.link_control.specs.Ends.{End, HasNumberForPush, HasNumbersLeft, after_down}
-use Rattle.link_control.specs.Ends.{after_kind, after_packet, after_push, after_tick, begun, is_ended_by, is_idle}
+use Rattle.link_control.specs.Ends.{after_kind, after_packet, after_push, after_tick, new_sending, is_ended_by, is_idle}
 use Rattle.link_control.specs.Ends.{is_none, moved_on, numbered_at, packet_of, after_push_of, sent_by_packet}
 use Rattle.link_control.specs.Ends.{sent_by_push, sent_by_tick, end_after_reload, is_of, next_end}
 use Rattle.alive_regroup.specs.declared.set.ProcessorSet.{ProcessorSet}
@@ -37,7 +37,7 @@ busy message (first ∷ queue) idle = cc
 push-has : (message : List ℤ) (e : End) → HasNumberForPush e → HasNumberForPush (after_push message e)
 push-has message e has = by e.down
   where
-    queued : (test : Bool) → is_idle (if test then begun (message ∷ []) e.sending.numbered else record e.sending
+    queued : (test : Bool) → is_idle (if test then new_sending (message ∷ []) e.sending.numbered else record e.sending
         { queue = e.sending.queue ++ message ∷ [] }) ≡ true
         → ⊥
     queued true idle = cc
@@ -67,8 +67,8 @@ packet-has : (packet : Packet) (e : End) → HasNumbersLeft e → HasNumberForPu
     → HasNumberForPush (after_packet packet e)
 packet-has packet e left has = by e.down packet.kind
   where
-    goes-on : (queue : List (List ℤ)) (up : e.down ≡ false) → is_idle (begun queue e.sending.numbered) ≡ true
-        → (begun queue e.sending.numbered).numbered < 4294967295
+    goes-on : (queue : List (List ℤ)) (up : e.down ≡ false) → is_idle (new_sending queue e.sending.numbered) ≡ true
+        → (new_sending queue e.sending.numbered).numbered < 4294967295
     goes-on [] up idle = left.0
     goes-on (message ∷ queue) up idle = absurd cc
 
@@ -78,10 +78,10 @@ packet-has packet e left has = by e.down packet.kind
     moves (message ∷ queue) up idle = further (nat_lt (10 * (e.sending.place + 1)) (length message)) idle
       where
         further : (more : Bool)
-            → is_idle (if more then numbered_at (e.sending.place + 1) (message ∷ queue) e.sending.numbered else begun
-            queue e.sending.numbered) ≡ true
-            → (if more then numbered_at (e.sending.place + 1) (message ∷ queue) e.sending.numbered else begun queue
-            e.sending.numbered).numbered < 4294967295
+            → is_idle (if more then numbered_at (e.sending.place + 1) (message ∷ queue) e.sending.numbered
+            else new_sending queue e.sending.numbered) ≡ true
+            → (if more then numbered_at (e.sending.place + 1) (message ∷ queue) e.sending.numbered
+            else new_sending queue e.sending.numbered).numbered < 4294967295
         further true idle = absurd cc
         further false idle = goes-on queue up idle
 

@@ -20,12 +20,10 @@ use explain_left::{
 use fault_text::told_text;
 use gd_io::{Sink, Source, SourceFault, read_all};
 use gd_words::NoMemory;
+use gd_words::limits::MOST_DECK_BYTES;
 use player::ProcessorStop;
 use std::alloc::Global;
 use tal_tree::DeckFault;
-
-/// A deck has at most this many bytes.
-const MOST_BYTES: usize = 1_048_576;
 
 /// What is due of the bytes of a source. All memory is taken here. How far a search is goes to `progress` meanwhile.
 pub fn due_of_source<S: Source, P: Sink>(
@@ -41,7 +39,7 @@ pub fn due_of_source<S: Source, P: Sink>(
     ensures unfailing { S.sure source.old → result ≢ Due.ReadFault }
     ensures read_whole { IsOfWholeDeck result → IsAtEnd (S.left source.new) }
 {
-    match read_all(alloc, source, MOST_BYTES) {
+    match read_all(alloc, source, MOST_DECK_BYTES) {
         Ok(bytes) => due_of_bytes(alloc, telling, bytes.as_slice(), progress),
         Err(SourceFault::Failed) => Due::ReadFault,
         Err(SourceFault::TooLong) => due_of_fault(alloc, &[], DeckFault::TooLong),

@@ -11,16 +11,11 @@ use crate::graph::Node;
 use crate::layout::Graphs;
 use crate::size::{size_at, sizes};
 use gd_words::NoMemory;
+use gd_words::limits::{MOST_CALLS, MOST_WRITTEN_OUT};
 use path_semantics::call_depth;
 use std::alloc::Global;
 use std::marker::Model;
 use tal_tree::Program;
-
-/// How many procedures deep calls may go.
-const MOST_DEPTH: u32 = 16;
-
-/// How many nodes a graph may have.
-const MOST_NODES: u32 = 8_192;
 
 /// The graph of a program, in the order of the text: behind each call stand the nodes of its procedure.
 #[derive(Drop)]
@@ -51,12 +46,12 @@ impl<'a> Flow<'a> {
         requires limits { IsWithinLimits program.now }
         ensures { IsBuilt program.now result }
     {
-        if call_depth(program) > MOST_DEPTH {
+        if call_depth(program) > MOST_CALLS {
             return Err(FlowFault::TooDeep);
         }
         let sizes = sizes(program);
         let size = size_at(sizes.as_slice(), program.main);
-        if size > MOST_NODES {
+        if size > MOST_WRITTEN_OUT {
             return Err(FlowFault::TooLarge(size));
         }
         Ok(Flow::lay_out(alloc, program, sizes.as_slice())?)
@@ -73,7 +68,7 @@ impl<'a> Flow<'a> {
         let mut graphs = Graphs::new(alloc);
         let procedures = program.procedures.as_slice();
         for k in 0..program.main {
-            let graph = if size_at(sizes, k) > MOST_NODES {
+            let graph = if size_at(sizes, k) > MOST_WRITTEN_OUT {
                 Flow::from_nodes(Vec::new(alloc))
             } else {
                 graphs.graph(procedures[usize::from(k)].body.as_slice())?

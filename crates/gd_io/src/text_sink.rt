@@ -40,7 +40,7 @@ impl TextSink {
         List::from_vec(self.held)
     }
 
-    /// The want of memory for which a write failed.
+    /// That memory ran out, if a write failed for that.
     pub fn memory(&self) -> NoMemory
         requires { 0 < ⟦<TextSink as Sink>⟧.faults self.now }
     {

@@ -1,4 +1,5 @@
 pub mod Arithmetic
+pub mod Digits
 pub mod IdentOrder
 pub mod Members
 pub mod PaddedIdent

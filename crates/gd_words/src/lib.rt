@@ -1,6 +1,6 @@
 //! The words of the machine and the small values that everything above passes on: 16-bit words with wrapped
 //! arithmetic, lists of at most 16 words, names, requests and replies, sectors, decimal numbers, and `List` and
-//! `Boxed`, the list and the box that contracts see as plain values.
+//! `Boxed`, the list and the box that contracts see as plain values. And the limits, as constants.
 //!
 //! Below stand `std`, `arrayvec` for short lists and `itoa` for digits. The crates above use the clauses of wrapped
 //! arithmetic (`wrap`, `quotient`), of `Name::read` and `Ident::read`, and that a `List` is its items and a `Boxed` its
@@ -12,6 +12,7 @@ pub mod boxed;
 pub mod decimal;
 pub mod device;
 pub mod ident;
+pub mod limits;
 pub mod list;
 pub mod members;
 pub mod memory;

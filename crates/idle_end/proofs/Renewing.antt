@@ -17,7 +17,7 @@ use Rattle.world_semantics.specs.Passes.{Passes, by_send, by_pass_again, by_pass
 use Rattle.world_semantics.specs.Passes.{by_acknowledge}
 use Rattle.world_semantics.specs.Rules.{Change, by_own, by_checkpoint, by_request, by_early_request, by_enter, by_print}
 use Rattle.world_semantics.specs.Rules.{by_stop, by_mark, by_reload, stopped_pair, taker, pair_after_down, pair_at_down}
-use Rattle.world_semantics.specs.Rules.{renewals_ended, begun, reloaded_by, without_marks}
+use Rattle.world_semantics.specs.Rules.{renewals_ended, new_core, reloaded_by, without_marks}
 use Rattle.world_semantics.specs.World.{Copy, Pair, Down, World, copy_of, other_of, with_copy, has_noted}
 use Rattle.world_semantics.proofs.Beginning.{all-begin}
 use Rattle.world_semantics.proofs.Lists.{set-all, map-all}
@@ -199,7 +199,7 @@ change-unmarked w next cause sendings (by_mark node processor stopped runs unmar
     (λ n p there. marks-unmarked node processor w.marks p (taker node processor p) (ok n p there))
 change-unmarked {site = site} w next cause sendings (by_reload x stopped all counted less) ok =
     reload-all (λ n p. UnmarkedOf (without_marks x w.marks) p) site x w.processes
-    (λ n p there. reload-unmarked (begun site n (slice_get site.processes n) p.first.core) x w.marks p
+    (λ n p there. reload-unmarked (new_core site n (slice_get site.processes n) p.first.core) x w.marks p
     (p.first.processor == x) (p.second.processor == x) refl refl (ok n p there))
 
 -- the node of a copy that has to send everything hasn't marked the other one's processor

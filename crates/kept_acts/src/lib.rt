@@ -3,8 +3,8 @@
 //!
 //! Below stand `logs` with `Log`, and `world_semantics` with the definition of the kept acts. The layer above uses that
 //! `KeptActs` is the list of the kept acts with the newest first, as in the world of copies, and that each call of
-//! `CopyShare` changes position, held acts and kept acts exactly as that world's `Shares` say. Want of memory changes
-//! nothing.
+//! `CopyShare` changes position, held acts and kept acts exactly as that world's `Shares` say. If memory runs out,
+//! nothing changes.
 #![tactic(auto)]
 
 mod counting;

@@ -23,7 +23,7 @@ use Rattle.world_semantics.specs.Passes.{Passes, by_send, by_pass_again, by_pass
 use Rattle.world_semantics.specs.Passes.{by_apply, by_acknowledge}
 use Rattle.world_semantics.specs.Rules.{Change, by_own, by_checkpoint, by_request, by_early_request, by_enter, by_print}
 use Rattle.world_semantics.specs.Rules.{by_stop, by_mark, by_reload, stopped_copy, stopped_pair, taker}
-use Rattle.world_semantics.specs.Rules.{pair_after_down, pair_at_down, renewals_ended, entered_request, begun}
+use Rattle.world_semantics.specs.Rules.{pair_after_down, pair_at_down, renewals_ended, entered_request, new_core}
 use Rattle.world_semantics.specs.Rules.{reloaded_by}
 use Rattle.world_semantics.specs.World.{Copy, Pair, Terminal, World, boot, copy_of, receives, with_copy}
 use Rattle.world_semantics.proofs.Becoming.{was-role}
@@ -221,7 +221,8 @@ module _ (site : Site) (regular : AreRegular site) (events : ℕ) (w : World) (g
       (λ number pair there. marked-sent node processor number pair (taker node processor pair) refl there)
   copies-after next cause sendings (by_reload x down marked counted less) =
       reload-all (PairSent site w.requests) site x w.processes
-      (λ number pair there. reloaded-sent (begun site number (slice_get site.processes number) pair.first.core) number
+      (λ number pair there.
+      reloaded-sent (new_core site number (slice_get site.processes number) pair.first.core) number
       pair (pair.first.processor == x) (pair.second.processor == x) there)
 
   terminals-more : (more : List Request) → HasGrown w.requests more

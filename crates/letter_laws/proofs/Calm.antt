@@ -23,7 +23,7 @@ use Rattle.world_semantics.specs.declared.which.Which.{Which}
 use Rattle.world_semantics.specs.declared.which.Which.TheVariants.{First, Second}
 use Rattle.world_semantics.specs.Core.{Core, put_in}
 use Rattle.world_semantics.specs.Messages.{Sending, Cause}
-use Rattle.world_semantics.specs.Rules.{Change, begun}
+use Rattle.world_semantics.specs.Rules.{Change, new_core}
 use Rattle.world_semantics.specs.World.{Copy, Pair, World, boot, copy_of, pair_at_boot, receives}
 use Rattle.world_semantics.proofs.Becoming as becoming
 use Rattle.world_semantics.proofs.Becoming.{Becomes, acting-gets-none, entered-same, change-was}
@@ -50,7 +50,7 @@ start-rests (kind.Pair program) = free-rests program (start program) refl
 
 -- a process that the site has awaits none at its beginning
 begun-rests : (site : Site) (number : ℕ) (o : Option ProcessSpec) (spec : ProcessSpec) → o ≡ Some spec → (core : Core)
-    → Rests (begun site number o core).state
+    → Rests (new_core site number o core).state
 begun-rests site number None spec is core = absurd (cc)
 begun-rests site number (Some one) spec is core = start-rests one.what
 

@@ -22,7 +22,7 @@ use Rattle.world_semantics.specs.Passes.{by_apply, by_acknowledge}
 use Rattle.world_semantics.specs.Passes.{checkpoint_of}
 use Rattle.world_semantics.specs.Rules.{Change, by_own, by_checkpoint, by_request, by_early_request, by_enter, by_print}
 use Rattle.world_semantics.specs.Rules.{by_stop, by_mark, by_reload, stopped_pair, taker, pair_after_down}
-use Rattle.world_semantics.specs.Rules.{pair_at_down, renewals_ended, begun, reloaded_by}
+use Rattle.world_semantics.specs.Rules.{pair_at_down, renewals_ended, new_core, reloaded_by}
 use Rattle.world_semantics.specs.World.{Copy, Pair, Down, World, boot, copy_of, with_copy}
 use Rattle.world_semantics.proofs.Beginning.{all-begin}
 use Rattle.world_semantics.proofs.Lists.{some-same, set-all, map-all}
@@ -158,7 +158,7 @@ module _ (site : Site) (regular : AreRegular site) (events : ℕ) (w : World) (g
       (pairs-name number pair there))
   pairs-after next cause sendings (by_reload x down marked counted less) =
       reload-all (PairNames site) site x w.processes
-      (λ number pair there. reloaded-names site (begun site number (slice_get site.processes number) pair.first.core)
+      (λ number pair there. reloaded-names site (new_core site number (slice_get site.processes number) pair.first.core)
       number pair (pair.first.processor == x) (pair.second.processor == x) (pairs-name number pair there))
 
   pub change-files : (next : World) (cause : Cause) (sendings : List Sending) → Change site w cause sendings next

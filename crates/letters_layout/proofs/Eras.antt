@@ -23,7 +23,7 @@ use Rattle.world_semantics.specs.Kept.{Enters, begins, holds_on, keeps, repeats}
 use Rattle.world_semantics.specs.Messages.{Cause, Sending}
 use Rattle.world_semantics.specs.Passes.{Passes, by_acknowledge, by_apply, by_apply_behind, by_end, by_pass}
 use Rattle.world_semantics.specs.Passes.{by_pass_again, by_send}
-use Rattle.world_semantics.specs.Rules.{Change, begun, by_checkpoint, by_early_request, by_enter, by_mark, by_own}
+use Rattle.world_semantics.specs.Rules.{Change, new_core, by_checkpoint, by_early_request, by_enter, by_mark, by_own}
 use Rattle.world_semantics.specs.Rules.{by_print, by_reload, by_request, by_stop, most_reloads, pair_after_down}
 use Rattle.world_semantics.specs.Rules.{pair_at_down, reloaded_by, renewals_ended, stopped_pair, taker}
 use Rattle.world_semantics.specs.World.{Copy, Down, Pair, World, boot, copy_of, receives, with_copy}
@@ -362,7 +362,7 @@ change-eras {site = site} w next cause sendings (by_reload {times = times} x dow
       few = few-loads w.reloads x times low has.few;
       eras = reload-all (λ j p. ErasOf (slice_set w.reloads x (times + 1)) p) site x w.processes
           (λ number pair at. reloaded-eras w.reloads x times there pair (has.eras number pair at)
-          (begun site number (slice_get site.processes number) pair.first.core) (pair.first.processor == x)
+          (new_core site number (slice_get site.processes number) pair.first.core) (pair.first.processor == x)
           (pair.second.processor == x) refl refl);
     }
 

@@ -20,7 +20,7 @@ use Rattle.world_semantics.specs.Messages.{Sending, Cause}
 use Rattle.world_semantics.specs.Passes.{Passes, by_acknowledge, by_apply, by_apply_behind, by_end, by_pass}
 use Rattle.world_semantics.specs.Passes.{by_pass_again, by_send, checkpoint_of, taken_of}
 use Rattle.world_semantics.specs.Rules.{Change, by_own, by_checkpoint, by_request, by_early_request, by_enter, by_print}
-use Rattle.world_semantics.specs.Rules.{begun, by_mark, by_reload, by_stop, pair_after_down, pair_at_down}
+use Rattle.world_semantics.specs.Rules.{new_core, by_mark, by_reload, by_stop, pair_after_down, pair_at_down}
 use Rattle.world_semantics.specs.Rules.{reloaded_by, renewals_ended, stopped_pair, taker}
 use Rattle.world_semantics.specs.Follows.{Follows, runs, cannot_run, enters, cannot_enter, delivers_none, delivers}
 use Rattle.world_semantics.specs.Follows.{delivers_mark, loses, doubles, ticks_none, ticks, ticks_stop, fails}
@@ -421,7 +421,7 @@ module _ (site : Site) (fit : IsFit site) where
       more-all (n + acts_by cause) next (omega arith)
       (reload-all (IsKnownPair site n) site x w.processes
       (λ number pair there. reload-known site n number
-      (begun site number (slice_get site.processes number) pair.first.core) pair (pair.first.processor == x)
+      (new_core site number (slice_get site.processes number) pair.first.core) pair (pair.first.processor == x)
       (pair.second.processor == x) (all number pair there)))
 
   change-fine : (n : ℕ) (w next : World) (cause : Cause) (sendings : List Sending) → n < 4294967295 → IsFine n w

@@ -69,9 +69,9 @@ numbered_at place queue numbered =
     record { queue = queue; place = place; numbered = numbered + 1; waited = false; resend_bus = bus.Y }
 
 -- the first piece of the first message becomes outstanding, where there is a message
-abbrev pub begun : List (List ℤ) → ℕ → Sending
-begun [] numbered = idle_after numbered
-begun (message ∷ rest) numbered = numbered_at 0 (message ∷ rest) numbered
+abbrev pub new_sending : List (List ℤ) → ℕ → Sending
+new_sending [] numbered = idle_after numbered
+new_sending (message ∷ rest) numbered = numbered_at 0 (message ∷ rest) numbered
 
 abbrev pub is_none : List (List ℤ) → Bool
 is_none [] = true
@@ -83,14 +83,14 @@ is_idle s = is_none s.queue
 -- a message is pushed: it goes at once where nothing is outstanding, and else waits behind the others
 abbrev pub after_push_of : List ℤ → Sending → Sending
 after_push_of message s =
-    if is_idle s then begun (message ∷ []) s.numbered else record s { queue = s.queue ++ message ∷ [] }
+    if is_idle s then new_sending (message ∷ []) s.numbered else record s { queue = s.queue ++ message ∷ [] }
 
 -- the next piece becomes outstanding: of the first message, or of the one behind it where no words are left
 abbrev pub moved_on : List (List ℤ) → Sending → Sending
 moved_on [] s = s
 moved_on (message ∷ rest) s =
     if nat_lt (10 * (s.place + 1)) (length message) then numbered_at (s.place + 1) (message ∷ rest) s.numbered else
-    begun rest s.numbered
+    new_sending rest s.numbered
 
 -- whether an acknowledgement is that of the outstanding piece
 abbrev pub is_ended_by : ℕ → Sending → Bool

@@ -1,7 +1,7 @@
 ghost use Rattle.std.specs.Prelude.{◌≡◌, ◌<◌, ◌≤◌, ◌+◌, true, length, slice_get, OnOk, OnErr};
 ghost use Rattle.std.specs.Option.{option_copied};
 ghost use Rattle.packet_words.specs.gd_words.specs.Ranges.{HasNext};
-ghost use Rattle.link_control.specs.Ends.{Sending, idle_after, begun, is_idle, after_push_of, is_ended_by};
+ghost use Rattle.link_control.specs.Ends.{Sending, idle_after, new_sending, is_idle, after_push_of, is_ended_by};
 ghost use Rattle.link_control.specs.Ends.{after_acknowledgement, is_sent_again, after_tick_of, piece_of, moved_on};
 
 use packet_words::{BusName, List, NoMemory, Piece, cut};
@@ -157,7 +157,7 @@ impl Sender {
 
     fn begin(&mut self)
         requires { HasNext self.old.numbered }
-        ensures { self.new ≡ begun self.old.queue self.old.numbered }
+        ensures { self.new ≡ new_sending self.old.queue self.old.numbered }
     {
         if !self.queue.is_empty() {
             self.numbered += 1;

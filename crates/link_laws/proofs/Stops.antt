@@ -9,7 +9,7 @@ use Rattle.world_semantics.specs.declared.role.Role.{Role}
 use Rattle.world_semantics.specs.declared.role.Role.TheVariants.{Acting, Watching, Blank, Gone}
 use Rattle.world_semantics.specs.Core.{Core}
 use Rattle.world_semantics.specs.Messages.{Reloading, Sending, Stopping}
-use Rattle.world_semantics.specs.Rules.{Change, begun, blank_copy, most_reloads, reloaded_by, reloaded_from, renewed}
+use Rattle.world_semantics.specs.Rules.{Change, new_core, blank_copy, most_reloads, reloaded_by, reloaded_from, renewed}
 use Rattle.world_semantics.specs.Rules.{stopped_copy, stopped_pair}
 use Rattle.world_semantics.specs.Running.{Done}
 use Rattle.world_semantics.specs.World.{Copy, Pair, World, is_noted_by_all, is_whole, terminal_node}
@@ -144,7 +144,7 @@ module _ {A : Type 0} (x : ℕ) (f : ℕ → Copy → List A)
   reloads-none : (site : Site) (n : ℕ) (pairs : List Pair) → of_copies f n (reloaded_from site x n pairs) ≡ []
   reloads-none site n [] = refl
   reloads-none site n (pair ∷ pairs) =
-      pair-none (begun site n (slice_get site.processes n) pair.first.core) n pair
+      pair-none (new_core site n (slice_get site.processes n) pair.first.core) n pair
       (of_copies f (n + 1) (reloaded_from site x (n + 1) pairs)) (pair.first.processor == x)
       (pair.second.processor == x) refl refl
       ∙ reloads-none site (n + 1) pairs

@@ -9,6 +9,7 @@
 pub mod log;
 pub mod shared;
 
+pub use gd_words::limits::TERMINAL_NODE;
 pub use gd_words::{NoMemory, Reply, Request};
 pub use log::Log;
 pub use shared::Shared;

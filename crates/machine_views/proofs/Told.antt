@@ -7,20 +7,21 @@ use Rattle.gd_words.proofs.Among.{among-left, among-right, among-either}
 use Rattle.world_semantics.specs.World as world
 use Rattle.machine_views.specs.declared.views.DownView.{DownView}
 use Rattle.machine_views.specs.Orders.{IsRising}
-use Rattle.machine_views.specs.Views.{each_at, each_number, if_stopped, mark_of, marks_by, marks_in, stopped_in}
+use Rattle.machine_views.specs.Views.{each_at, each_number, mark_of, marks_by, marks_in}
+use Rattle.site_machine.specs.Stopped.{stopped_from}
 
 -- Stops
 
 stopped-told : (first : ℕ) (stopped : List Bool) (k : ℕ) → slice_get stopped k ≡ Some true
-    → IsAmong (first + k) (each_at if_stopped first stopped)
+    → IsAmong (first + k) (stopped_from first stopped)
 stopped-told first [] k there = absurd (cc)
 stopped-told first (true ∷ rest) zero there = inl (omega arith)
 stopped-told first (false ∷ rest) zero there = absurd (cc)
 stopped-told first (true ∷ rest) (suc k) there =
-    inr (subst (λ n. IsAmong n (each_at if_stopped (first + 1) rest)) (omega arith)
+    inr (subst (λ n. IsAmong n (stopped_from (first + 1) rest)) (omega arith)
     (stopped-told (first + 1) rest k there))
 stopped-told first (false ∷ rest) (suc k) there =
-    subst (λ n. IsAmong n (each_at if_stopped (first + 1) rest)) (omega arith) (stopped-told (first + 1) rest k there)
+    subst (λ n. IsAmong n (stopped_from (first + 1) rest)) (omega arith) (stopped-told (first + 1) rest k there)
 
 -- a processor that has stopped, where the first has this number
 abbrev StoppedAfter : ℕ → List Bool → ℕ → Type 0
@@ -30,7 +31,7 @@ stopped-next : (first : ℕ) (one : Bool) (rest : List Bool) (processor : ℕ) �
     → StoppedAfter first (one ∷ rest) processor
 stopped-next first one rest processor (k, is, there) = (suc k, omega (arith, is), there)
 
-told-stopped : (first : ℕ) (stopped : List Bool) (processor : ℕ) → IsAmong processor (each_at if_stopped first stopped)
+told-stopped : (first : ℕ) (stopped : List Bool) (processor : ℕ) → IsAmong processor (stopped_from first stopped)
     → StoppedAfter first stopped processor
 told-stopped first [] processor among = absurd among
 told-stopped first (true ∷ rest) processor (inl same) = (zero, omega (arith, same), refl)
@@ -40,26 +41,26 @@ told-stopped first (false ∷ rest) processor among =
     stopped-next first false rest processor (told-stopped (first + 1) rest processor among)
 
 pub stopped-is-told : (stopped : List Bool) (processor : ℕ)
-    → (IsAmong processor (stopped_in stopped) ↔ slice_get stopped processor ≡ Some true)
+    → (IsAmong processor (stopped_from 0 stopped) ↔ slice_get stopped processor ≡ Some true)
 stopped-is-told stopped processor = (λ among. there (told-stopped 0 stopped processor among), told)
   where
     there : StoppedAfter 0 stopped processor → slice_get stopped processor ≡ Some true
     there (k, is, stands) = let same : processor ≡ k = omega (arith, is) in ap (slice_get stopped) same ∙ stands
 
-    told : slice_get stopped processor ≡ Some true → IsAmong processor (stopped_in stopped)
+    told : slice_get stopped processor ≡ Some true → IsAmong processor (stopped_from 0 stopped)
     told stands =
         let first : 0 + processor ≡ processor = omega arith in
-        subst (λ n. IsAmong n (stopped_in stopped)) first (stopped-told 0 stopped processor stands)
+        subst (λ n. IsAmong n (stopped_from 0 stopped)) first (stopped-told 0 stopped processor stands)
 
-stopped-rising : (first : ℕ) (stopped : List Bool) → IsRising (each_at if_stopped first stopped)
+stopped-rising : (first : ℕ) (stopped : List Bool) → IsRising (stopped_from first stopped)
 stopped-rising first [] = tt
 stopped-rising first (true ∷ rest) = (above, stopped-rising (first + 1) rest)
   where
-    above : (later : ℕ) → IsAmong later (each_at if_stopped (first + 1) rest) → first < later
+    above : (later : ℕ) → IsAmong later (stopped_from (first + 1) rest) → first < later
     above later among = let (k, is, there) = told-stopped (first + 1) rest later among in omega (arith, is)
 stopped-rising first (false ∷ rest) = stopped-rising (first + 1) rest
 
-pub stops-rise : (stopped : List Bool) → IsRising (stopped_in stopped)
+pub stops-rise : (stopped : List Bool) → IsRising (stopped_from 0 stopped)
 stops-rise stopped = stopped-rising 0 stopped
 
 -- Numbers

@@ -19,6 +19,7 @@ use Rattle.machine_views.specs.declared.views.DownView.{DownView}
 use Rattle.machine_views.specs.declared.views.SectorView.{SectorView}
 use Rattle.machine_views.specs.declared.views.TerminalView.{TerminalView}
 use Rattle.machine_views.specs.declared.views.View.{View}
+use Rattle.site_machine.specs.Stopped.{stopped_from}
 
 -- In order
 
@@ -33,14 +34,6 @@ each_at give place [] = []
 each_at give place (one ∷ rest) = give place one ++ each_at give (place + 1) rest
 
 -- Nodes
-
--- a processor, if it has stopped
-abbrev pub if_stopped : ℕ → Bool → List ℕ
-if_stopped processor stopped = if stopped then processor ∷ [] else []
-
--- the processors that have stopped
-abbrev pub stopped_in : List Bool → List ℕ
-stopped_in stopped = each_at if_stopped 0 stopped
 
 -- the mark of a processor by a node, if it stands
 abbrev pub mark_of : List world.Down → ℕ → ℕ → List DownView
@@ -119,7 +112,7 @@ sector_views process pair = each_at (sector_view process) 0 pair.sectors
 -- what is told of a world
 abbrev pub view_of : World → View
 view_of w = record {
-  stopped = stopped_in w.stopped;
+  stopped = stopped_from 0 w.stopped;
   reloads = w.reloads;
   down = marks_in w.marks;
   copies = each_at copy_views 0 w.processes;

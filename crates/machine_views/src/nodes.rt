@@ -1,5 +1,5 @@
 ghost use Rattle.std.specs.Prelude.{◌≡◌, ◌++◌, map, IfOk, OnOk};
-ghost use Rattle.machine_views.specs.Views.{mark_of, marks_by, marks_in, stopped_in, terminal_view};
+ghost use Rattle.machine_views.specs.Views.{mark_of, marks_by, marks_in, terminal_view};
 
 use crate::views::{DownView, TerminalView};
 use gd_words::{List, NoMemory};
@@ -10,20 +10,6 @@ use std::alloc::Global;
 const PROCESSORS: u8 = 16;
 
 const NODES: u8 = 17;
-
-/// The processors that have stopped.
-pub(crate) fn stopped(alloc: Global, machine: &Machine) -> Result<List<u8>, NoMemory>
-    ensures { IfOk result (λ processors. processors ≡ stopped_in machine.now.state.world.stopped) }
-{
-    let stopped = machine.stopped();
-    let mut processors = List::new(alloc);
-    for processor in 0..machine.processors() {
-        if stopped[usize::from(processor)] {
-            processors.push(processor)?;
-        }
-    }
-    Ok(processors)
-}
 
 /// How often each processor was loaded again.
 pub(crate) fn reloads(alloc: Global, machine: &Machine) -> Result<List<u8>, NoMemory>

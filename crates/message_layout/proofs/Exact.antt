@@ -3,7 +3,7 @@ use Rattle.std.proofs.Common.{◌≡◌, ℕ, zero, suc, ℤ, pos, negsuc, Bool,
 use Rattle.std.proofs.Common.{Option, Some, None, refl, ap, subst}
 use Rattle.std.specs.Option.{option_map, option_and_then}
 use Rattle.change_layout.specs.tal_tree.specs.declared.site.Site.{Site}
-use Rattle.world_semantics.specs.checkpoint_image.specs.process_semantics.specs.Words.{whole}
+use Rattle.world_semantics.specs.process_semantics.specs.Words.{whole}
 use Rattle.world_semantics.specs.checkpoint_image.specs.Reading.{number_in, message_in}
 use Rattle.world_semantics.specs.checkpoint_image.proofs.Readers.{number-reads}
 use Rattle.world_semantics.specs.checkpoint_image.proofs.Messages.{read-exact}

@@ -1,8 +1,7 @@
 -- Each part of a message is read as it is written, and only so.
 use Rattle.std.proofs.Common.{◌≤◌, ◌<◌, ◌^◌, ◌≡◌, ℕ, ℤ, pos, List, [], ◌∷◌, ◌++◌, length, Some, None, refl, ap, sym}
 use Rattle.std.proofs.Common.{subst, ◌∙◌, append-nil}
-use Rattle.world_semantics.specs.checkpoint_image.specs.process_semantics.specs.Words.{Front, whole, words_in, long}
-use Rattle.world_semantics.specs.checkpoint_image.specs.process_semantics.specs.Words.{counted}
+use Rattle.world_semantics.specs.process_semantics.specs.Words.{Front, whole, words_in, long, counted}
 use Rattle.world_semantics.specs.checkpoint_image.specs.Reading.{reply_in, longs_in}
 use Rattle.world_semantics.specs.checkpoint_image.proofs.Readers.{WasWritten, IsReader, number-reads, words-reads}
 use Rattle.world_semantics.specs.checkpoint_image.proofs.Readers.{sized-reads, both-reads}

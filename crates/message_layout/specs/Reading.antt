@@ -7,7 +7,7 @@ use Rattle.std.specs.Prelude.{Some, None}
 use Rattle.change_layout.specs.tal_tree.specs.declared.site.Site.{Site}
 use Rattle.change_layout.specs.gd_words.specs.declared.message.Request.{Request}
 use Rattle.change_layout.specs.gd_words.specs.declared.message.Reply.{Reply}
-use Rattle.world_semantics.specs.checkpoint_image.specs.process_semantics.specs.Words.{Front, whole}
+use Rattle.world_semantics.specs.process_semantics.specs.Words.{Front, whole}
 use Rattle.alive_regroup.specs.declared.set.ProcessorSet.{ProcessorSet}
 use Rattle.world_semantics.specs.checkpoint_image.specs.declared.message.TakenMessage.{TakenMessage}
 use Rattle.world_semantics.specs.checkpoint_image.specs.Reading.{is_word, number_in, both_in, pair_in, longs_in}

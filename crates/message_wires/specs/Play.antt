@@ -79,8 +79,9 @@ repeat_played s (Some packet) = Makes (record s { wires = repeated_packet packet
 
 -- Stops and ticks
 
-abbrev pub has_stopped : List Bool → Bool
-has_stopped stopped = list_any (λ one. one) stopped
+-- whether one of the processors has stopped
+abbrev pub some_has_stopped : List Bool → Bool
+some_has_stopped stopped = list_any (λ one. one) stopped
 
 abbrev pub stop_played : ℕ → MachineState → Option Done → Played Wires
 stop_played processor s None = Would (SecondStop processor)

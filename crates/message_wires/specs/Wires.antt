@@ -8,6 +8,7 @@ use Rattle.std.specs.List.{filter, list_any, remove}
 use Rattle.computed_changes.specs.world_semantics.specs.World.{is_running}
 use Rattle.letters.specs.Posts.{is_from_or_to}
 use Rattle.letters.specs.Routes.{Letter, is_between}
+use Rattle.tal_tree.specs.gd_words.specs.declared.limits.TheConstants.{MOST_PACKETS}
 
 -- a letter that was sent, with the number of its sending: a message that is sent again is a new sending
 pub record Sent : Type 0 where
@@ -28,7 +29,7 @@ wires_at_boot processors = record { count = 0; bus = []; owed = []; before = rep
 
 -- a bus has room for 4,096 packets
 abbrev pub has_room : List Sent → Bool
-has_room bus = nat_lt (length bus) 4096
+has_room bus = nat_lt (length bus) MOST_PACKETS
 
 -- a packet goes to the end of the bus, and is lost where there is no room
 abbrev pub put_on : Sent → List Sent → List Sent

@@ -25,7 +25,8 @@ use Rattle.message_wires.specs.Wires.{wires_after_posts}
 use Rattle.letters.specs.Again.{sent_again}
 use Rattle.letters.specs.Routes.{Letter, letters_of}
 use Rattle.message_wires.specs.Play.{MachineState, made_by, after_any, state_after_handing, is_admitted, reload_played}
-use Rattle.message_wires.specs.Play.{deliver_played, lose_played, repeat_played, has_stopped, fail_played, noted_by}
+use Rattle.message_wires.specs.Play.{deliver_played, lose_played, repeat_played, some_has_stopped, fail_played}
+use Rattle.message_wires.specs.Play.{noted_by}
 use Rattle.message_wires.specs.Play.{notes_from, state_after_tick, stop_played, tick_played, packet_at, play}
 use Rattle.message_wires.specs.Runs.{IsPlayed, played_none, played_more, skipped}
 use Rattle.message_wires_laws.proofs.Stopping.{StopsNone, run-none, enter-none, handed-none, mark-none}
@@ -188,13 +189,14 @@ played-site {site = site} (played_more {s = s} {next = next} event before e) =
     by (Makes made) (starts_one processor same one before) was = same ∙ was
 played-site (skipped event before e) = played-site before
 
-pub none-stopped : (stopped : List Bool) (k : ℕ) → has_stopped stopped ≡ false → slice_get stopped k ≡ Some true → ⊥
+pub none-stopped : (stopped : List Bool) (k : ℕ) → some_has_stopped stopped ≡ false → slice_get stopped k ≡ Some true
+    → ⊥
 none-stopped [] k none at = cc
 none-stopped (true ∷ stopped) k none at = cc
 none-stopped (false ∷ stopped) zero none at = cc
 none-stopped (false ∷ stopped) (suc k) none at = none-stopped stopped k none at
 
-first-stopped : (stopped : List Bool) (processor one : ℕ) → has_stopped stopped ≡ false
+first-stopped : (stopped : List Bool) (processor one : ℕ) → some_has_stopped stopped ≡ false
     → slice_get (slice_set stopped processor true) one ≡ Some true → processor ≡ one
 first-stopped stopped processor one none at = of (changed stopped processor true one true at)
   where
@@ -212,16 +214,16 @@ still-stopped stopped processor one at = of (changed stopped processor false one
     of (is_same other was) = was
 
 -- none has stopped in a whole world
-pub whole-runs : (w : World) → is_whole w ≡ true → has_stopped w.stopped ≡ false
+pub whole-runs : (w : World) → is_whole w ≡ true → some_has_stopped w.stopped ≡ false
 whole-runs w whole =
-    not-true (has_stopped w.stopped) (both-true (not (list_any (λ stopped. stopped) w.stopped))
+    not-true (some_has_stopped w.stopped) (both-true (not (list_any (λ stopped. stopped) w.stopped))
     (not (list_any (λ pair. not (is_pair_of pair.first.role pair.second.role)) w.processes)) whole).0
   where
     not-true : (b : Bool) → not b ≡ true → b ≡ false
     not-true true e = absurd (cc)
     not-true false e = refl
 
-pub none-at-boot : (processors : ℕ) → has_stopped (replicate processors false) ≡ false
+pub none-at-boot : (processors : ℕ) → some_has_stopped (replicate processors false) ≡ false
 none-at-boot zero = refl
 none-at-boot (suc processors) = none-at-boot processors
 

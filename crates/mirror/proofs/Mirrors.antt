@@ -1,13 +1,15 @@
 -- What the calls of a device leave: one content, and each drive its part of it.
 use Rattle.std.proofs.Common.{◌≡◌, ℕ, zero, suc, ◌+◌, ◌<◌, ◌≤◌, ◌==◌, Bool, true, false, ◌||◌, if◌then◌else◌, nat_lt}
-use Rattle.std.proofs.Common.{List, [], ◌∷◌, ◌++◌, All, length, map, take, get_or, slice_set, slice_get, Option, Some, None}
+use Rattle.std.proofs.Common.{List, [], ◌∷◌, ◌++◌, All, length, map, take, get_or, slice_set, slice_get, Option, Some}
+use Rattle.std.proofs.Common.{None}
 use Rattle.std.proofs.Common.{refl, ap, ap₂, sym, subst, ◌∙◌, arith}
 use Rattle.std.proofs.lemmas.Bool.{ltb-true, ltb-false, eqb-true, eqb-false}
 use Rattle.std.proofs.lemmas.List.{length-set, take-set-le, take_all, take_more_set, take_more}
 use Rattle.std.proofs.Math.Seq.{take-set-lt}
 use Rattle.std.proofs.lemmas.Option.{get_or_from_slice_get, slice_get_within}
 use Rattle.std.proofs.lemmas.List.Elements.{All-head, All-tail, All-cons, All-weaker, All-map}
-use Rattle.mirror.specs.Mirror.{DriveHeld, HasOf, IsMirror, Mirrors, after_copy, after_write, changed, content, is_alive}
+use Rattle.mirror.specs.Mirror.{DriveHeld, HasOf, IsMirror, Mirrors, after_copy, after_write, changed, content}
+use Rattle.mirror.specs.Mirror.{is_alive}
 use Rattle.mirror.specs.Mirror.{copied, copied_by, drives_of, is_working, state_at, state_in, state_of, takes_write}
 use Rattle.mirror.specs.Sectors.{blank, blanks}
 use Rattle.mirror.specs.declared.state.DriveState.{DriveState}

@@ -18,7 +18,7 @@ use Rattle.world_semantics.specs.Core.{Core}
 use Rattle.world_semantics.specs.World.{Copy, Pair, Terminal, World, copy_of, is_noted_by_all, is_whole, terminal_node}
 use Rattle.world_semantics.specs.Messages.{Message, Asking, Replying, Checkpointing, Taking}
 use Rattle.world_semantics.specs.Records.{records_of}
-use Rattle.world_semantics.specs.Rules.{begun, most_reloads, pair_at_down, reloaded_at, reloaded_by, reloaded_from}
+use Rattle.world_semantics.specs.Rules.{new_core, most_reloads, pair_at_down, reloaded_at, reloaded_by, reloaded_from}
 use Rattle.world_semantics.specs.Rules.{stopped_copy, stopped_pair}
 use Rattle.world_semantics.specs.Running.{Done, Stepped, in_world, run_done, run_pair, step_of}
 use Rattle.world_semantics.proofs.Lists.{Changed, is_new, is_same, changed, mapped, some-same}
@@ -353,7 +353,7 @@ reloaded-left site w processor x times differs =
     left k pair at j before there =
         subst (λ (p : Pair). IsLeft x (copy_of j p)
         (copy_of j (reloaded_at site processor k (slice_get site.processes k) pair))) (some-same (sym at ∙ there))
-        (reload-left processor x differs (begun site k (slice_get site.processes k) pair.first.core) pair
+        (reload-left processor x differs (new_core site k (slice_get site.processes k) pair.first.core) pair
         (pair.first.processor == processor) (pair.second.processor == processor) refl refl j)
 
 pub reloaded-elsewhere : (site : Site) (w : World) (processor x : ℕ) (done : Done)

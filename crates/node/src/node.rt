@@ -178,9 +178,11 @@ impl Node {
         ensures none { IfNone result ((other : ℕ) → first ≤ other → other < 17
             → holds_nothing (slice_get self.now.ends other) ≡ true) }
     {
-        for other in first..NODES {
-            if !self.holds_nothing(other) {
-                return Some(other);
+        let ends = self.ends.as_slice();
+        let last = ends.len().min(usize::from(NODES));
+        for other in usize::from(first)..last {
+            if !ends[other].is_empty() {
+                return Some(other as u8);
             }
         }
         None

@@ -23,15 +23,13 @@ ghost use Rattle.node.specs.Calls.{IsQuiet, alive_address, arrive_by, both_go};
 use crate::node::{NODES, Node};
 use alive_regroup::{ProcessorSet, Watch};
 use event_parts::Bus;
+use gd_words::limits::TERMINAL_NODE;
 use gd_words::{List, NoMemory};
 use link_control::{Channel, Resent};
 use message_words::{down_words, report_words};
 use packet_words::{BusName, Packet, PacketKind};
 use std::alloc::Global;
 use std::marker::Model;
-
-/// The number of the node of the terminals.
-const TERMINAL_NODE: u8 = 16;
 
 /// Both buses and all nodes. Memory is taken at the beginning, for messages that are sent, for pieces that come of a
 /// long message, and for messages that are handed over; for nothing else.

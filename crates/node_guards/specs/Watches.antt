@@ -1,7 +1,7 @@
 -- Watches that the guards name.
 use Rattle.std.specs.Prelude.{ℕ, zero, suc, false, Bool, ◌∷◌, replicate}
 use Rattle.alive_regroup.specs.declared.set.ProcessorSet.{ProcessorSet}
-use Rattle.alive_regroup.specs.Watching.{Watching, begun, after_tick, changed_at, neighbour_after_report}
+use Rattle.alive_regroup.specs.Watching.{Watching, new_watch, after_tick, changed_at, neighbour_after_report}
 use Rattle.alive_regroup.specs.Watching.{neighbour_after_alive, neighbour_after_down}
 
 -- after so many ticks with nothing heard
@@ -15,8 +15,8 @@ only first second third = record { members = first ∷ second ∷ third ∷ repl
 
 -- a node of three processors to which one of the others reported this set, after so many ticks with nothing heard
 abbrev pub watch_of_report : ℕ → ProcessorSet → ℕ → ℕ → Watching
-watch_of_report from set ticks me = changed_at from (neighbour_after_report set) (after_ticks ticks (begun me 3))
+watch_of_report from set ticks me = changed_at from (neighbour_after_report set) (after_ticks ticks (new_watch me 3))
 
 -- the node 0 of three processors, which heard of the processor 2 and then marked it, before any tick
 abbrev pub heard_and_marked : Watching
-heard_and_marked = changed_at 2 neighbour_after_down (changed_at 2 neighbour_after_alive (begun 0 3))
+heard_and_marked = changed_at 2 neighbour_after_down (changed_at 2 neighbour_after_alive (new_watch 0 3))

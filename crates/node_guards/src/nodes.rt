@@ -1,5 +1,5 @@
 ghost use Rattle.std.specs.Prelude.{◌≡◌, true, slice_get, Some, None};
-ghost use Rattle.alive_regroup.specs.Watching.{after_up, begun, changed_at, is_marked, neighbour_after_down};
+ghost use Rattle.alive_regroup.specs.Watching.{after_up, new_watch, changed_at, is_marked, neighbour_after_down};
 ghost use Rattle.link_control.specs.Ends.{after_down, alive_of, end_after_reload, sent_by_push};
 ghost use Rattle.packet_wires.specs.Nodes.{node_after_reload};
 ghost use Rattle.node.specs.Calls.{IsQuiet, told_at_end, with_end_changed, with_watch_changed};
@@ -31,7 +31,7 @@ pub fn a_node_is_quiet_without_messages()
 /// A node that is loaded again begins anew; another one knows that it is up, and its end with it alone is new.
 pub fn a_reload_concerns_ends_of_the_node()
     ensures own { (node_after_reload 3 0 (with_watch_changed (changed_at 1 neighbour_after_down) busy_node)).watch
-        ≡ begun 0 3 }
+        ≡ new_watch 0 3 }
     ensures quiet { IsQuiet (node_after_reload 3 0 busy_node) }
     ensures others { (node_after_reload 3 2 busy_node).watch ≡ after_up 2 busy_node.watch }
     ensures still_busy { IsQuiet (node_after_reload 3 2 busy_node) → ⊥ }

@@ -7,7 +7,7 @@ use Rattle.tal_tree.specs.declared.site.ProcessSpec.{ProcessSpec}
 use Rattle.tal_tree.specs.declared.site.Site.{Site}
 use Rattle.process_semantics.specs.Process.{start_of}
 use Rattle.world_semantics.specs.Core.{Core}
-use Rattle.world_semantics.specs.Rules.{begun, most_reloads, reloaded_by, reloaded_from}
+use Rattle.world_semantics.specs.Rules.{new_core, most_reloads, reloaded_by, reloaded_from}
 use Rattle.world_semantics.specs.Running.{Done}
 use Rattle.world_semantics.specs.World.{Pair, World, is_noted_by_all}
 use Rattle.world_semantics.proofs.Roles.{both-true, reload-all}
@@ -86,11 +86,11 @@ one-within n d core pair fresh is true true =
 
 begun-within : (n : ℕ) (d : Bool) (site : Site) (number : ℕ) (spec : Option ProcessSpec) (core : Core)
     → ((one : ProcessSpec) → spec ≡ Some one → serves (start_of one.what) ≡ d) → CoreWithin n d core
-    → CoreWithin n d (begun site number spec core)
+    → CoreWithin n d (new_core site number spec core)
 begun-within n d site number None core are is = is
 begun-within n d site number (Some spec) core are is =
-    core-more n 0 d (begun site number (Some spec) core) (omega arith)
-    (subst (λ (disc : Bool). CoreWithin 0 disc (begun site number (Some spec) core)) (are spec refl)
+    core-more n 0 d (new_core site number (Some spec) core) (omega arith)
+    (subst (λ (disc : Bool). CoreWithin 0 disc (new_core site number (Some spec) core)) (are spec refl)
     (boot-core site number spec))
 
 -- All processes
@@ -104,7 +104,7 @@ reloaded-held : (site : Site) (x from : ℕ) (pairs : List Pair)
     → held_in (reloaded_from site x from pairs) ≤ held_in pairs
 reloaded-held site x from [] = omega arith
 reloaded-held site x from (pair ∷ pairs) =
-    let one = held-falls (begun site from (slice_get site.processes from) pair.first.core) pair
+    let one = held-falls (new_core site from (slice_get site.processes from) pair.first.core) pair
     (pair.first.processor == x) (pair.second.processor == x) in
     let rest = reloaded-held site x (from + 1) pairs in
     omega (arith, one, rest)
@@ -132,11 +132,11 @@ reload-within n kinds w within site are processor =
     })
   where
     one : (number : ℕ) (pair : Pair) → slice_get w.processes number ≡ Some pair
-        → PairWithin (n + 1) (kinds number) (reloaded_by (begun site number (slice_get site.processes number)
+        → PairWithin (n + 1) (kinds number) (reloaded_by (new_core site number (slice_get site.processes number)
         pair.first.core) pair (pair.first.processor == processor) (pair.second.processor == processor))
     one number pair there =
         let is = within.pairs number pair there in
-        one-within n (kinds number) (begun site number (slice_get site.processes number) pair.first.core) pair
+        one-within n (kinds number) (new_core site number (slice_get site.processes number) pair.first.core) pair
         (begun-within (n + 1) (kinds number) site number (slice_get site.processes number) pair.first.core
         (are number) (core-more (n + 1) n (kinds number) pair.first.core (omega arith) is.0.0)) is
         (pair.first.processor == processor) (pair.second.processor == processor)

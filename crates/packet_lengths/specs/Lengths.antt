@@ -6,10 +6,11 @@ use Rattle.player.specs.declared.stop.ProcessorStop.{ProcessorStop}
 use Rattle.line_lengths.specs.Lengths as any_machine
 use Rattle.line_lengths.specs.Lengths.{Room}
 use Rattle.packet_runs.specs.Runs.{sizes_of}
+use Rattle.packet_words.specs.gd_words.specs.declared.limits.TheConstants.{MOST_PACKETS}
 
 -- each of the two buses has room for 4,096 packets
 abbrev pub both_buses : Room
-both_buses = record { x = 4096; y = 4096 }
+both_buses = record { x = MOST_PACKETS; y = MOST_PACKETS }
 
 -- a round on a site
 abbrev pub most_in_round : Site → ℕ

@@ -12,7 +12,7 @@ use Rattle.channel_laws.specs.Net.{Net, IsNamed, incarnation_of, is_of, loads, m
 use Rattle.channel_laws.specs.Way.{quiet_way}
 use Rattle.channel_laws.proofs.Nets.{whole-goes}
 use Rattle.alive_regroup.specs.Watching as watching
-use Rattle.alive_regroup.specs.Watching.{Watching, after_up, begun}
+use Rattle.alive_regroup.specs.Watching.{Watching, after_up, new_watch}
 use Rattle.world_semantics.specs.World.{is_running, runs_by}
 use Rattle.world_semantics.proofs.Lists.{mapped, set-other, set-there, some-same}
 use Rattle.world_semantics.proofs.Roles.{apart-of}
@@ -341,8 +341,9 @@ loaded-watches {processors = processors} x nodes all k one there =
     (by was.0 (all k was.0 was.1) (was.0.watch.me == x) refl)
   where
     by : (node : Node) → IsWatch processors k node.watch → (test : Bool) → (node.watch.me == x) ≡ test
-        → IsWatch processors k (if test then begun x processors else after_up x node.watch)
-    by node is true e = subst (λ c. IsWatch processors k (begun c processors)) (sym is.me ∙ eqb-true node.watch.me x e)
+        → IsWatch processors k (if test then new_watch x processors else after_up x node.watch)
+    by node is true e =
+        subst (λ c. IsWatch processors k (new_watch c processors)) (sym is.me ∙ eqb-true node.watch.me x e)
         (begun-watch processors k)
     by node is false e = up-watch x is
 

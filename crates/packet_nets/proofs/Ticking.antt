@@ -18,7 +18,7 @@ use Rattle.alive_regroup.specs.declared.neighbour.Neighbour.{Neighbour}
 use Rattle.alive_regroup.specs.declared.neighbour.Neighbour.TheVariants.{Absent}
 use Rattle.alive_regroup.specs.declared.set.ProcessorSet.{ProcessorSet}
 use Rattle.alive_regroup.specs.Watching.{Watching, neighbour_after_check, is_silent, silent_set, set_to_tell}
-use Rattle.alive_regroup.specs.Watching.{told_by_tick, does_check, after_tick, is_held, at_first, begun}
+use Rattle.alive_regroup.specs.Watching.{told_by_tick, does_check, after_tick, is_held, at_first, new_watch}
 use Rattle.world_semantics.specs.World.{is_running, runs_by, terminal_node}
 use Rattle.world_semantics.proofs.Lists.{some-same}
 use Rattle.packet_wires.specs.Parcels.{Parcel}
@@ -215,7 +215,7 @@ size-numbers b zero = refl
 size-numbers b (suc n) = ap suc (size-numbers b n)
 
 -- each node watches the processors of its site
-pub begun-watch : (processors x : ℕ) → IsWatch processors x (begun x processors)
+pub begun-watch : (processors x : ℕ) → IsWatch processors x (new_watch x processors)
 begun-watch processors x = record {
   me = refl;
   size = refl;

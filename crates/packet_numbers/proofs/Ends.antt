@@ -14,7 +14,7 @@ use Rattle.packet_words.specs.Buses.{other_bus}
 use Rattle.packet_words.specs.Pieces.{joined}
 use Rattle.link_control.specs.declared.channel.Resent.{Resent}
 use Rattle.link_control.specs.Ends.{End, Receiving, Sending, after_down, end_after_reload, incarnation_after, next_end}
-use Rattle.link_control.specs.Ends.{after_kind, after_packet, after_push, after_tick, begun, is_ended_by, is_idle}
+use Rattle.link_control.specs.Ends.{after_kind, after_packet, after_push, after_tick, new_sending, is_ended_by, is_idle}
 use Rattle.link_control.specs.Ends.{is_next, is_none, moved_on, numbered_at, packet_of, after_push_of}
 use Rattle.link_control.specs.Ends.{sent_by_packet, sent_by_push, sent_by_tick}
 use Rattle.alive_regroup.specs.declared.set.ProcessorSet.{ProcessorSet}
@@ -67,7 +67,7 @@ module _ (n : ℕ) (reloads : List ℕ) where
     where
       queued : e.down ≡ false → (test : Bool) → is_idle e.sending ≡ test
           → GoesTo n reloads (record e {
-            sending = if test then begun (message ∷ []) e.sending.numbered else record e.sending
+            sending = if test then new_sending (message ∷ []) e.sending.numbered else record e.sending
                 { queue = e.sending.queue ++ message ∷ [] };
           })
       queued up true idle = let most = goes.2 up idle in (
@@ -121,7 +121,7 @@ module _ (n : ℕ) (reloads : List ℕ) where
   abbrev Moves : Sending → Type 0
   Moves s = (s.numbered ≤ n + 1) × (is_idle s ≡ true → s.numbered ≤ n)
 
-  begun-moves : (queue : List (List ℤ)) (numbered : ℕ) → numbered ≤ n → Moves (begun queue numbered)
+  begun-moves : (queue : List (List ℤ)) (numbered : ℕ) → numbered ≤ n → Moves (new_sending queue numbered)
   begun-moves [] numbered low = (omega (arith, low), λ idle. low)
   begun-moves (message ∷ queue) numbered low = (omega (arith, low), λ idle. absurd cc)
 
@@ -130,7 +130,7 @@ module _ (n : ℕ) (reloads : List ℕ) where
   on-moves s (message ∷ queue) low = further (nat_lt (10 * (s.place + 1)) (length message))
     where
       further : (more : Bool) → Moves (if more then numbered_at (s.place + 1) (message ∷ queue) s.numbered else
-          begun queue s.numbered)
+          new_sending queue s.numbered)
       further true = (omega (arith, low), λ idle. absurd cc)
       further false = begun-moves queue s.numbered low
 

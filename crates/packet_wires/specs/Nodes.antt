@@ -7,7 +7,7 @@ use Rattle.std.specs.List.{filter}
 use Rattle.std.specs.Option.{option_and_then}
 use Rattle.packet_words.specs.declared.packet.Incarnation.{Incarnation}
 use Rattle.link_control.specs.Ends.{End, new_end, end_after_reload}
-use Rattle.alive_regroup.specs.Watching.{Watching, begun, after_up}
+use Rattle.alive_regroup.specs.Watching.{Watching, new_watch, after_up}
 
 -- a node has an end of a channel with each node, itself included, by the other one's number; and it watches the
 -- processors
@@ -36,7 +36,7 @@ never_reloaded = record { sender = 0; receiver = 0 }
 abbrev pub node_at_boot : ℕ → ℕ → Node
 node_at_boot processors node = record {
   ends = map (λ other. new_end node other never_reloaded) all_nodes;
-  watch = begun node processors;
+  watch = new_watch node processors;
 }
 
 abbrev pub nodes_at_boot : ℕ → List Node
@@ -47,7 +47,7 @@ nodes_at_boot processors = map (node_at_boot processors) all_nodes
 abbrev pub node_after_reload : ℕ → ℕ → Node → Node
 node_after_reload processors x node = record {
   ends = map (end_after_reload x) node.ends;
-  watch = if node.watch.me == x then begun x processors else after_up x node.watch;
+  watch = if node.watch.me == x then new_watch x processors else after_up x node.watch;
 }
 
 -- the end that x has of its channel with y

@@ -33,6 +33,7 @@ use Rattle.packet_wires.specs.Parcels.{parcels_of}
 use Rattle.packet_wires.specs.Wires.{Wires, Outgoing, Midst, nothing_sent, wires_at_boot, on_bus, bus_named}
 use Rattle.packet_wires.specs.Wires.{without_packet, packets_over, with_sent, goes_over, all_posted, arrived, learns}
 use Rattle.packet_wires.specs.Wires.{ticked, cut_off, declares, loaded_again}
+use Rattle.packet_words.specs.gd_words.specs.declared.limits.TheConstants.{MOST_PACKETS}
 
 -- a state over packets
 abbrev pub Packeted : Type 0
@@ -262,7 +263,7 @@ sent_by s event = out_of (acted s event)
 -- an event is clear: each bus has room for all that it sends over it
 abbrev pub IsClear : Packeted → Event → Type 0
 IsClear s event = (name : BusName) → length (on_bus name (taken_off event s.wires))
-    + length (packets_over name (sent_by s event)) ≤ 4096
+    + length (packets_over name (sent_by s event)) ≤ MOST_PACKETS
 
 -- What is told of the buses
 

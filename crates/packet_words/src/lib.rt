@@ -12,6 +12,7 @@ pub mod packet;
 pub mod piece;
 
 pub use bus_name::BusName;
+pub use gd_words::limits::MOST_PACKETS;
 pub use gd_words::{List, NoMemory};
 pub use joiner::Joiner;
 pub use layout::words_tell_their_packet;

@@ -21,7 +21,7 @@ use Rattle.computed_changes.specs.Stopped.{reload_where}
 use Rattle.letters.specs.Idle.{OneStops}
 use Rattle.message_wires_laws.specs.machine_states.specs.States.{State, Played, Makes, Skips, Would, SecondStop}
 use Rattle.message_wires_laws.specs.machine_states.specs.States.{DiscLoss, Harm}
-use Rattle.message_wires_laws.specs.message_wires.specs.Play.{has_stopped}
+use Rattle.message_wires_laws.specs.message_wires.specs.Play.{some_has_stopped}
 use Rattle.world_semantics.proofs.Lists.{Changed, is_new, is_same, changed}
 use Rattle.message_wires_laws.proofs.Going.{none-at-boot, none-stopped, whole-runs}
 use Rattle.message_wires_laws.proofs.Stopping.{StopsNone, run-none, enter-none, handed-none, mark-none}
@@ -228,7 +228,7 @@ played-site {site = site} (played_more {s = s} {next = next} event before e) =
     by (Makes made) (starts_one processor is same one) was = same ∙ was
 played-site (skipped event before e) = played-site before
 
-first-stopped : (stopped : List Bool) (processor one : ℕ) → has_stopped stopped ≡ false
+first-stopped : (stopped : List Bool) (processor one : ℕ) → some_has_stopped stopped ≡ false
     → slice_get (slice_set stopped processor true) one ≡ Some true → processor ≡ one
 first-stopped stopped processor one none at = of (changed stopped processor true one true at)
   where

@@ -44,7 +44,7 @@ impl MachineParts {
         requires letters { AreCounted (notes_from node 0 (length self.old.world.stopped) self.old) }
         ensures { OnOk result (self.new ≡ notes_from node 0 (length self.old.world.stopped) self.old) }
     {
-        if self.world.has_stopped() {
+        if self.world.some_has_stopped() {
             self.mark_each(node)?;
         }
         Ok(())

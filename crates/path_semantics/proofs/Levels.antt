@@ -197,7 +197,8 @@ more-apart : (statement : Statement) (rest : List Statement) → HoldsInside Are
 more-apart statement rest parts others distinct =
     subst AreApart (sym (runs-more statement rest))
     (apart-join (runs_of body) (Run statement ∷ runs_of rest)
-    (holds-before AreRunsApart (λ none. tt) (out-What statement.what) parts (distinct-left (numbers_of body) own whole)) (
+    (holds-before AreRunsApart (λ none. tt) (out-What statement.what) parts
+    (distinct-left (numbers_of body) own whole)) (
       distinct-left (numbers_at (Run statement)) (numbers_of rest) split,
       (λ later among inner. distinct-apart (numbers_at (Run statement)) (numbers_of rest) split (entry_number later)
           inner

@@ -261,7 +261,8 @@ statement-levels : (program : Program) → IsOrdered program
     → (k : ℕ) → IsFrameOf program k (Run self ∷ rest) → AreLevels program (k + 1) callers
     → IsAmong way (ways_of program self rest callers what) → AreLevels program 0 way
 statement-levels program ordered self rest callers way (What-F.If test first second) is k frame above among =
-    either-way (AreLevels program 0) way ((runs_of first ++ rest) ∷ callers) ((runs_of second ++ rest) ∷ callers) among (
+    either-way (AreLevels program 0) way ((runs_of first ++ rest) ∷ callers)
+    ((runs_of second ++ rest) ∷ callers) among (
       k,
       omega arith,
       branch-frame program k (Run self) first rest (if-first self test first second is frame.apart.0)

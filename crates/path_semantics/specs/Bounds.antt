@@ -5,6 +5,7 @@ use Rattle.tal_tree.specs.declared.program.Program.{Program}
 use Rattle.tal_tree.specs.declared.program.Procedure.{Procedure}
 use Rattle.tal_tree.specs.declared.statement.Statement.{Statement}
 use Rattle.tal_tree.specs.Statements.{numbers_of, calls_of}
+use Rattle.gd_words.specs.declared.limits.TheConstants.{MOST_CALLS, MOST_WRITTEN_OUT}
 
 abbrev pub greatest : List ℕ → ℕ
 greatest [] = 0
@@ -47,12 +48,12 @@ size_of program = unwrap_or (slice_get (sizes program) program.main) 0
 
 -- MAIN's calls go at most 16 procedures deep, MAIN counted, and with all calls written out it has at most 8,192 numbers
 pub record IsWithinBounds (program : Program) : Type 0 where
-  pub depth : depth_of program ≤ 16
-  pub size : size_of program ≤ 8192
+  pub depth : depth_of program ≤ MOST_CALLS
+  pub size : size_of program ≤ MOST_WRITTEN_OUT
 
 -- MAIN's calls go deeper
 abbrev pub HasTooDeepCalls : Program → Type 0
-HasTooDeepCalls program = 16 < depth_of program
+HasTooDeepCalls program = MOST_CALLS < depth_of program
 
 -- a size as far as it is told
 abbrev pub told : ℕ → ℕ
@@ -60,4 +61,5 @@ told size = min size 4294967295
 
 -- MAIN's calls don't, but it has more numbers, which are told
 abbrev pub IsTooLarge : Program → ℕ → Type 0
-IsTooLarge program size = (depth_of program ≤ 16) × (8192 < size_of program) × (size ≡ told (size_of program))
+IsTooLarge program size =
+    (depth_of program ≤ MOST_CALLS) × (MOST_WRITTEN_OUT < size_of program) × (size ≡ told (size_of program))

@@ -6,10 +6,10 @@ ghost use Rattle.process_semantics.specs.State.{Run, first_of, runs_of};
 ghost use Rattle.process_semantics.specs.SeenEntries.{entry_of};
 
 use gd_words::NoMemory;
-use process_semantics::Entry;
+use process_semantics::{Entry, body_before};
 use std::alloc::Global;
 use std::marker::Model;
-use tal_tree::{Statement, What};
+use tal_tree::Statement;
 
 /// What remains in a procedure, the next entry last.
 #[derive(Drop)]
@@ -93,28 +93,5 @@ impl<'a> Frame<'a> {
     {
         self.rest.push(Entry::Run(statement))?;
         self.put_all(body_before(&statement.what))
-    }
-}
-
-/// What is done before a statement's own step: the body of a DO.
-fn body_before(what: &What) -> &[Statement]
-    ensures { result.now ≡ body_before (out-What what.now) }
-{
-    match what {
-        What::DoUntil { body, test: _ } => body.as_slice(),
-        What::Assign { .. }
-        | What::AssignCall { .. }
-        | What::If { .. }
-        | What::While { .. }
-        | What::For { .. }
-        | What::Call { .. }
-        | What::Return(_)
-        | What::ReadUpdate { .. }
-        | What::Reply { .. }
-        | What::WriteRead { .. }
-        | What::Checkpoint { .. }
-        | What::CheckMonitor
-        | What::Open(_)
-        | What::Stop => &[],
     }
 }

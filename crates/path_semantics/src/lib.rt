@@ -22,6 +22,6 @@ pub use laws::{
     accepted_breaks_nowhere, bounds_follow_calls, break_is_path, checkpoint_clears, front_is_path,
     path_fixes_its_stand, places_are_told, quiet_programs_are_bounded, successors_differ,
 };
-pub use paths::{breaks_there, entry_number, leads_somewhere};
-pub use process_semantics::Entry;
+pub use paths::{breaks_there, leads_somewhere};
+pub use process_semantics::{Entry, entry_number};
 pub use reason::{Reason, RefusalFault};

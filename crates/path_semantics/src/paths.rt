@@ -1,10 +1,6 @@
 ghost use Rattle.std.specs.Prelude.{◌≡◌, ◌↔◌, [], ◌∷◌, ◌++◌, flat_map, IsTrue, IfOk};
 ghost use Rattle.std.specs.Option.{option_map};
 ghost use Rattle.std.specs.List.{list_any};
-ghost use Rattle.tal_tree.specs.declared.statement.What.{out-What};
-ghost use Rattle.process_semantics.specs.Rests.{entry_number};
-ghost use Rattle.tal_tree.specs.Statements.{last_of};
-ghost use Rattle.process_semantics.specs.SeenEntries.{entry_of};
 ghost use Rattle.path_semantics.specs.Path.{number_at, IsPath};
 ghost use Rattle.path_semantics.specs.Break.{Breaks};
 ghost use Rattle.path_semantics.specs.Reached.{is_number, is_next, stepped, reached, breaks_next};
@@ -12,9 +8,9 @@ ghost use Rattle.path_semantics.specs.Reached.{is_number, is_next, stepped, reac
 use crate::reason::Reason;
 use crate::stand::Stand;
 use gd_words::NoMemory;
-use process_semantics::Entry;
+use process_semantics::entry_number;
 use std::alloc::Global;
-use tal_tree::{Program, What};
+use tal_tree::Program;
 
 /// Whether a list of statement numbers is a path of the program.
 pub fn leads_somewhere(alloc: Global, program: &Program, path: &[u16]) -> Result<bool, NoMemory>
@@ -105,33 +101,5 @@ impl<'a> Stand<'a> {
             None => None,
             Some(entry) => Some(entry_number(entry)),
         }
-    }
-}
-
-/// The number of an entry: that of its statement, and those of a FOR's test and of its last assignment.
-pub fn entry_number(entry: Entry<'_>) -> u32
-    ensures { result ≡ entry_number (entry_of entry.entry) }
-{
-    match entry {
-        Entry::Run(statement) => u32::from(statement.number),
-        Entry::Test(statement) => u32::from(statement.number) + 1,
-        Entry::Last(statement) => u32::from(last_of(&statement.what)),
-    }
-}
-
-fn last_of(what: &What) -> u16
-    ensures { result ≡ last_of (out-What what.now) }
-{
-    match what {
-        What::For {
-            variable: _,
-            from: _,
-            to: _,
-            down: _,
-            step: _,
-            body: _,
-            last,
-        } => *last,
-        _ => 0,
     }
 }

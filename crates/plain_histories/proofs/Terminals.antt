@@ -103,7 +103,8 @@ entry-made site plain ledger terminal opener words agrees is even next =
             (replies-entered ledger terminal words one) has);
         entered = λ other spec there. ap (λ (all : List ℕ). slice_get all other)
             (slot-entered (Some opener) (Waiting words) after) ∙ elim (eqb_tells terminal other) [
-              | inl t ↦ subst (λ k. slice_get (slice_set plain.entered terminal (length (ledger.entered terminal) + 1)) k
+              | inl t ↦
+                  subst (λ k. slice_get (slice_set plain.entered terminal (length (ledger.entered terminal) + 1)) k
                   ≡ Some (length ((with_entered terminal words ledger).entered k))) t.1
                   (set-there plain.entered terminal _ (length (ledger.entered terminal) + 1) count
                   ∙ ap Some (sym (ap length (changed-same terminal (words ∷ ledger.entered terminal) ledger.entered)

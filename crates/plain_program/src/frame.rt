@@ -1,16 +1,16 @@
 ghost use Rattle.std.specs.Prelude.{◌≡◌, ◌≤◌, ◌-◌, ◌∷◌, ◌++◌, length, drop, slice_set, IfOk, OnOk};
 ghost use Rattle.std.specs.Option.{option_map};
-ghost use Rattle.process_semantics.specs.Rests.{next_number, entry_number};
+ghost use Rattle.process_semantics.specs.Rests.{next_number};
 ghost use Rattle.tal_tree.specs.Statements.{body_before};
 ghost use Rattle.tal_tree.specs.declared.statement.What.{out-What};
 ghost use Rattle.process_semantics.specs.State.{Run, first_of, runs_of, frame_of, zeros};
 ghost use Rattle.process_semantics.specs.SeenEntries.{entry_of};
 
 use gd_words::{List, NoMemory};
-use process_semantics::Entry;
+use process_semantics::{Entry, body_before, entry_number};
 use std::alloc::Global;
 use std::marker::Model;
-use tal_tree::{Procedure, Statement, What};
+use tal_tree::{Procedure, Statement};
 
 /// A procedure that runs: its number, its locals, and the entries that remain, the next one last.
 #[derive(Drop)]
@@ -71,7 +71,7 @@ impl<'a> Frame<'a> {
     {
         match self.next() {
             None => 0,
-            Some(entry) => entry_number(entry),
+            Some(entry) => entry_number(entry) as usize,
         }
     }
 
@@ -141,65 +141,6 @@ impl<'a> Frame<'a> {
 pub struct Frames<'a> {
     pub running: Frame<'a>,
     pub callers: Vec<Frame<'a>>,
-}
-
-/// What is done before a statement's own step: the body of a DO.
-fn body_before(what: &What) -> &[Statement]
-    ensures { result.now ≡ body_before (out-What what.now) }
-{
-    match what {
-        What::DoUntil { body, test: _ } => body.as_slice(),
-        What::Assign { .. }
-        | What::AssignCall { .. }
-        | What::If { .. }
-        | What::While { .. }
-        | What::For { .. }
-        | What::Call { .. }
-        | What::Return(_)
-        | What::ReadUpdate { .. }
-        | What::Reply { .. }
-        | What::WriteRead { .. }
-        | What::Checkpoint { .. }
-        | What::CheckMonitor
-        | What::Open(_)
-        | What::Stop => &[],
-    }
-}
-
-/// The number of an entry.
-fn entry_number(entry: Entry<'_>) -> usize
-    ensures number { result ≡ entry_number (entry_of entry.entry) }
-    ensures few { result ≤ 65536 }
-{
-    match entry {
-        Entry::Run(statement) => usize::from(statement.number),
-        Entry::Test(statement) => usize::from(statement.number) + 1,
-        Entry::Last(statement) => match &statement.what {
-            What::For {
-                variable: _,
-                from: _,
-                to: _,
-                down: _,
-                step: _,
-                body: _,
-                last,
-            } => usize::from(*last),
-            What::Assign { .. }
-            | What::AssignCall { .. }
-            | What::If { .. }
-            | What::While { .. }
-            | What::DoUntil { .. }
-            | What::Call { .. }
-            | What::Return(_)
-            | What::ReadUpdate { .. }
-            | What::Reply { .. }
-            | What::WriteRead { .. }
-            | What::Checkpoint { .. }
-            | What::CheckMonitor
-            | What::Open(_)
-            | What::Stop => 0,
-        },
-    }
 }
 
 fn with_zeros(mut words: List<i16>, len: usize) -> Result<List<i16>, NoMemory>

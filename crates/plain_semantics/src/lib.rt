@@ -14,7 +14,7 @@ pub mod slot;
 
 pub use laws::{acts_follow_acts, front_is_possible, impossible_stays, shown_begins_with_front};
 pub use limits::keeps_site_limits;
-pub use opening::{files_of, opener_of, openers};
+pub use opening::{files_of, opener_of, openers, server_of};
 pub use placed::opener_at;
 pub use process_semantics::Point;
 pub use slot::{Opener, Slot};

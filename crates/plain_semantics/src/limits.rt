@@ -3,7 +3,9 @@ ghost use Rattle.plain_semantics.specs.Counted.{have_few_files, have_few_request
 ghost use Rattle.plain_semantics.specs.SiteLimits.{KeepsSiteLimits};
 
 use crate::opening::files_of;
-use process_semantics::{ProcessSpec, Site, TerminalSpec};
+use process_semantics::{
+    MOST_FILES, MOST_PROCESSES, MOST_REQUESTS, MOST_TERMINALS, ProcessSpec, Site, TerminalSpec,
+};
 
 #[tactic(auto, using(crate::proofs::Small::small_keeps))]
 /// Whether a site keeps the limits on which its places rest. It takes no memory.
@@ -16,8 +18,8 @@ pub fn keeps_site_limits(site: &Site) -> bool
 fn is_small(site: &Site) -> bool
     ensures { result ≡ is_small site.now }
 {
-    site.processes.len() <= 16
-        && site.terminals.len() <= 16
+    site.processes.len() <= MOST_PROCESSES
+        && site.terminals.len() <= MOST_TERMINALS
         && have_few_files(site.processes.as_slice())
         && have_few_requests(site.terminals.as_slice())
 }
@@ -25,11 +27,15 @@ fn is_small(site: &Site) -> bool
 fn have_few_files(specs: &[ProcessSpec]) -> bool
     ensures { result ≡ have_few_files specs.now }
 {
-    specs.iter().all(|spec| files_of(&spec.what).len() <= 8)
+    specs
+        .iter()
+        .all(|spec| files_of(&spec.what).len() <= MOST_FILES as usize)
 }
 
 fn have_few_requests(specs: &[TerminalSpec]) -> bool
     ensures { result ≡ have_few_requests specs.now }
 {
-    specs.iter().all(|spec| spec.requests.len() <= 1_000)
+    specs
+        .iter()
+        .all(|spec| spec.requests.len() <= MOST_REQUESTS)
 }

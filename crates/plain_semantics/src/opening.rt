@@ -4,6 +4,8 @@ ghost use Rattle.plain_semantics.specs.SiteLimits.{KeepsSiteLimits};
 ghost use Rattle.plain_semantics.specs.Openers.{same_name, opens, file_opener, files_from, files_of, processes_from};
 ghost use Rattle.plain_semantics.specs.Openers.{terminals_from, openers_of, same_who, place_from, named_from};
 ghost use Rattle.plain_semantics.specs.Openers.{server_of, server_by, opener_at, opener_of};
+ghost use Rattle.process_semantics.specs.gd_words.specs.declared.limits.TheConstants.{MOST_FILES, MOST_PROCESSES};
+ghost use Rattle.process_semantics.specs.gd_words.specs.declared.limits.TheConstants.{MOST_TERMINALS};
 
 use crate::slot::Opener;
 use process_semantics::{
@@ -62,8 +64,8 @@ fn put_processes(
     name: &Name,
     processes: &[ProcessSpec],
 ) -> Result<(), NoMemory>
-    requires few { length processes.now ≤ 16 }
-    requires files { All (λ spec. length (files_of spec.what) ≤ 8) processes.now }
+    requires few { length processes.now ≤ MOST_PROCESSES }
+    requires files { All (λ spec. length (files_of spec.what) ≤ MOST_FILES) processes.now }
     ensures { OnOk result (all.new ≡ all.old ++ processes_from name.now 0 processes.now) }
 {
     for (number, process) in processes.iter().enumerate() {
@@ -78,7 +80,7 @@ fn put_files(
     process: u8,
     files: &[FileUse],
 ) -> Result<(), NoMemory>
-    requires { length files.now ≤ 8 }
+    requires { length files.now ≤ MOST_FILES }
     ensures { OnOk result (all.new ≡ all.old ++ files_from name.now process 0 files.now) }
 {
     for (number, file) in files.iter().enumerate() {
@@ -109,7 +111,7 @@ fn put_terminals(
     process: usize,
     terminals: &[TerminalSpec],
 ) -> Result<(), NoMemory>
-    requires { length terminals.now ≤ 16 }
+    requires { length terminals.now ≤ MOST_TERMINALS }
     ensures { OnOk result (all.new ≡ all.old ++ terminals_from process 0 terminals.now) }
 {
     for (number, terminal) in terminals.iter().enumerate() {
@@ -153,7 +155,8 @@ fn server_by(site: &Site, who: Who) -> Option<usize>
     }
 }
 
-fn server_of(site: &Site, target: &Target) -> Option<usize>
+/// The process that what is opened so asks: none for `$RECEIVE`, and none if no process has the name.
+pub fn server_of(site: &Site, target: &Target) -> Option<usize>
     ensures { result ≡ server_of site.now target.now }
 {
     match target {

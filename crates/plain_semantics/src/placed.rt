@@ -4,6 +4,8 @@ ghost use Rattle.std.specs.Option.{option_map};
 ghost use Rattle.plain_semantics.specs.Openers.{files_of, files_from, processes_from, terminals_from, openers_of};
 ghost use Rattle.plain_semantics.specs.SiteLimits.{KeepsSiteLimits};
 ghost use Rattle.plain_semantics.specs.Sought.{sought};
+ghost use Rattle.process_semantics.specs.gd_words.specs.declared.limits.TheConstants.{MOST_FILES, MOST_PROCESSES};
+ghost use Rattle.process_semantics.specs.gd_words.specs.declared.limits.TheConstants.{MOST_TERMINALS};
 
 use crate::opening::{files_of, opens};
 use process_semantics::{FileUse, Name, ProcessSpec, Site, TerminalSpec, Who};
@@ -42,8 +44,8 @@ fn sought_opener(site: &Site, process: usize, place: usize) -> Sought
 
 #[tactic(auto, using(crate::proofs::Soughts::sought_append))]
 fn sought_in_processes(name: &Name, processes: &[ProcessSpec], place: usize) -> Sought
-    requires few { length processes.now ≤ 16 }
-    requires files { All (λ spec. length (files_of spec.what) ≤ 8) processes.now }
+    requires few { length processes.now ≤ MOST_PROCESSES }
+    requires files { All (λ spec. length (files_of spec.what) ≤ MOST_FILES) processes.now }
     ensures { result ≡ sought (processes_from name.now 0 processes.now) place }
 {
     let mut left = place;
@@ -57,7 +59,7 @@ fn sought_in_processes(name: &Name, processes: &[ProcessSpec], place: usize) -> 
 }
 
 fn sought_in_files(name: &Name, process: u8, files: &[FileUse], place: usize) -> Sought
-    requires { length files.now ≤ 8 }
+    requires { length files.now ≤ MOST_FILES }
     ensures { result ≡ sought (files_from name.now process 0 files.now) place }
 {
     let mut left = place;
@@ -74,7 +76,7 @@ fn sought_in_files(name: &Name, process: u8, files: &[FileUse], place: usize) ->
 }
 
 fn sought_in_terminals(process: usize, terminals: &[TerminalSpec], place: usize) -> Sought
-    requires { length terminals.now ≤ 16 }
+    requires { length terminals.now ≤ MOST_TERMINALS }
     ensures { result ≡ sought (terminals_from process 0 terminals.now) place }
 {
     let mut left = place;

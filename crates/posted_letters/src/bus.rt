@@ -7,13 +7,11 @@ ghost use Rattle.posted_letters.specs.Rising.{Rises};
 use crate::owed::place_of;
 use crate::sent::Sent;
 use gd_words::NoMemory;
+use gd_words::limits::MOST_PACKETS;
 use sendings::is_running;
 use std::alloc::Global;
 use std::collections::VecDeque;
 use std::marker::Model;
-
-/// Most packets on a bus.
-const ROOM: usize = 4_096;
 
 /// For so many letters at most the bus is looked along letter by letter, which takes no memory.
 const FEW: usize = 8;
@@ -71,7 +69,7 @@ impl Bus {
     pub(crate) fn put(&mut self, packet: Sent) -> Result<(), NoMemory>
         ensures { OnOk result (self.new ≡ put_on packet self.old) }
     {
-        if self.packets.len() < ROOM {
+        if self.packets.len() < MOST_PACKETS {
             self.packets.push_back(packet)?;
         }
         Ok(())

@@ -8,7 +8,7 @@ use Rattle.process_semantics.specs.Process.{start_of}
 use Rattle.plain_semantics.specs.Openers.{files_of, openers_of}
 use Rattle.node_copies.specs.computed_changes.specs.Fitting.{depths_of}
 use Rattle.world_semantics.specs.Core.{Core}
-use Rattle.world_semantics.specs.Rules.{begun, blank_copy, reloaded_by}
+use Rattle.world_semantics.specs.Rules.{new_core, blank_copy, reloaded_by}
 use Rattle.node_copies.specs.process_control.specs.Cores.{core_at_start}
 use Rattle.node_copies.specs.process_control.proofs.Starting.{starts}
 use Rattle.node_copies.specs.Seen.{CopyAndDepths}
@@ -38,7 +38,7 @@ blank-is placed processor era spec openers one there all is =
     is ∙ ap (BlankStarted spec processor (era + 1)) all
     ∙ ap (blank_with placed processor (era + 1))
     (starts (start_of spec.what) (files_of spec.what) (openers_of placed.site placed.number)
-    ∙ ap (λ (found : Option ProcessSpec). begun placed.site placed.number found placed.pair.first.core) (sym there))
+    ∙ ap (λ (found : Option ProcessSpec). new_core placed.site placed.number found placed.pair.first.core) (sym there))
 
 -- The depths of the blank copies are those of the process
 

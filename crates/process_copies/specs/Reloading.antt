@@ -4,7 +4,7 @@ use Rattle.std.specs.Prelude.{ℕ, ◌+◌, ◌==◌, Bool, true, false, slice_g
 use Rattle.node_copies.specs.computed_changes.specs.Fitting.{depths_of}
 use Rattle.world_semantics.specs.Core.{Core}
 use Rattle.world_semantics.specs.declared.which.Which.TheVariants.{First, Second}
-use Rattle.world_semantics.specs.Rules.{begun, blank_copy, reloaded_at, renewed}
+use Rattle.world_semantics.specs.Rules.{new_core, blank_copy, reloaded_at, renewed}
 use Rattle.world_semantics.specs.World.{Pair}
 use Rattle.node_copies.specs.Seen.{CopyAndDepths}
 use Rattle.process_copies.specs.Seen.{Placed}
@@ -13,7 +13,7 @@ use Rattle.process_copies.specs.declared.reloading.BlankCopies.{BlankCopies}
 -- the core of a process at its beginning
 abbrev pub core_begun : Placed → Core
 core_begun placed =
-    begun placed.site placed.number (slice_get placed.site.processes placed.number) placed.pair.first.core
+    new_core placed.site placed.number (slice_get placed.site.processes placed.number) placed.pair.first.core
 
 -- the blank copy of a process in a processor, in the era after this one
 abbrev pub blank_after : ℕ → ℕ → Placed → CopyAndDepths

@@ -14,6 +14,7 @@ use Rattle.node_copies.specs.processes.specs.Seen.{IsLoadableKind}
 use Rattle.node_copies.specs.sync_ids.specs.Tables.{IsDepth}
 use Rattle.world_semantics.specs.World.{pair_at_boot}
 use Rattle.process_copies.specs.Seen.{Placed}
+use Rattle.gd_words.specs.declared.limits.TheConstants.{MOST_SECTORS}
 
 -- the process of a number in a site at its beginning
 abbrev pub placed_at_boot : Site → ℕ → ProcessSpec → Placed
@@ -26,7 +27,7 @@ placed_at_boot site number spec = record {
 
 -- a disc has 1 to 64 sectors
 abbrev pub HasSectors : Kind → Type 0
-HasSectors (kind.Disc sectors mirrored) = (1 ≤ sectors) × (sectors ≤ 64)
+HasSectors (kind.Disc sectors mirrored) = (1 ≤ sectors) × (sectors ≤ MOST_SECTORS)
 HasSectors (kind.Pair program) = Unit {0}
 
 -- the files of a process are of depths from 1 to 4

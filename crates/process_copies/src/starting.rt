@@ -10,6 +10,7 @@ ghost use Rattle.node_copies.specs.machine_states.specs.Drives.{states_at_boot};
 ghost use Rattle.world_semantics.specs.World.{device_at_boot};
 ghost use Rattle.node_copies.specs.Seen.{drives_on, file_row, sectors_on};
 ghost use Rattle.process_copies.specs.Starting.{HasAddress, HasSectors, IsStartable, placed_at_boot};
+ghost use Rattle.gd_words.specs.declared.limits.TheConstants.{MOST_SECTORS};
 
 use crate::copies::ProcessCopies;
 use crate::sent::SentCheckpoints;
@@ -129,7 +130,7 @@ fn start_device(alloc: Global, what: &Kind) -> Result<Option<Disc>, NoMemory>
 /// A disc on which nothing was written, with two drives if it is mirrored.
 fn start_disc(alloc: Global, sectors: u8, mirrored: bool) -> Result<Disc, NoMemory>
     requires some { 1 ≤ sectors }
-    requires few { sectors ≤ 64 }
+    requires few { sectors ≤ MOST_SECTORS }
     ensures { IfOk result (λ disc. disc
         ≡ all_working (blanks sectors) (if mirrored then Some (blanks sectors) else None)) }
 {

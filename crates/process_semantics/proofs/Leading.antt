@@ -171,7 +171,8 @@ module _ (self : Statement) (after way : List Entry) where
       test-stays variable from to down step body last is (subst (λ (first : List Entry). IsAmong way (ways_from first))
       same on)
   inner-stays (What-F.For variable from to down step body last) is holds one (inr among) on =
-      elim (among-either one (rests body (Last self ∷ Test self ∷ after)) ((Last self ∷ Test self ∷ after) ∷ []) among) [
+      elim (among-either one (rests body (Last self ∷ Test self ∷ after))
+      ((Last self ∷ Test self ∷ after) ∷ []) among) [
         | inl in_body ↦ round-stays self after way variable from to down step body last
             (holds (Last self ∷ Test self ∷ after) one way in_body on)
         | inr in_last ↦ among-one (StaysBy (What-F.For variable from to down step body last) self after) way (Test self

@@ -10,7 +10,7 @@ use Rattle.process_semantics.specs.Rests.{rests_of}
 abbrev pub Remains : List Statement → List Entry → Type 0
 Remains body rest = (rest ≡ []) ⊎ IsAmong rest (rests_of body)
 
--- the ways into a statement, where others come after it: either branch of an IF, the body of a WHILE or of a DO and then
+-- the ways into a statement, if others come after it: either branch of an IF, the body of a WHILE or of a DO and then
 -- its test again, the test of a FOR
 abbrev pub ways_into : Statement → List Entry → What-F What Statement → List (List Entry)
 ways_into self after (What-F.If test first second) = (runs_of first ++ after) ∷ (runs_of second ++ after) ∷ []

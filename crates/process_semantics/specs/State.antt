@@ -18,8 +18,8 @@ use Rattle.tal_values.specs.tal_tree.specs.declared.statement.What.{end_of-State
 use Rattle.tal_values.specs.tal_tree.specs.declared.statement.What.{more_of-Statement}
 use Rattle.tal_values.specs.Value.{Memory, value_of}
 
--- what remains to be done in a procedure: a statement by its own number, which of an IF, a WHILE or a DO is its test; the
--- test of a FOR; or the last assignment of a FOR
+-- what remains to be done in a procedure: a statement by its own number, which of an IF, a WHILE or a DO is its test;
+-- the test of a FOR; or the last assignment of a FOR
 pub data Entry : Type 0 where
   Run : Statement → Entry
   Test : Statement → Entry

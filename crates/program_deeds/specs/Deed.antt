@@ -58,8 +58,8 @@ deed_run after statement What-F.CheckMonitor = Passes
 deed_run after statement (What-F.Open file) = Passes
 deed_run after statement What-F.Stop = Stops
 
--- what is done at a FOR's test: the body, its last assignment and the test again come next while the variable isn't past
--- the limit
+-- what is done at a FOR's test: the body, its last assignment and the test again come next while the variable isn't
+-- past the limit
 abbrev pub deed_test : List Entry → Statement → What-F What Statement → Deed
 deed_test after statement (What-F.For variable from to down step body last) =
     Tests (Compare (bound_by down) (Read (spot_of variable)) to)

@@ -68,7 +68,7 @@ fn digits_value(digits: &[u8]) -> u64
 {
     let mut value = 0;
     for c in digits {
-        value = 10 * value + u64::from(*c - b'0');
+        value = value * 10 + u64::from(*c - b'0');
     }
     value
 }

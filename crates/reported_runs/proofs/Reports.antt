@@ -36,7 +36,7 @@ use Rattle.report_judge.specs.Reported.{AreRising, IsReported}
 use Rattle.command_dues.specs.Decided.{IsDue, IsDueOn, IsReportOf}
 use Rattle.command_dues.specs.Mirrors.{mirror_at, mirrors_from}
 use Rattle.command_dues.specs.RunEnds.{acts_of_run, closing_of, shown_in}
-use Rattle.command_dues.specs.Stopped.{stopped_from}
+use Rattle.command_dues.specs.site_machine.specs.Stopped.{stopped_from}
 use Rattle.command_dues.specs.Written.{text_of, text_of_run, text_telling}
 use Rattle.command_dues.specs.declared.due.Due.TheVariants as due
 use Rattle.command_dues.specs.declared.due.Report.{Report}

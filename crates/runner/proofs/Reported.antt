@@ -16,7 +16,7 @@ use Rattle.command_dues.specs.trace_print.specs.declared.mirrors.MirrorDrives.{M
 use Rattle.command_dues.specs.Decided.{IsReportOf}
 use Rattle.command_dues.specs.RunEnds.{closing_of, load_counts, shown_in}
 use Rattle.command_dues.specs.Mirrors.{mirrors_from}
-use Rattle.command_dues.specs.Stopped.{stopped_from}
+use Rattle.command_dues.specs.site_machine.specs.Stopped.{stopped_from}
 use Rattle.command_dues.specs.Written.{text_telling, told_acts}
 use Rattle.command_dues.specs.declared.due.Report.{Report}
 use Rattle.command_dues.specs.declared.task.Telling.TheVariants.{Lines, Counts}

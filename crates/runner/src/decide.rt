@@ -12,7 +12,6 @@ ghost use Rattle.command_dues.specs.Decided.{IsDueOfAdvice};
 ghost use Rattle.command_dues.specs.Decided.{IsReportOf, IsSpelt, IsOfWholeDeck, due_of_fault, reads_deck};
 
 use crate::mirrors::mirrors_of;
-use crate::stopped::stopped_processors;
 use crate::sweep::swept;
 use crate::verified::due_of_verify;
 use accepted_decks::{
@@ -20,11 +19,12 @@ use accepted_decks::{
 };
 use command_dues::{
     AdvisedSite, Deck, Due, RefusedSite, Report, RunEnd, SiteAdvice, Task, Telling, advise_all,
-    read_deck, run,
+    read_deck, run, stopped_processors,
 };
 use command_words::{Command, asked_by};
 use gd_io::{Source, SourceFault, read_all};
 use gd_words::NoMemory;
+use gd_words::limits::MOST_DECK_BYTES;
 use load_deck::load_text;
 use logs::Shared;
 use player::ProcessorStop;
@@ -32,9 +32,6 @@ use shown_sectors::sectors_after;
 use std::alloc::Global;
 use tal_tree::DeckFault;
 use verdicts::first_refused;
-
-/// A deck has at most this many bytes.
-const MOST_BYTES: usize = 1_048_576;
 
 /// What is due: by the words, then by reading, then by the deck, then by the run. All memory is taken here.
 pub fn decide<S: Source>(alloc: Global, words: &[String], source: &mut S) -> Due
@@ -93,7 +90,7 @@ fn due_of_source<S: Source>(alloc: Global, task: Task, source: &mut S) -> Due
     ensures unfailing { S.sure source.old → result ≢ Due.ReadFault }
     ensures read_whole { IsOfWholeDeck result → IsAtEnd (S.left source.new) }
 {
-    match read_all(alloc, source, MOST_BYTES) {
+    match read_all(alloc, source, MOST_DECK_BYTES) {
         Ok(bytes) => due_of_bytes(alloc, task, bytes.as_slice()),
         Err(SourceFault::Failed) => Due::ReadFault,
         Err(SourceFault::TooLong) => Due::DeckRefused(DeckFault::TooLong),

@@ -10,7 +10,6 @@
 mod decide;
 pub mod entry;
 mod mirrors;
-mod stopped;
 mod sweep;
 mod verified;
 

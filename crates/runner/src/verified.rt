@@ -10,12 +10,10 @@ use crate::decide::due_of_fault;
 use accepted_decks::an_accepted_deck_meets_the_premises;
 use command_dues::{Deck, Due, RefusedSite, VerifyFault, deck_end, read_deck, verify};
 use gd_io::{Source, SourceFault, read_all};
+use gd_words::limits::MOST_INPUT_BYTES;
 use std::alloc::Global;
 use tal_tree::{DeckFault, Site};
 use verdicts::first_refused;
-
-/// A deck and its report have at most this many bytes together.
-const MOST_BYTES: usize = 67_108_864;
 
 /// Judges a report by the deck before it.
 pub(crate) fn due_of_verify<S: Source>(alloc: Global, source: &mut S) -> Due
@@ -24,7 +22,7 @@ pub(crate) fn due_of_verify<S: Source>(alloc: Global, source: &mut S) -> Due
     ensures unfailing { S.sure source.old → result ≢ Due.ReadFault }
     ensures read_whole { IsOfWholeDeck result → IsAtEnd (S.left source.new) }
 {
-    match read_all(alloc, source, MOST_BYTES) {
+    match read_all(alloc, source, MOST_INPUT_BYTES) {
         Ok(bytes) => due_of_input(alloc, bytes.as_slice()),
         Err(SourceFault::Failed) => Due::ReadFault,
         Err(SourceFault::TooLong) => Due::DeckRefused(DeckFault::TooLong),

@@ -15,7 +15,7 @@ ghost use Rattle.command_dues.specs.Decided.{IsDue, IsOfWholeDeck, IsReportOf, r
 ghost use Rattle.command_dues.specs.Ends.{Ends};
 ghost use Rattle.command_dues.specs.Mirrors.{mirrors_from};
 ghost use Rattle.command_dues.specs.RunEnds.{acts_of_run, shown_in};
-ghost use Rattle.command_dues.specs.Stopped.{stopped_from};
+ghost use Rattle.command_dues.specs.site_machine.specs.Stopped.{stopped_from};
 ghost use Rattle.command_dues.specs.Written.{IsWritten, outcome_of, text_of};
 ghost use Rattle.command_dues.specs.declared.due.Due.{Due};
 ghost use Rattle.command_dues.specs.declared.due.Report.{Report};

@@ -5,7 +5,7 @@ ghost use Rattle.tal_tree.specs.declared.site.Site.{Site};
 ghost use Rattle.path_semantics.specs.declared.reason.RefusalFault.{RefusalFault};
 ghost use Rattle.report_judge.specs.declared.judge.Why.{Why};
 ghost use Rattle.command_dues.specs.Numbers.{status_number};
-ghost use Rattle.command_dues.specs.Stopped.{stopped_from};
+ghost use Rattle.command_dues.specs.site_machine.specs.Stopped.{stopped_from};
 ghost use Rattle.command_dues.specs.Tasks.{can_stop, judges, load_task};
 ghost use Rattle.command_dues.specs.declared.outcome.Status.TheVariants as status;
 ghost use Rattle.command_dues.specs.declared.task.Task.TheVariants.{Advise, Check, Run, Sweep};

@@ -6,10 +6,11 @@ use Rattle.player.specs.declared.stop.ProcessorStop.{ProcessorStop}
 use Rattle.line_lengths.specs.Lengths as any_machine
 use Rattle.line_lengths.specs.Lengths.{Room}
 use Rattle.schedule_runs.specs.Runs.{sizes_of}
+use Rattle.gd_words.specs.declared.limits.TheConstants.{MOST_PACKETS}
 
 -- bus X has room for 4,096 packets, and bus Y isn't used
 abbrev pub one_bus : Room
-one_bus = record { x = 4096; y = 0 }
+one_bus = record { x = MOST_PACKETS; y = 0 }
 
 -- a round on a site
 abbrev pub most_in_round : Site → ℕ

@@ -7,5 +7,5 @@
 
 pub mod rows;
 
-pub use packet_runs::{Machine, Ran, run};
+pub use packet_runs::{Machine, Ran, run, stopped_processors};
 pub use rows::sweep;

@@ -1,8 +1,7 @@
 ghost use Rattle.std.specs.Prelude.{◌≡◌};
 ghost use Rattle.letters.specs.world_semantics.specs.World.{is_running};
 
-/// The node that carries the terminals.
-pub const TERMINAL_NODE: u8 = 16;
+pub use logs::TERMINAL_NODE;
 
 /// Whether a node runs: a processor that hasn't stopped, or the node of the terminals.
 pub fn is_running(stopped: &[bool], node: u8) -> bool

@@ -1,5 +1,6 @@
 pub mod Needs
 pub mod Seen
+pub mod Stopped
 pub mod Told
 pub use Rattle.open_links.specs.world_copies.specs.node_copies
 pub use Rattle.open_links.specs.world_copies.specs.process_copies

@@ -16,6 +16,7 @@ mod marking;
 mod posting;
 mod reloading;
 mod running;
+pub mod stopped;
 mod ticking;
 mod turning;
 mod whole;
@@ -27,3 +28,4 @@ pub use open_links::{
     CopyControl, CopyShare, Downs, NodeCopy, NodeLinks, Process, ProcessCopies, RequestName,
     Terminal, Waiting, a_closed_world_has_the_closed_run, copy_request,
 };
+pub use stopped::stopped_processors;

@@ -6,7 +6,7 @@ use Rattle.tal_tree.specs.declared.site.Site.{Site}
 use Rattle.tal_tree.specs.declared.site.ProcessSpec.{ProcessSpec}
 use Rattle.world_semantics.specs.Messages.{Sending, Cause}
 use Rattle.world_semantics.specs.Rules.{Change, by_own, by_checkpoint, by_request, by_early_request, by_enter, by_print}
-use Rattle.world_semantics.specs.Rules.{by_stop, by_mark, stopped_pair, pair_at_down, taker, begun, by_reload}
+use Rattle.world_semantics.specs.Rules.{by_stop, by_mark, stopped_pair, pair_at_down, taker, new_core, by_reload}
 use Rattle.world_semantics.specs.Rules.{pair_after_down}
 use Rattle.world_semantics.specs.World.{World, copy_of}
 use Rattle.world_semantics.proofs.Growing.{AreStopped}
@@ -114,11 +114,11 @@ module _ (site : Site) (fit : IsFit site) where
         processes = reload-all (SoundAs site inv.ledger (events + 0)) site processor w.processes
             (λ number pair at. (let was = inv.processes number pair at in
             let count = was.2.count in
-            let core = begun site number (slice_get site.processes number) pair.first.core in
+            let core = new_core site number (slice_get site.processes number) pair.first.core in
             let held = reloaded-held core pair (pair.first.processor == processor)
             (pair.second.processor == processor) in
             let begins : HasDone site number was.0 [] core =
-            subst (λ (o : Option ProcessSpec). HasDone site number was.0 [] (begun site number o pair.first.core))
+            subst (λ (o : Option ProcessSpec). HasDone site number was.0 [] (new_core site number o pair.first.core))
             (sym was.1) nothing_done in
             let seat = seated.pairs number pair at in
             let fits = fit.seats number seat.0 seat.1 in

@@ -12,12 +12,10 @@ use crate::plain_token::{PlainToken, expect};
 use crate::statement::{row, statement};
 use crate::stop::BuildFault;
 use gd_words::List as Items;
+use gd_words::limits::MOST_LEVELS;
 use std::alloc::Global;
 use tal_syntax::{Procedure, Text};
 use tal_tokens::Token;
-
-/// How many levels a text may open, that of a procedure's own statements counted.
-const LEVELS: u8 = 33;
 
 /// `heading { local } BEGIN { local } statement { ";" statement } END ";"`
 fn procedure(alloc: Global, tokens: &[Token]) -> Result<(Procedure, &[Token]), BuildFault>
@@ -27,9 +25,9 @@ fn procedure(alloc: Global, tokens: &[Token]) -> Result<(Procedure, &[Token]), B
     let (outer, after) = locals(alloc, after)?;
     let (begin, after) = expect(PlainToken::Begin, after)?;
     let (inner, after) = locals(alloc, after)?;
-    let (first, after) = statement(alloc, LEVELS, after)?;
+    let (first, after) = statement(alloc, MOST_LEVELS as u8, after)?;
     let first = first.into_inner();
-    let (more, after) = row(alloc, LEVELS, after)?;
+    let (more, after) = row(alloc, MOST_LEVELS as u8, after)?;
     let (end, after) = expect(PlainToken::End, after)?;
     let (last, rest) = expect(PlainToken::Semicolon, after)?;
     let procedure = Procedure {

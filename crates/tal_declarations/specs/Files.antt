@@ -19,6 +19,7 @@ use Rattle.tal_names.specs.Names.{is_declared, meaning_in, with_name}
 use Rattle.tal_names.specs.Places.{constant_of, name_of_argument, arguments_of}
 use Rattle.tal_names.specs.Scopes.{meaning_of}
 use Rattle.tal_names.specs.Systems.{system_of}
+use Rattle.gd_words.specs.declared.limits.TheConstants.{MOST_FILES}
 
 -- a procedure that is declared after a place isn't known there as a constant; this one and those before it are
 abbrev pub declared_before : ℕ → Option Meaning → Option Meaning
@@ -56,7 +57,7 @@ depth_of (Some value) = if int_le (pos 1) value && int_le value (pos 4) then cas
 abbrev pub with_file : Files → List ℕ → ℕ → g.Argument → ℕ → Files
 with_file f name item string depth =
     if is_declared name f.names then f else record {
-      names = with_name f.names name (file_by string item (min 8 (length f.uses)));
+      names = with_name f.names name (file_by string item (min MOST_FILES (length f.uses)));
       uses = f.uses ++ record { item = item; target = target_of string; depth = depth } ∷ [];
     }
 

@@ -16,6 +16,7 @@ use Rattle.tal_declarations.specs.declared.table.Extent.{Extent}
 use Rattle.tal_names.specs.Faults.{fault_at, if_so}
 use Rattle.tal_names.specs.Names.{Declarations, is_declared, meaning_in, with_name}
 use Rattle.tal_names.specs.Systems.{system_of}
+use Rattle.gd_words.specs.declared.limits.TheConstants.{MOST_ARRAY_WORDS, MOST_GLOBALS, MOST_GLOBAL_WORDS}
 
 -- a name can't be declared where it is declared before, or is the system's
 abbrev pub is_taken : Declarations → List ℕ → Bool
@@ -111,9 +112,9 @@ extent_of names (g.bounded start low colon high close) =
 -- at most 64 global names, 1,024 words, and 256 words an array
 abbrev pub item_limits : Declared → At → ℕ → List RuleFault
 item_limits d at words =
-    if_so (nat_le 64 (length d.items)) (fault_at at (Limit 1))
-    ++ if_so (nat_lt 1024 (d.words + words)) (fault_at at (Limit 2))
-    ++ if_so (nat_lt 256 words) (fault_at at (Limit 3))
+    if_so (nat_le MOST_GLOBALS (length d.items)) (fault_at at (Limit 1))
+    ++ if_so (nat_lt MOST_GLOBAL_WORDS (d.words + words)) (fault_at at (Limit 2))
+    ++ if_so (nat_lt MOST_ARRAY_WORDS words) (fault_at at (Limit 3))
 
 abbrev pub item_faults : Declared → g.Item → List RuleFault
 item_faults d (g.item at name bounds) =
@@ -121,9 +122,9 @@ item_faults d (g.item at name bounds) =
 
 -- what an item is declared as. Items past the limit all have the number 64, which plays no part
 abbrev pub item_meaning : Shape → ℕ → Meaning
-item_meaning shape.Simple before = m.Simple (min 64 before)
-item_meaning (shape.Array low high) before = m.Array (min 64 before)
-item_meaning (shape.File number) before = m.Simple (min 64 before)
+item_meaning shape.Simple before = m.Simple (min MOST_GLOBALS before)
+item_meaning (shape.Array low high) before = m.Array (min MOST_GLOBALS before)
+item_meaning (shape.File number) before = m.Simple (min MOST_GLOBALS before)
 
 -- with one more item. The words past the limit count as 1025
 abbrev pub with_extent : Declared → List ℕ → Extent → Declared

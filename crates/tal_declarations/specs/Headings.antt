@@ -13,6 +13,7 @@ use Rattle.tal_names.specs.Faults.{fault_at, if_so}
 use Rattle.tal_declarations.specs.Globals.{is_taken, taken_faults}
 use Rattle.tal_names.specs.Names.{Declarations, is_declared, with_name}
 use Rattle.tal_names.specs.Systems.{system_of}
+use Rattle.gd_words.specs.declared.limits.TheConstants.{MOST_LOCALS, MOST_PROCEDURES}
 
 -- the names of a list, in order
 abbrev pub names_of : g.Names → List Named
@@ -32,7 +33,7 @@ locals_of (g.more_locals l rest) = local_names l ++ locals_of rest
 
 -- the names declared as the next locals. Those past the limit all have the number 12, which plays no part
 abbrev pub with_local : Declarations → List ℕ → Declarations
-with_local ds name = with_name ds name (m.Local (min 12 (length ds)))
+with_local ds name = with_name ds name (m.Local (min MOST_LOCALS (length ds)))
 
 abbrev pub with_locals : Declarations → List Named → Declarations
 with_locals ds [] = ds
@@ -40,7 +41,7 @@ with_locals ds (n ∷ ns) = with_locals (with_local ds n.name) ns
 
 -- at most 12 parameters and locals
 abbrev pub count_faults : Declarations → At → List RuleFault
-count_faults before at = if_so (nat_le 12 (length before)) (fault_at at (Limit 6))
+count_faults before at = if_so (nat_le MOST_LOCALS (length before)) (fault_at at (Limit 6))
 
 -- a parameter stands among the locals before BEGIN, and once in its list
 abbrev pub parameter_faults : Declarations → Declarations → Named → List RuleFault
@@ -92,7 +93,7 @@ main_faults false at bare (g.is_main word) = if_so (not bare) (fault_at at Prolo
 -- at most 64 procedures, of different names, one of them MAIN
 abbrev pub heading_faults : Headed → g.Heading → List RuleFault
 heading_faults h (g.heading gives proc at name listed main end) =
-    taken_faults h.names at name ++ if_so (nat_le 64 h.count) (fault_at at (Limit 5))
+    taken_faults h.names at name ++ if_so (nat_le MOST_PROCEDURES h.count) (fault_at at (Limit 5))
     ++ main_faults (is_some h.main) at (not (does_give gives) && (length (parameters_of listed) == 0)) main
 
 abbrev pub main_number : Option ℕ → ℕ → g.Main → Option ℕ
@@ -108,7 +109,7 @@ with_procedure names name m = if is_some (system_of name) then names else with_n
 abbrev pub with_heading : Headed → g.Heading → Headed
 with_heading h (g.heading gives proc at name listed main end) = record {
   names = with_procedure h.names name (m.Procedure h.count (does_give gives) (length (parameters_of listed)));
-  count = min 64 (h.count + 1);
+  count = min MOST_PROCEDURES (h.count + 1);
   main = main_number h.main h.count main;
 }
 

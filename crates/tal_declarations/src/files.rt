@@ -10,6 +10,7 @@ ghost use Rattle.tal_syntax.specs.Seen.{seen_row};
 
 use crate::globals::{atom_of, constant_value};
 use crate::table::Files;
+use gd_words::limits::MOST_FILES;
 use gd_words::{Ident, NoMemory};
 use tal_names::alone::{argument, argument_count, constant_of, name_of_argument};
 use tal_names::lookup::meaning_of;
@@ -18,9 +19,6 @@ use tal_names::scope::Scope;
 use tal_names::system::{System, system_of};
 use tal_syntax::{Argument, Arguments, Atom, Next, Otherwise, Statement};
 use tal_tree::{FileUse, Target};
-
-/// The most files.
-const FILES: usize = 8;
 
 /// What a found name means to the procedure of this number: a procedure that stands after it isn't known to it.
 fn declared_before(number: u16, found: Option<Meaning>) -> Option<Meaning>
@@ -130,7 +128,7 @@ fn add_file(
     if files.names.is_declared(name) {
         return Ok(());
     }
-    let number = files.uses.len().min(FILES) as u8;
+    let number = files.uses.len().min(MOST_FILES as usize) as u8;
     files.names.declare(name, file_by(string, item, number))?;
     files.uses.push(FileUse {
         item,

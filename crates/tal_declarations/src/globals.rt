@@ -12,6 +12,7 @@ ghost use Rattle.tal_syntax.specs.Seen.{seen_atom, seen_constant, seen_bounds, s
 ghost use Rattle.tal_syntax.specs.Seen.{seen_literals, seen_globals, seen_lines};
 
 use crate::table::{Declared, Extent};
+use gd_words::limits::{MOST_ARRAY_WORDS, MOST_GLOBAL_WORDS, MOST_GLOBALS};
 use gd_words::{Ident, List, NoMemory, wrap_neg};
 use std::alloc::Global;
 use tal_names::fault::{Rule, RuleFault};
@@ -21,15 +22,6 @@ use tal_names::names::Names;
 use tal_names::system::system_of;
 use tal_syntax::{At, Atom, Bounds, Constant, Globals, Item, Literal, NextItem, NextLiteral};
 use tal_tree::Shape;
-
-/// The most global names.
-const NAMES: usize = 64;
-
-/// The most words of all globals.
-const WORDS: u32 = 1024;
-
-/// The most words of an array.
-const ARRAY: u32 = 256;
 
 /// Whether a name can't be declared.
 pub fn is_taken(names: &Names, name: Ident) -> bool
@@ -232,11 +224,11 @@ fn judge_limits(
 ) -> Option<RuleFault>
     ensures { result ≡ least so_far (item_limits declared.now at words) }
 {
-    let past_names = declared.items.len() >= NAMES;
-    let past_words = WORDS < declared.words.saturating_add(words);
+    let past_names = declared.items.len() >= MOST_GLOBALS;
+    let past_words = MOST_GLOBAL_WORDS < declared.words.saturating_add(words);
     let so_far = with_fault_if(so_far, past_names, at, Rule::Limit(1));
     let so_far = with_fault_if(so_far, past_words, at, Rule::Limit(2));
-    with_fault_if(so_far, ARRAY < words, at, Rule::Limit(3))
+    with_fault_if(so_far, MOST_ARRAY_WORDS < words, at, Rule::Limit(3))
 }
 
 /// Judges an item.
@@ -254,7 +246,7 @@ fn judge_item(declared: &Declared, item: &Item, so_far: Option<RuleFault>) -> Op
 fn item_meaning(shape: Shape, before: usize) -> Meaning
     ensures { result ≡ item_meaning shape before }
 {
-    let number = before.min(NAMES) as u16;
+    let number = before.min(MOST_GLOBALS) as u16;
     match shape {
         Shape::Simple => Meaning::Simple(number),
         Shape::Array { low: _, high: _ } => Meaning::Array(number),
@@ -273,7 +265,10 @@ fn declare_item(declared: &mut Declared, item: &Item) -> Result<(), NoMemory>
         name: item.name,
         shape: extent.shape,
     })?;
-    declared.words = declared.words.saturating_add(extent.words).min(WORDS + 1);
+    declared.words = declared
+        .words
+        .saturating_add(extent.words)
+        .min(MOST_GLOBAL_WORDS + 1);
     Ok(())
 }
 

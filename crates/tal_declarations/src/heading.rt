@@ -10,6 +10,7 @@ ghost use Rattle.tal_syntax.specs.Seen.{seen_heading, seen_procedures};
 
 use crate::globals::{is_taken, judge_taken};
 use crate::table::Headed;
+use gd_words::limits::{MOST_LOCALS, MOST_PROCEDURES};
 use gd_words::{Ident, List, NoMemory};
 use std::alloc::Global;
 use tal_names::fault::{Rule, RuleFault};
@@ -19,12 +20,6 @@ use tal_names::names::Names;
 use tal_names::scope::Named;
 use tal_names::system::system_of;
 use tal_syntax::{At, Gives, Heading, Local, Main, NextName, Parameters, Procedure};
-
-/// The most parameters and locals of a procedure.
-const LOCALS: usize = 12;
-
-/// The most procedures.
-const PROCEDURES: u16 = 64;
 
 /// Puts the names that are left of a list after those before.
 fn push_names(all: &mut List<Named>, more: &[NextName]) -> Result<(), NoMemory>
@@ -84,7 +79,7 @@ pub fn locals_of(alloc: Global, locals: &[Local]) -> Result<List<Named>, NoMemor
 fn declare_local(names: &mut Names, name: Ident) -> Result<(), NoMemory>
     ensures { OnOk result (names.new ≡ with_local names.old name) }
 {
-    let number = names.len().min(LOCALS) as u8;
+    let number = names.len().min(MOST_LOCALS) as u8;
     names.declare(name, Meaning::Local(number))?;
     Ok(())
 }
@@ -103,7 +98,7 @@ pub fn declare_locals(names: &mut Names, locals: &[Named]) -> Result<(), NoMemor
 fn judge_count(before: &Names, at: At, so_far: Option<RuleFault>) -> Option<RuleFault>
     ensures { result ≡ least so_far (count_faults before.now at) }
 {
-    with_fault_if(so_far, before.len() >= LOCALS, at, Rule::Limit(6))
+    with_fault_if(so_far, before.len() >= MOST_LOCALS, at, Rule::Limit(6))
 }
 
 /// Judges a parameter.
@@ -275,7 +270,7 @@ fn judge_heading(headed: &Headed, heading: &Heading, so_far: Option<RuleFault>) 
 {
     let at = heading.at;
     let so_far = judge_taken(&headed.names, at, heading.name, so_far);
-    let so_far = with_fault_if(so_far, headed.count >= PROCEDURES, at, Rule::Limit(5));
+    let so_far = with_fault_if(so_far, headed.count >= MOST_PROCEDURES, at, Rule::Limit(5));
     let bare = !does_give(heading.gives) && parameter_count(&heading.parameters) == 0;
     judge_main(headed.main.is_some(), at, bare, heading.main, so_far)
 }
@@ -315,7 +310,7 @@ fn declare_heading(headed: &mut Headed, heading: &Heading) -> Result<(), NoMemor
     };
     declare_procedure(&mut headed.names, heading.name, meaning)?;
     headed.main = main_number(headed.main, headed.count, heading.main);
-    headed.count = headed.count.saturating_add(1).min(PROCEDURES);
+    headed.count = headed.count.saturating_add(1).min(MOST_PROCEDURES);
     Ok(())
 }
 

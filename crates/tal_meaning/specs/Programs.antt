@@ -19,6 +19,7 @@ use Rattle.tal_names.specs.Names.{Declarations, meaning_in}
 use Rattle.tal_rules.specs.Statements.{after}
 use Rattle.tal_rules.specs.Texts.{scope_of, gives_by, entered, after_procedure, first_progress, headed_text, files_by}
 use Rattle.tal_meaning.specs.Statements.{statements_of, row_statements}
+use Rattle.tal_tree.specs.gd_words.specs.declared.limits.TheConstants.{MOST_LOCALS}
 
 -- the variable of a file has its number
 abbrev pub shape_by : Shape → Option ℕ → Shape
@@ -49,7 +50,7 @@ abbrev pub procedure_with : g.Heading → g.Locals → List Statement → Proced
 procedure_with h inner body = record {
   name = name_by h;
   gives = gives_by h;
-  parameters = min 12 (length (parameters_by h));
+  parameters = min MOST_LOCALS (length (parameters_by h));
   locals = texts_of (parameters_by h ++ locals_of inner);
   body = body;
 }

@@ -17,10 +17,7 @@ use tal_rules::text::{Tables, enter, entered, first_progress, judge_text, passed
 use tal_rules::walk::{Progress, Walk};
 use tal_rules::{does_give, locals_of, parameters_of};
 use tal_syntax::{Next, Statement, Text};
-use tal_tree::{Ident, Item, List, NoMemory, Procedure, Program, Shape, TalFault};
-
-/// The most parameters and locals of a procedure.
-const LOCALS: usize = 12;
+use tal_tree::{Ident, Item, List, MOST_LOCALS, NoMemory, Procedure, Program, Shape, TalFault};
 
 /// The shape of an item, which is that of a file where an OPEN names it.
 fn shape_by(declared: Shape, file: Option<u8>) -> Shape
@@ -71,7 +68,7 @@ fn texts_of(alloc: Global, parameters: &[Named], inner: &[Named]) -> Result<List
 fn count_of(parameters: &[Named]) -> u8
     ensures { result ≡ min 12 (length parameters.now) }
 {
-    parameters.len().min(LOCALS) as u8
+    parameters.len().min(MOST_LOCALS) as u8
 }
 
 /// A procedure with the statements of its body.

@@ -17,7 +17,8 @@ use Rattle.tal_tokens.specs.declared.token.Token.TheVariants as tok
 use Rattle.tal_tokens.specs.Cursor.{after, at_front, start_of_text}
 use Rattle.tal_tokens.specs.Lexeme.{keyword_first, keyword_second, keyword_third, word_token, named, numbered}
 use Rattle.tal_tokens.specs.Lexeme.{process_token, text_token, string_to, pair_token, mark_token, sign_token, paired}
-use Rattle.tal_tokens.specs.Lexeme.{signed, longest, begun_of, run_of, is_octal, value_from, at_most, is_blank}
+use Rattle.tal_tokens.specs.Lexeme.{signed, longest, begun_of, run_of, is_octal, at_most, is_blank}
+use Rattle.tal_tree.specs.gd_words.specs.Digits.{value_from}
 use Rattle.tal_tokens.specs.Lexeme.{comment_of, is_string_end, decimal_begun, name_begun, octal_begun, string_begun}
 use Rattle.tal_tokens.specs.Lexer.{with_front, lexed_by, lexed, tokens_of}
 

@@ -8,7 +8,8 @@ use Rattle.tal_syntax.specs.Expected.{AllAtMost, Viable, IsWithin, Begins, IsUne
 use Rattle.tal_syntax.specs.Expected.{IsUnfinished}
 use Rattle.tal_recogniser.specs.ExpressionTable.{Stack}
 use Rattle.tal_recogniser.specs.Machine.{trace, start}
-use Rattle.tal_recogniser.specs.Judged.{Judged, deepest}
+use Rattle.tal_recogniser.specs.Judged.{Judged}
+use Rattle.tal_tokens.specs.gd_words.specs.declared.limits.TheConstants.{MOST_LEVELS as deepest}
 use Rattle.tal_recogniser.specs.declared.judgement.Judgement.{Judgement}
 use Rattle.tal_recogniser.specs.declared.judgement.Judgement.TheVariants.{Fine, Unfinished, Unexpected, TooDeep}
 use Rattle.tal_recogniser.proofs.Exact.{front-levels, not-viable}

@@ -6,10 +6,7 @@ ghost use Rattle.tal_recogniser.specs.Judged.{Judged};
 use crate::judgement::Judgement;
 use crate::stack::Stack;
 use std::alloc::Global;
-use tal_tokens::{NoMemory, Token};
-
-/// How many levels may stand open, that of a procedure's own statement counted.
-const DEEPEST: usize = 33;
+use tal_tokens::{MOST_LEVELS, NoMemory, Token};
 
 /// Whether tokens are a text of the grammar within 33 levels, the beginning of one, or from which token on they aren't.
 pub fn judge(alloc: Global, tokens: &[Token]) -> Result<Judgement, NoMemory>
@@ -20,7 +17,7 @@ pub fn judge(alloc: Global, tokens: &[Token]) -> Result<Judgement, NoMemory>
         if !stack.feed(&tokens[k])? {
             return Ok(Judgement::Unexpected(k));
         }
-        if stack.levels() > DEEPEST {
+        if stack.levels() > MOST_LEVELS {
             return Ok(Judgement::TooDeep(k));
         }
     }

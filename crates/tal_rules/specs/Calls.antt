@@ -23,6 +23,7 @@ use Rattle.tal_declarations.specs.Globals.{atom_of, constant_faults}
 use Rattle.tal_names.specs.Names.{Declarations, is_declared, with_name}
 use Rattle.tal_names.specs.Places.{first_of_argument, name_of_argument, front_name_of_argument, constant_of}
 use Rattle.tal_names.specs.Scopes.{meaning_of, name_faults}
+use Rattle.tal_syntax.specs.gd_words.specs.declared.limits.TheConstants.{MOST_FILES}
 
 -- a procedure is called with as many values as it has parameters, on a right side only where it gives a value, and only
 -- after its own declaration has ended
@@ -154,7 +155,7 @@ is_opened s opened (Some a) = name_opened s opened (name_of_argument a)
 -- at most 8 files
 abbrev pub file_limit : ℕ → Option g.Argument → List RuleFault
 file_limit opened None = []
-file_limit opened (Some a) = if_so (nat_le 8 opened) (fault_at (first_of_argument a) (Limit 4))
+file_limit opened (Some a) = if_so (nat_le MOST_FILES opened) (fault_at (first_of_argument a) (Limit 4))
 
 -- a depth is from 1 to 4, and 1 for `$RECEIVE`
 abbrev pub is_depth : Bool → ℤ → Bool

@@ -24,10 +24,11 @@ use Rattle.tal_names.specs.Faults.{fault_at, if_so}
 use Rattle.tal_names.specs.Systems.{system_of}
 use Rattle.tal_names.specs.Places.{first_of_spot, name_of_expr, arguments_of}
 use Rattle.tal_names.specs.Scopes.{meaning_of, name_faults}
+use Rattle.tal_syntax.specs.gd_words.specs.declared.limits.TheConstants.{MOST_FILES, MOST_STATEMENTS}
 
 -- the number after another. Those past the limit all count as 2,001
 abbrev pub next_number : ℕ → ℕ
-next_number n = if nat_lt 2000 n then n else n + 1
+next_number n = if nat_lt MOST_STATEMENTS n then n else n + 1
 
 -- after a statement that is neither CHECKMONITOR nor an OPEN the prologue is over, or missed
 abbrev pub stage_after : Stage → Stage
@@ -46,7 +47,7 @@ stage_after_open other = stage_after other
 
 -- how many OPENs there are; those past the limit all count as the ninth
 abbrev pub next_file : ℕ → ℕ
-next_file n = if nat_lt 8 n then n else n + 1
+next_file n = if nat_lt MOST_FILES n then n else n + 1
 
 -- what stands before the statement that follows one with a number
 abbrev pub stepped : Walk → Walk
@@ -74,7 +75,7 @@ after_call w arguments None = stepped w
 
 -- at most 2,000 numbered statements
 abbrev pub number_faults : ℕ → At → List RuleFault
-number_faults n at = if_so (nat_lt 2000 n) (fault_at at (Limit 7))
+number_faults n at = if_so (nat_lt MOST_STATEMENTS n) (fault_at at (Limit 7))
 
 -- RETURN has an expression exactly in a procedure that gives a value
 abbrev pub return_faults : Scope → At → g.Answer → List RuleFault

@@ -19,6 +19,7 @@ use Rattle.tal_declarations.specs.Headings.{parameters_of, locals_of, with_local
 use Rattle.tal_declarations.specs.Headings.{headings_faults, with_headings}
 use Rattle.tal_names.specs.Names.{Declarations}
 use Rattle.tal_rules.specs.Statements.{after, after_row, statement_faults, row_faults}
+use Rattle.tal_syntax.specs.gd_words.specs.declared.limits.TheConstants.{MOST_PROCEDURES}
 
 -- what the names of a procedure stand for, among the globals and the files of the text
 abbrev pub locals_by : g.Heading → g.Locals → Declarations
@@ -34,7 +35,7 @@ scope_of globals files number h inner =
 
 -- how many procedures there are; those past the limit all count as 64
 abbrev pub next_procedure : ℕ → ℕ
-next_procedure n = min 64 (n + 1)
+next_procedure n = min MOST_PROCEDURES (n + 1)
 
 -- the variables of the files that the procedures open
 abbrev pub procedure_files : Declarations → ℕ → Files → g.Procedure → Files

@@ -29,9 +29,7 @@ use tal_names::place::at_of_argument;
 use tal_names::scope::{Named, Scope};
 use tal_names::system::System;
 use tal_syntax::{Argument, Arguments, At, Constant, Ident, NextArgument, NextValue, NoMemory};
-
-/// The most files.
-const FILES: u8 = 8;
+use tal_tree::MOST_FILES;
 
 /// Judges a call of what a name stands for with so many arguments; `wants` where its value goes to a target.
 #[tactic(auto, using(crate::proofs::Parts::parts))]
@@ -416,7 +414,7 @@ fn judge_file(
         None => so_far,
         Some(argument) => with_fault_if(
             so_far,
-            opened >= FILES,
+            opened >= MOST_FILES,
             at_of_argument(argument),
             Rule::Limit(4),
         ),

@@ -33,12 +33,7 @@ use tal_syntax::{
     Answer, Arguments, Assign, AssignCall, At, Call, Expr, ForHead, Next, NextValue, NoMemory,
     Otherwise, Return, Statement, Step, Test, Until,
 };
-
-/// The most numbered statements.
-const STATEMENTS: u16 = 2000;
-
-/// The most files.
-const FILES: u8 = 8;
+use tal_tree::{MOST_FILES, MOST_STATEMENTS};
 
 /// What stands before a statement, and the least fault so far.
 #[derive(Clone, Copy)]
@@ -51,7 +46,7 @@ pub struct Judged {
 fn next_number(number: u16) -> u16
     ensures { result ≡ next_number number }
 {
-    if number > STATEMENTS {
+    if number > MOST_STATEMENTS {
         number
     } else {
         number + 1
@@ -90,7 +85,7 @@ fn stage_after_open(stage: Stage) -> Stage
 fn next_file(files: u8) -> u8
     ensures { result ≡ next_file files }
 {
-    if files > FILES { files } else { files + 1 }
+    if files > MOST_FILES { files } else { files + 1 }
 }
 
 /// What stands before the statement that follows one with a number.
@@ -141,7 +136,7 @@ pub fn after_call(walk: Walk, arguments: &Arguments, system: Option<System>) -> 
 fn judge_number(number: u16, at: At, so_far: Option<RuleFault>) -> Option<RuleFault>
     ensures { result ≡ least so_far (number_faults number at) }
 {
-    with_fault_if(so_far, number > STATEMENTS, at, Rule::Limit(7))
+    with_fault_if(so_far, number > MOST_STATEMENTS, at, Rule::Limit(7))
 }
 
 /// Judges whether RETURN has an expression exactly where its procedure gives a value.

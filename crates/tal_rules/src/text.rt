@@ -26,10 +26,7 @@ use tal_names::least::with_fault_if;
 use tal_names::names::Names;
 use tal_names::scope::Scope;
 use tal_syntax::{At, Heading, List, Local, Main, Next, NoMemory, Procedure, Statement, Text};
-use tal_tree::{FileUse, Item};
-
-/// The most procedures.
-const PROCEDURES: u16 = 64;
+use tal_tree::{FileUse, Item, MOST_PROCEDURES};
 
 /// The parameters and locals of a procedure.
 fn locals_by(alloc: Global, heading: &Heading, inner: &[Local]) -> Result<Names, NoMemory>
@@ -63,7 +60,7 @@ pub fn enter(
 fn next_procedure(count: u16) -> u16
     ensures { result ≡ next_procedure count }
 {
-    count.saturating_add(1).min(PROCEDURES)
+    count.saturating_add(1).min(MOST_PROCEDURES)
 }
 
 /// Makes the variables that a procedure's OPENs name those of files.

@@ -16,6 +16,7 @@ use Rattle.tal_table.specs.declared.node.Heading.{Heading}
 use Rattle.tal_table.specs.declared.node.Node.{Node}
 use Rattle.tal_table.specs.declared.node.Work.{Work}
 use Rattle.tal_table.specs.declared.node.Work.TheVariants as work
+use Rattle.gd_words.specs.declared.limits.TheConstants.{MOST_STATEMENTS}
 
 -- what remains is found at the number that comes next in it
 abbrev pub Finds : List (List Entry) → List Entry → Type 0
@@ -27,7 +28,7 @@ FindsAll places rests = (rest : List Entry) → IsAmong rest rests → Finds pla
 
 -- no number is above 2,000
 abbrev pub AreSmall : List ℕ → Type 0
-AreSmall numbers = (number : ℕ) → IsAmong number numbers → number ≤ 2000
+AreSmall numbers = (number : ℕ) → IsAmong number numbers → number ≤ MOST_STATEMENTS
 
 -- fewer than 80 left sides wait at one time while any of these statements computes what it does
 abbrev pub FewWait : List Statement → Type 0

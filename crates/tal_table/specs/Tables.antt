@@ -14,10 +14,11 @@ use Rattle.tal_table.specs.Places.{places, rest_at}
 use Rattle.tal_table.specs.Seen.{seen}
 use Rattle.tal_table.specs.declared.node.Heading.{Heading}
 use Rattle.tal_table.specs.declared.node.Node.{Node}
+use Rattle.gd_words.specs.declared.limits.TheConstants.{MOST_LOCALS}
 
 -- a call has at most 12 arguments
 abbrev pub HasFew : Deed → Type 0
-HasFew (Enters procedure arguments to) = length arguments ≤ 12
+HasFew (Enters procedure arguments to) = length arguments ≤ MOST_LOCALS
 HasFew _ = Unit {0}
 
 -- a node does what is done where this remains, and after it comes what comes after the first entry
@@ -32,7 +33,7 @@ pub record Heads (program : Program) (number : ℕ) (heading : Heading) : Type 0
   pub there : slice_get program.procedures number ≡ Some procedure
   pub first : rest_at (places program) heading.first ≡ runs_of procedure.body
   pub locals : heading.locals ≡ length procedure.locals
-  pub few : heading.locals ≤ 12
+  pub few : heading.locals ≤ MOST_LOCALS
 
 -- what remains of a procedure from a number on, where both are there
 abbrev pub told_in : Program → ℕ → ℕ → Option (List Entry)

@@ -3,7 +3,8 @@ use Rattle.std.proofs.Common.{◌≡◌, ℕ, ◌+◌, ◌-◌, ◌*◌, ◌<◌
 use Rattle.std.proofs.Common.{nat_le, false, refl, ap, sym, ◌∙◌, arith}
 use Rattle.std.proofs.lemmas.Bool.{lt-leb}
 use Rattle.std.proofs.Math.Seq.{drop-cons}
-use Rattle.tal_tokens.specs.Lexeme.{value_from, at_most}
+use Rattle.tal_tokens.specs.Lexeme.{at_most}
+use Rattle.tal_tree.specs.gd_words.specs.Digits.{value_from}
 
 times : (v base : ℕ) → 1 ≤ base → v ≤ v * base
 times v zero one = absurd (omega arith)

@@ -1,11 +1,12 @@
 -- What a text begins with: the longest piece that is a token, or the fault that stands there.
-use Rattle.std.specs.Prelude.{ℕ, ◌+◌, ◌≤◌, ◌-◌, ◌*◌, ◌==◌, ◌&&◌, ◌||◌, not, nat_le, nat_eq, Bool, pos, List, [], ◌∷◌}
+use Rattle.std.specs.Prelude.{ℕ, ◌+◌, ◌≤◌, ◌==◌, ◌&&◌, ◌||◌, not, nat_le, nat_eq, Bool, pos, List, [], ◌∷◌}
 use Rattle.std.specs.Prelude.{length, take, slice_index, Option, Some, None, unwrap_or, map, codes, if◌then◌else◌}
 use Rattle.std.specs.List.{position}
 use Rattle.std.specs.Option.{option_or}
 use Rattle.std.specs.Char.{is_ascii_digit, to_ascii_lowercase}
 use Rattle.std.specs.Cmp.Lexicographic.{pointwise}
 use Rattle.tal_tree.specs.gd_words.specs.Arithmetic.{wrap}
+use Rattle.tal_tree.specs.gd_words.specs.Digits.{value_from}
 use Rattle.tal_tree.specs.gd_words.specs.Spelling.{is_ident_sign, ident_of, name_of}
 use Rattle.tal_tree.specs.declared.fault.TalFault.TheVariants as fault
 use Rattle.tal_tokens.specs.declared.cursor.Cursor.{Cursor}
@@ -73,11 +74,6 @@ named here n (Some word) = Whole (word_token (at_front here n) word) n
 -- a name or a keyword is as long as signs of names go on
 abbrev pub name_begun : Cursor → List ℕ → Begun
 name_begun here text = named here (run_of is_ident_sign text) (ident_of (take (run_of is_ident_sign text) text))
-
--- the number that digits stand for in a base, after the value v of the digits before them
-abbrev pub value_from : ℕ → ℕ → List ℕ → ℕ
-value_from base v [] = v
-value_from base v (c ∷ digits) = value_from base (v * base + (c - 48)) digits
 
 abbrev pub at_most : ℕ → ℕ → Option ℕ
 at_most most v = if nat_le v most then Some v else None

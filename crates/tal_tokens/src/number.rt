@@ -1,6 +1,7 @@
 ghost use Rattle.std.specs.Prelude.{◌≡◌, ◌<◌, ◌≤◌, ◌+◌, length, IfSome};
 ghost use Rattle.std.specs.Option.{ForSome};
-ghost use Rattle.tal_tokens.specs.Lexeme.{at_most, value_from, numbered, decimal_begun, octal_begun, TakesUpTo};
+ghost use Rattle.tal_tokens.specs.Lexeme.{at_most, numbered, decimal_begun, octal_begun, TakesUpTo};
+ghost use Rattle.tal_tree.specs.gd_words.specs.Digits.{value_from};
 
 use crate::begun::Begun;
 use crate::cursor::Cursor;

@@ -8,21 +8,22 @@ use Rattle.std.specs.Fmt.{decimal}
 use Rattle.std.specs.List.{list_all}
 use Rattle.std.proofs.lemmas.Bool.Decides.{nat_tests}
 use Rattle.std.proofs.lemmas.Fmt.{decimal_by_steps, length-decimal-le}
-use Rattle.deck_lines.specs.Numbers.{digits_from, digits_value}
+use Rattle.tal_tree.specs.gd_words.specs.Digits.{value_from}
+use Rattle.deck_lines.specs.Numbers.{digits_value}
 use Rattle.report_reader.specs.Numbers.{begins_with_zero, is_numeral, is_plain, number_told}
 
 -- what is known of the digits of a number
 pub record AreDigitsOf (n : ℕ) (digits : List ℕ) : Type 0 where
-  pub value : digits_from 0 digits ≡ n
+  pub value : value_from 10 0 digits ≡ n
   pub all : list_all is_ascii_digit digits ≡ true
   pub some : 0 < length digits
   pub lead : 0 < n → begins_with_zero digits ≡ false
   pub plain : is_plain digits ≡ true
 
 digit-more : (value : ℕ) (digits : List ℕ) (c : ℕ)
-    → digits_from value (digits ++ c ∷ []) ≡ 10 * digits_from value digits + (c - 48)
+    → value_from 10 value (digits ++ c ∷ []) ≡ value_from 10 value digits * 10 + (c - 48)
 digit-more value [] c = refl
-digit-more value (d ∷ digits) c = digit-more (10 * value + (d - 48)) digits c
+digit-more value (d ∷ digits) c = digit-more (value * 10 + (d - 48)) digits c
 
 all-more : (digits : List ℕ) (c : ℕ) → list_all is_ascii_digit digits ≡ true → is_ascii_digit c ≡ true
     → list_all is_ascii_digit (digits ++ c ∷ []) ≡ true
@@ -73,7 +74,7 @@ digits-of n small = decimal_by_steps AreDigitsOf one more n small
         let first : begins_with_zero (ds ++ (48 + n % 10) ∷ []) ≡ false =
         lead-more ds (48 + n % 10) front.some (front.lead (omega arith)) in
         record {
-          value = digit-more 0 ds (48 + n % 10) ∙ ap (λ (v : ℕ). 10 * v + (48 + n % 10 - 48)) front.value
+          value = digit-more 0 ds (48 + n % 10) ∙ ap (λ (v : ℕ). v * 10 + (48 + n % 10 - 48)) front.value
               ∙ omega arith;
           all = all-more ds (48 + n % 10) front.all (is-digit (n % 10) (omega arith));
           some = omega (arith, length-append ds ((48 + n % 10) ∷ []));

@@ -11,7 +11,8 @@ ghost use Rattle.world_semantics.specs.declared.role.Role.TheVariants.{Acting, W
 ghost use Rattle.world_semantics.specs.World.{World};
 ghost use Rattle.world_semantics.specs.Core.{Core, next_on};
 ghost use Rattle.machine_views.specs.Views.{awaited_view_at, awaited_view, copy_view, image_of_everything, marks_in};
-ghost use Rattle.machine_views.specs.Views.{sector_views, stopped_in, terminal_view, view_of};
+ghost use Rattle.machine_views.specs.Views.{sector_views, terminal_view, view_of};
+ghost use Rattle.machine_views.specs.site_machine.specs.Stopped.{stopped_from};
 ghost use Rattle.view_guards.specs.Copies.{acting, core_of, framed, watching};
 
 /// Each field of a copy is told in its own place: of two copies that differ in all of them.
@@ -78,7 +79,7 @@ pub fn a_terminal_is_told_field_by_field()
 
 /// What is told of a world has each part in its place.
 pub fn a_world_is_told_part_by_part()
-    ensures stopped { (w : World) → (view_of w).stopped ≡ stopped_in w.stopped }
+    ensures stopped { (w : World) → (view_of w).stopped ≡ stopped_from 0 w.stopped }
     ensures reloads { (w : World) → (view_of w).reloads ≡ w.reloads }
     ensures down { (w : World) → (view_of w).down ≡ marks_in w.marks }
     ensures terminals { (w : World) → (view_of

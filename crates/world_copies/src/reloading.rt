@@ -13,12 +13,10 @@ ghost use Rattle.world_copies.specs.SiteWorld.{changed_by};
 
 use crate::copies::WorldCopies;
 use gd_words::NoMemory;
+use gd_words::limits::MOST_RELOADS;
 use process_copies::{BlankCopies, Downs, ProcessCopies, TERMINAL_NODE};
 use std::alloc::Global;
 use tal_tree::Site;
-
-/// How often a processor can be loaded again.
-const MOST_RELOADS: u8 = 127;
 
 impl WorldCopies {
     /// A processor that has stopped is loaded again, if each node that runs has marked it and it wasn't loaded too

@@ -1,7 +1,7 @@
 ghost use Rattle.std.specs.Prelude.{◌≡◌, map, not};
 ghost use Rattle.std.specs.List.{list_any};
 ghost use Rattle.process_copies.specs.computed_changes.specs.Stopped.{stopped_world};
-ghost use Rattle.process_copies.specs.message_wires.specs.Play.{has_stopped};
+ghost use Rattle.process_copies.specs.message_wires.specs.Play.{some_has_stopped};
 ghost use Rattle.world_semantics.specs.Rules.{stopped_pair};
 ghost use Rattle.world_semantics.specs.World.{is_pair_of, is_whole};
 ghost use Rattle.world_copies.specs.Changes.{changed};
@@ -16,14 +16,14 @@ impl WorldCopies {
     pub fn is_whole(&self) -> bool
         ensures { result ≡ is_whole self.now.world }
     {
-        !self.stopped.has_stopped() && are_pairs(self.processes.as_slice())
+        !self.stopped.some_has_stopped() && are_pairs(self.processes.as_slice())
     }
 
     /// Whether any processor has stopped.
-    pub fn has_stopped(&self) -> bool
-        ensures { result ≡ has_stopped self.now.world.stopped }
+    pub fn some_has_stopped(&self) -> bool
+        ensures { result ≡ some_has_stopped self.now.world.stopped }
     {
-        self.stopped.has_stopped()
+        self.stopped.some_has_stopped()
     }
 
     /// A processor stops.

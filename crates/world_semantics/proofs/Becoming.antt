@@ -25,7 +25,7 @@ use Rattle.world_semantics.specs.Passes.{copy_at_checkpoint, after_getting, afte
 use Rattle.world_semantics.specs.Rules.{Change, by_own, by_checkpoint, by_request, by_early_request, by_enter, by_print}
 use Rattle.world_semantics.specs.Rules.{by_stop, by_mark, by_reload, IsFreeFor, stopped_copy, stopped_pair, taken_over}
 use Rattle.world_semantics.specs.Rules.{taker, pair_after_down, pair_at_down, renewals_ended, blank_copy, renewed}
-use Rattle.world_semantics.specs.Rules.{begun, reloaded_by}
+use Rattle.world_semantics.specs.Rules.{new_core, reloaded_by}
 use Rattle.world_semantics.proofs.Lists.{some-same, Changed, is_new, is_same, changed, mapped}
 use Rattle.world_semantics.proofs.Roles.{Takes, taker-is, reload-all}
 
@@ -82,7 +82,8 @@ pub data Becomes (site : Site) (w : World) (number : ℕ) (pair : Pair) (sent : 
   is_blank : {era : ℕ} (processor : ℕ) → (copy_of k pair).processor ≡ processor
       → ((copy_of (other_of k) pair).processor ≢ processor → era ≡ (copy_of (other_of k) pair).era + 1)
       → Becomes site w number pair sent k (Reloading processor)
-      (blank_copy (copy_of k pair).processor era (begun site number (slice_get site.processes number) pair.first.core))
+      (blank_copy (copy_of k pair).processor era
+      (new_core site number (slice_get site.processes number) pair.first.core))
   renews : (processor : ℕ) → (copy_of (other_of k) pair).processor ≡ processor
       → Becomes site w number pair sent k (Reloading processor) (renewed (copy_of k pair))
 
@@ -208,7 +209,7 @@ mark-copies node processor pair (Some Second) e Second =
 reload-copies : {site : Site} {w : World} (number processor : ℕ) (pair : Pair) (one two : Bool)
     → (pair.first.processor == processor) ≡ one → (pair.second.processor == processor) ≡ two
     → BothBecome site w number pair (Reloading processor)
-    (reloaded_by (begun site number (slice_get site.processes number) pair.first.core) pair one two)
+    (reloaded_by (new_core site number (slice_get site.processes number) pair.first.core) pair one two)
 reload-copies number processor pair false false a b k = stays
 reload-copies number processor pair true false a b First = is_blank processor (eqb-true _ _ a) (λ _. refl)
 reload-copies number processor pair true false a b Second = renews processor (eqb-true _ _ a)

@@ -21,7 +21,7 @@ use Rattle.world_semantics.specs.Passes.{Passes, by_send, by_pass_again, by_pass
 use Rattle.world_semantics.specs.Passes.{by_apply_behind, by_end}
 use Rattle.world_semantics.specs.Rules.{Change, by_own, by_checkpoint, by_request, by_early_request, by_enter, by_print}
 use Rattle.world_semantics.specs.Rules.{by_stop, by_mark, stopped_pair, taker, pair_after_down, pair_at_down}
-use Rattle.world_semantics.specs.Rules.{after_takeover, begun, blank_copy, by_reload, reloaded_by, reloaded_pair}
+use Rattle.world_semantics.specs.Rules.{after_takeover, new_core, blank_copy, by_reload, reloaded_by, reloaded_pair}
 use Rattle.world_semantics.specs.Rules.{renewed}
 use Rattle.world_semantics.proofs.Lists.{set-all, map-all}
 use Rattle.world_semantics.proofs.Growing.{AreStopped}
@@ -487,4 +487,4 @@ change-seen w next cause sendings (by_mark node x s q n) roles are survive ok =
 change-seen {site = site} w next cause sendings (by_reload x s m t l) roles are survive ok =
     reload-all (λ n. BothSeen) site x w.processes
     (λ n p there. (let both = survive x refl n p there in
-    reload-seen x (begun site n (slice_get site.processes n) p.first.core) p both.0 both.1 (ok n p there)))
+    reload-seen x (new_core site n (slice_get site.processes n) p.first.core) p both.0 both.1 (ok n p there)))

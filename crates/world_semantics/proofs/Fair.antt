@@ -27,7 +27,7 @@ use Rattle.world_semantics.specs.Passes.{Passes, by_send, by_pass_again, by_pass
 use Rattle.world_semantics.specs.Passes.{by_apply, by_acknowledge}
 use Rattle.world_semantics.specs.Rules.{Change, by_own, by_checkpoint, by_request, by_early_request, by_enter, by_print}
 use Rattle.world_semantics.specs.Rules.{by_stop, by_mark, by_reload, stopped_pair, taker, pair_after_down}
-use Rattle.world_semantics.specs.Rules.{pair_at_down, renewals_ended, begun, reloaded_by}
+use Rattle.world_semantics.specs.Rules.{pair_at_down, renewals_ended, new_core, reloaded_by}
 use Rattle.world_semantics.specs.Follows.{IsRun}
 use Rattle.world_semantics.specs.Laws.{HasGrown}
 use Rattle.world_semantics.proofs.Beginning.{all-begin}
@@ -333,7 +333,7 @@ ended-fair number replies node processor pair ok =
 -- Reloads
 
 blank-fair : (site : Site) (number : ℕ) (replies : List Reply) (spec : Option ProcessSpec) (core : Core)
-    → Fair number replies core → Fair number replies (begun site number spec core)
+    → Fair number replies core → Fair number replies (new_core site number spec core)
 blank-fair site number replies None core ok = ok
 blank-fair site number replies (Some spec) core ok = record {
   stands = record { hand = start-hand spec.what; free = start-free spec.what };
@@ -401,7 +401,7 @@ change-fair w next cause sendings (by_mark m x s r n) ok =
 change-fair {site = site} w next cause sendings (by_reload x s m t l) ok =
     reload-all (λ n p. FairPair n w.replies p) site x w.processes
     (λ n p there. let old = ok n p there in
-    reload-fair n w.replies (begun site n (slice_get site.processes n) p.first.core) p (p.first.processor == x)
+    reload-fair n w.replies (new_core site n (slice_get site.processes n) p.first.core) p (p.first.processor == x)
     (p.second.processor == x) (blank-fair site n w.replies (slice_get site.processes n) p.first.core old.first.core)
     old)
 

@@ -12,7 +12,8 @@ use Rattle.world_semantics.specs.Passes.{Passes, by_send, by_pass_again, by_pass
 use Rattle.world_semantics.specs.Passes.{by_apply, by_acknowledge}
 use Rattle.world_semantics.specs.Rules.{Change, by_own, by_checkpoint, by_request, by_early_request, by_enter, by_print}
 use Rattle.world_semantics.specs.Rules.{by_stop, by_mark, by_reload, stopped_pair, taker, pair_after_down}
-use Rattle.world_semantics.specs.Rules.{pair_at_down, renewals_ended, begun, reloaded_by, reloaded_pair, reloaded_from}
+use Rattle.world_semantics.specs.Rules.{pair_at_down, renewals_ended, new_core, reloaded_by, reloaded_pair}
+use Rattle.world_semantics.specs.Rules.{reloaded_from}
 use Rattle.world_semantics.specs.Laws.{IsLaterPair, IsLaterTerminal}
 use Rattle.world_semantics.proofs.Lists.{some-same, IsThen, set-then, map-then, grown-none, grown-one, grown-both}
 use Rattle.world_semantics.proofs.Runs.{IsKept}
@@ -80,7 +81,7 @@ reload-then : (site : Site) (x from : ℕ) (pairs : List Pair) (j : ℕ) (pair :
     → IsThen IsLaterPair pair (slice_get (reloaded_from site x from pairs) j)
 reload-then site x from [] j pair e = absurd (cc)
 reload-then site x from (p ∷ pairs) zero pair e =
-    let core = begun site from (slice_get site.processes from) p.first.core in (
+    let core = new_core site from (slice_get site.processes from) p.first.core in (
       reloaded_pair x core p,
       refl,
       subst (λ v. IsLaterPair v (reloaded_pair x core p)) (some-same e)

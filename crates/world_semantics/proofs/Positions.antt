@@ -15,7 +15,7 @@ use Rattle.world_semantics.specs.Own.{by_reply}
 use Rattle.world_semantics.specs.Passes.{Passes, by_send, by_pass_again, by_pass, by_apply, by_acknowledge}
 use Rattle.world_semantics.specs.Passes.{kept_at_checkpoint, by_apply_behind, by_end, kept_at, point_at}
 use Rattle.world_semantics.specs.Rules.{Change, by_own, by_checkpoint, by_request, by_early_request, by_enter, by_print}
-use Rattle.world_semantics.specs.Rules.{by_stop, by_mark, stopped_pair, taker, pair_after_down, pair_at_down, begun}
+use Rattle.world_semantics.specs.Rules.{by_stop, by_mark, stopped_pair, taker, pair_after_down, pair_at_down, new_core}
 use Rattle.world_semantics.specs.Rules.{by_reload, reloaded_by, renewals_ended}
 use Rattle.world_semantics.specs.Laws.{HasGrown}
 use Rattle.world_semantics.proofs.Beginning.{all-begin}
@@ -203,5 +203,5 @@ change-bounds w next cause sendings (by_mark node x s r n) ok =
     (marking-bounds w.kept n (taker node x p) p (ok n p there)))
 change-bounds {site = site} w next cause sendings (by_reload x s m t l) ok =
     reload-all (BoundsOf w.kept) site x w.processes
-    (λ n p there. reloaded-bounds w.kept n (begun site n (slice_get site.processes n) p.first.core) p
+    (λ n p there. reloaded-bounds w.kept n (new_core site n (slice_get site.processes n) p.first.core) p
     (p.first.processor == x) (p.second.processor == x) (ok n p there))

@@ -19,7 +19,7 @@ use Rattle.world_semantics.specs.Passes.{Passes, by_send, by_pass_again, by_pass
 use Rattle.world_semantics.specs.Passes.{by_apply_behind, by_end}
 use Rattle.world_semantics.specs.Rules.{Change, by_own, by_checkpoint, by_request, by_early_request, by_enter, by_print}
 use Rattle.world_semantics.specs.Rules.{by_stop, by_mark, stopped_pair, takes_over, taker, pair_after_down}
-use Rattle.world_semantics.specs.Rules.{pair_at_down, begun, by_reload, reloaded_at, reloaded_by, reloaded_from}
+use Rattle.world_semantics.specs.Rules.{pair_at_down, new_core, by_reload, reloaded_at, reloaded_by, reloaded_from}
 use Rattle.world_semantics.proofs.Beginning.{all-begin}
 use Rattle.world_semantics.proofs.Lists.{some-same, set-all, map-all}
 use Rattle.world_semantics.proofs.Growing.{stop-stays, runs-again}
@@ -293,7 +293,7 @@ reload-roles stopped x s site number spec pair ok =
     by (pair.first.processor == x) (pair.second.processor == x) refl refl
   where
     core : Core
-    core = begun site number spec pair.first.core
+    core = new_core site number spec pair.first.core
 
     stays : (p : ℕ) → (p == x) ≡ false → slice_get (slice_set stopped x false) p ≡ slice_get stopped p
     stays p f = runs-again stopped x p (apart-of p x f)

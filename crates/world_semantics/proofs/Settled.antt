@@ -11,7 +11,7 @@ use Rattle.world_semantics.specs.Messages.{Sending, Cause}
 use Rattle.world_semantics.specs.Passes.{Passes, by_send, by_pass_again, by_pass, by_apply, by_acknowledge}
 use Rattle.world_semantics.specs.Passes.{by_apply_behind, by_end}
 use Rattle.world_semantics.specs.Rules.{Change, by_own, by_checkpoint, by_request, by_early_request, by_enter, by_print}
-use Rattle.world_semantics.specs.Rules.{by_stop, by_mark, stopped_pair, taker, pair_after_down, pair_at_down, begun}
+use Rattle.world_semantics.specs.Rules.{by_stop, by_mark, stopped_pair, taker, pair_after_down, pair_at_down, new_core}
 use Rattle.world_semantics.specs.Rules.{by_reload, reloaded_by, renewals_ended}
 use Rattle.world_semantics.proofs.Beginning.{all-begin}
 use Rattle.world_semantics.proofs.Lists.{set-all, map-all}
@@ -104,7 +104,8 @@ change-settled w next cause sendings (by_mark node x s r n) ok =
     (marking-settled (taker node x p) p (ok n p there)))
 change-settled {site = site} w next cause sendings (by_reload x s m t l) ok =
     reload-all (λ n p. AreSettled p) site x w.processes
-    (λ n p there. reloaded-settled (begun site n (slice_get site.processes n) p.first.core) p (p.first.processor == x)
+    (λ n p there.
+    reloaded-settled (new_core site n (slice_get site.processes n) p.first.core) p (p.first.processor == x)
     (p.second.processor == x) (ok n p there))
 
 pub settled-begin : (site : Site) → AllSettled (boot site)

@@ -19,7 +19,7 @@ use Rattle.world_semantics.specs.Kept.{Enters, begins, holds_on, keeps, repeats}
 use Rattle.world_semantics.specs.Messages.{Cause, Sending}
 use Rattle.world_semantics.specs.Passes.{Passes, by_acknowledge, by_apply, by_apply_behind, by_end, by_pass}
 use Rattle.world_semantics.specs.Passes.{by_pass_again, by_send}
-use Rattle.world_semantics.specs.Rules.{Change, begun, by_checkpoint, by_early_request, by_enter, by_mark, by_own}
+use Rattle.world_semantics.specs.Rules.{Change, new_core, by_checkpoint, by_early_request, by_enter, by_mark, by_own}
 use Rattle.world_semantics.specs.Rules.{by_print, by_reload, by_request, by_stop, pair_after_down, pair_at_down}
 use Rattle.world_semantics.specs.Rules.{reloaded_at, reloaded_by, stopped_pair, taker, takes_over}
 use Rattle.world_semantics.specs.Rules.{without_marks}
@@ -314,7 +314,7 @@ reload-waits : (stopped : List Bool) (marks : List Down) (x : ℕ) → AreNoneSt
 reload-waits stopped marks x none site number spec pair ok = by (pair.first.processor == x) (pair.second.processor == x)
   where
     core : Core
-    core = begun site number spec pair.first.core
+    core = new_core site number spec pair.first.core
 
     stays : {here there : ℕ} {role : Role} → Waits stopped marks role here there
         → Waits (slice_set stopped x false) (without_marks x marks) role here there
@@ -529,7 +529,7 @@ change-seated {site = site} w next cause sendings (by_mark node x s r n) ok = re
 change-seated {site = site} w next cause sendings (by_reload x s m t l) ok = record {
   processors = set-length w.stopped x false ∙ ok.processors;
   pairs = reload-all (Seats site) site x w.processes
-      (λ n p there. reloaded-seats site n (begun site n (slice_get site.processes n) p.first.core) p
+      (λ n p there. reloaded-seats site n (new_core site n (slice_get site.processes n) p.first.core) p
       (p.first.processor == x) (p.second.processor == x) (ok.pairs n p there));
 }
 

@@ -29,6 +29,7 @@ use Rattle.world_semantics.specs.Messages.{Stopping, NotingDown, Reloading, Runn
 use Rattle.world_semantics.specs.Own.{Around, around, Causes}
 use Rattle.world_semantics.specs.Passes.{Passes}
 use Rattle.world_semantics.specs.Shares.{without_held}
+use Rattle.checkpoint_image.specs.gd_words.specs.declared.limits.TheConstants.{MOST_RELOADS}
 
 -- Stops
 
@@ -144,12 +145,12 @@ reloaded_pair processor core pair =
     reloaded_by core pair (pair.first.processor == processor) (pair.second.processor == processor)
 
 -- the core of a process at its beginning; a process that a site doesn't have keeps its core
-abbrev pub begun : Site → ℕ → Option ProcessSpec → Core → Core
-begun site number None core = core
-begun site number (Some spec) core = core_at_boot site number spec
+abbrev pub new_core : Site → ℕ → Option ProcessSpec → Core → Core
+new_core site number None core = core
+new_core site number (Some spec) core = core_at_boot site number spec
 
 abbrev pub reloaded_at : Site → ℕ → ℕ → Option ProcessSpec → Pair → Pair
-reloaded_at site processor number spec pair = reloaded_pair processor (begun site number spec pair.first.core) pair
+reloaded_at site processor number spec pair = reloaded_pair processor (new_core site number spec pair.first.core) pair
 
 -- the processes from a number on, after a processor was loaded again
 abbrev pub reloaded_from : Site → ℕ → ℕ → List Pair → List Pair
@@ -164,7 +165,7 @@ without_marks processor marks = filter (λ mark. not (mark.down == processor)) m
 
 -- how often a processor can be loaded again
 abbrev pub most_reloads : ℕ
-most_reloads = 127
+most_reloads = MOST_RELOADS
 
 -- Changes
 

@@ -21,6 +21,7 @@ use Rattle.world_semantics.specs.declared.role.Role.TheVariants.{Acting, Watchin
 pub use Rattle.world_semantics.specs.declared.which.Which.{Which}
 pub use Rattle.world_semantics.specs.declared.which.Which.TheVariants.{First, Second}
 use Rattle.world_semantics.specs.Core.{Core, core_at_boot}
+use Rattle.checkpoint_image.specs.gd_words.specs.declared.limits.TheConstants.{TERMINAL_NODE}
 
 -- a copy of a process: the processor in which it is, its role, its era, the number of the last checkpoint sent or
 -- applied in that era, whether it has sent a checkpoint where it stands, whether that was acknowledged, whether it has
@@ -131,7 +132,7 @@ boot site = record {
 
 -- the node that carries the terminals. It doesn't stop
 abbrev pub terminal_node : ℕ
-terminal_node = 16
+terminal_node = TERMINAL_NODE
 
 abbrev pub runs_by : ℕ → Option Bool → Bool
 runs_by node (Some stopped) = not stopped

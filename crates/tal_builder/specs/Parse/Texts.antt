@@ -9,6 +9,7 @@ use Rattle.tal_builder.specs.PlainTokens.{plain_of}
 use Rattle.tal_builder.specs.Parse.Chains.{Found, row_by}
 use Rattle.tal_builder.specs.Parse.Declarations.{heading_at, locals_at, lines_at}
 use Rattle.tal_builder.specs.Parse.Statements.{statement_at, row_at}
+use Rattle.gd_words.specs.declared.limits.TheConstants.{MOST_LEVELS}
 
 -- a procedure: its own statements are the first of 33 levels
 abbrev pub procedure_at : List Token → Found g.Procedure
@@ -17,7 +18,7 @@ procedure_at ks =
     option_and_then (λ b. option_and_then (λ i.
     option_and_then (λ f. option_and_then (λ m. option_and_then (λ e. option_map (λ l.
     (g.procedure h.0 o.0 b.0 i.0 f.0 m.0 e.0 l.0, l.1)) (plain_of mark.Semicolon e.1)) (plain_of mark.End m.1))
-    (row_at 33 f.1)) (statement_at 33 i.1))
+    (row_at MOST_LEVELS f.1)) (statement_at MOST_LEVELS i.1))
     (locals_at b.1)) (plain_of mark.Begin o.1)) (locals_at h.1)) (heading_at ks)
 
 abbrev pub procedures_at : List Token → Found g.Procedures

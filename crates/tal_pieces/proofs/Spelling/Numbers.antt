@@ -19,7 +19,8 @@ use Rattle.tal_tokens.specs.declared.begun.Begun.TheVariants.{Whole, Broken}
 use Rattle.tal_tokens.specs.declared.cursor.Cursor.{Cursor}
 use Rattle.tal_tokens.specs.declared.token.Token.TheVariants as tok
 use Rattle.tal_tokens.specs.Cursor.{at_front}
-use Rattle.tal_tokens.specs.Lexeme.{begun_of, value_from, at_most, numbered, run_of, is_octal, is_blank}
+use Rattle.tal_tokens.specs.Lexeme.{begun_of, at_most, numbered, run_of, is_octal, is_blank}
+use Rattle.gd_words.specs.Digits.{value_from}
 use Rattle.tal_pieces.specs.Spelling.{number_text, octal_text, octal_digit}
 use Rattle.tal_pieces.proofs.Spelling.Begun.{BeginsWith, by_first, distinct, no_blank}
 use Rattle.tal_pieces.proofs.Spelling.Follow.{heads, stops, word_below, text_positive}

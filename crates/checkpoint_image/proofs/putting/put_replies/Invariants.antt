@@ -1,5 +1,5 @@
 use Rattle.std.proofs.Common.{◌≡◌, ◌++◌, take, flat_map}
-use Rattle.process_images.specs.whole_states.specs.process_semantics.specs.Words.{counted}
+use Rattle.process_images.specs.process_semantics.specs.Words.{counted}
 use Rattle.checkpoint_image.proofs.putting.put_replies.Given as goal
 
 abbrev pub invariant-loop-words : goal.invariant-loop-words

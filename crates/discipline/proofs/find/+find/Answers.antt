@@ -29,12 +29,14 @@ find_in-returns-in-Some t c =
 
 pub find_in-returns-in-Some-find_own : goal.find_in-returns-in-Some-find_own
 find_in-returns-in-Some-find_own t c =
-    found-own c.args.statement.now c.args.after c.args.number c.in-Some-find_own.found (c.in_default.ensures c.args.after)
+    found-own c.args.statement.now c.args.after c.args.number c.in-Some-find_own.found
+    (c.in_default.ensures c.args.after)
     c.in-Some-find_own.ensures
 
 pub find_in-returns : goal.find_in-returns
 find_in-returns t c =
-    found-inside c.args.statement.now c.args.after c.args.number c.find_within.result (c.in_default.ensures c.args.after)
+    found-inside c.args.statement.now c.args.after c.args.number c.find_within.result
+    (c.in_default.ensures c.args.after)
     c.in_default-find_own.ensures c.find_within.ensures
 
 pub find_before-returns-in-DoUntil : goal.find_before-returns-in-DoUntil
@@ -78,6 +80,7 @@ find_within-returns-in-None-find t c =
     found-for c.args.statement.now c.args.after c.args.number
     c.in-For.variable c.in-For.from c.in-For.to c.in-For.down c.in-For.step c.in-For.body
     c.as_slice-in-None-find_test.result.now c.in-For.last c.from-in-None-find_test.result c.in-For.is
-    c.as_slice-in-None-find_test.ensures c.from-in-None-find_test.ensures None None c.find_last.result c.find_last.result
+    c.as_slice-in-None-find_test.ensures c.from-in-None-find_test.ensures None None c.find_last.result
+    c.find_last.result
     c.in-None-find_test.ensures (λ _. c.in-None-find.ensures) (λ _ _. c.find_last.ensures c.args.after)
     (λ found same. absurd (cc)) (λ found _ same. absurd (cc)) (λ _ _. refl)

@@ -1,5 +1,5 @@
 use Rattle.std.proofs.Common.{take}
-use Rattle.tal_recogniser.specs.Judged.{deepest}
+use Rattle.tal_tokens.specs.gd_words.specs.declared.limits.TheConstants.{MOST_LEVELS as deepest}
 use Rattle.tal_recogniser.proofs.Exact.{Reached}
 use Rattle.tal_recogniser.proofs.recogniser.judge.Given as goal
 

@@ -1,5 +1,5 @@
 use Rattle.std.proofs.Common.{◌≡◌, ◌≤◌, drop}
-use Rattle.tal_tokens.specs.Lexeme.{value_from}
+use Rattle.tal_tree.specs.gd_words.specs.Digits.{value_from}
 use Rattle.tal_tokens.proofs.number.number.Given as goal
 
 -- the digits that are left bring the value to the whole number

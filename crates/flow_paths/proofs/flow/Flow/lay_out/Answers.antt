@@ -14,8 +14,8 @@ use Rattle.flow_paths.proofs.Graphs.{size, AreGraphs, left-out}
 use Rattle.flow_paths.proofs.Told.{told-exact}
 use Rattle.flow_paths.proofs.Whole.{has-room, has-few, is-closed, is-flow, one-more}
 use Rattle.flow_paths.proofs.flow.Flow.lay_out.Goals as goal
-use Rattle.flow_paths.proofs.flow.Flow.lay_out.Goals.{then-size_at-gt-MOST_NODES}
-use Rattle.flow_paths.proofs.flow.Flow.lay_out.Goals.{else-size_at-gt-MOST_NODES+in_ok-graph}
+use Rattle.flow_paths.proofs.flow.Flow.lay_out.Goals.{then-size_at-gt-MOST_WRITTEN_OUT}
+use Rattle.flow_paths.proofs.flow.Flow.lay_out.Goals.{else-size_at-gt-MOST_WRITTEN_OUT+in_ok-graph}
 
 -- the size of a procedure is found exactly where it isn't too large
 exact : (known whole : List ℕ) (k found : ℕ) → known ≡ map told whole → found ≡ size_at known k
@@ -43,7 +43,7 @@ graph-requires-clause-room c =
     (body-is c.as_slice-procedures.result.now c.args.program.now.procedures c.from.result c.loop-k.k
     c.index-procedures-from.result c.as_slice.result.now c.as_slice-procedures.ensures
     c.from.ensures c.as_slice.ensures)
-    (omega (arith, c.if-size_at-gt-MOST_NODES.false))
+    (omega (arith, c.if-size_at-gt-MOST_WRITTEN_OUT.false))
 
 pub graph-requires-clause-few : goal.graph-requires-clause-few
 graph-requires-clause-few c =
@@ -58,7 +58,7 @@ graph-requires-clause-few c =
     (body-is c.as_slice-procedures.result.now c.args.program.now.procedures c.from.result c.loop-k.k
     c.index-procedures-from.result c.as_slice.result.now c.as_slice-procedures.ensures
     c.from.ensures c.as_slice.ensures)
-    (omega (arith, c.if-size_at-gt-MOST_NODES.false))
+    (omega (arith, c.if-size_at-gt-MOST_WRITTEN_OUT.false))
 
 pub graph-requires-clause-closed : goal.graph-requires-clause-closed
 graph-requires-clause-closed c =
@@ -73,23 +73,24 @@ graph-requires-clause-closed c =
     (body-is c.as_slice-procedures.result.now c.args.program.now.procedures c.from.result c.loop-k.k
     c.index-procedures-from.result c.as_slice.result.now c.as_slice-procedures.ensures
     c.from.ensures c.as_slice.ensures)
-    (omega (arith, c.if-size_at-gt-MOST_NODES.false))
+    (omega (arith, c.if-size_at-gt-MOST_WRITTEN_OUT.false))
 
 pub loop-k-preserved : goal.loop-k-preserved
 loop-k-preserved c =
     let found : c.size_at.result ≡ told (size c.args.program.now c.loop-k.k) =
     exact c.args.sizes.now (sizes c.args.program.now) c.loop-k.k c.size_at.result c.requires.sizes
     c.size_at.ensures in
-    let all : AreGraphs c.args.program.now (c.loop-k.graphs ++ c.if-size_at-gt-MOST_NODES.graph ∷ []) =
-    elim c.if-size_at-gt-MOST_NODES.branch [
-      | then-size_at-gt-MOST_NODES w ↦
-          let none : c.if-size_at-gt-MOST_NODES.graph ≡ [] =
+    let all : AreGraphs c.args.program.now (c.loop-k.graphs ++ c.if-size_at-gt-MOST_WRITTEN_OUT.graph ∷ []) =
+    elim c.if-size_at-gt-MOST_WRITTEN_OUT.branch [
+      | then-size_at-gt-MOST_WRITTEN_OUT w ↦
+          let none : c.if-size_at-gt-MOST_WRITTEN_OUT.graph ≡ [] =
           w.graph-is ∙ w.from_nodes-graph.ensures ∙ w.new.ensures.items in
-          let large : 8192 < size c.args.program.now c.loop-k.k = omega (arith, w.if-size_at-gt-MOST_NODES.true) in
+          let large : 8192 < size c.args.program.now c.loop-k.k =
+          omega (arith, w.if-size_at-gt-MOST_WRITTEN_OUT.true) in
           subst (λ (graph : List Node). AreGraphs c.args.program.now (c.loop-k.graphs ++ graph ∷ [])) (sym none)
           (left-out c.args.program.now c.loop-k.graphs c.loop-k.invariant.graphs
           (subst (λ (n : ℕ). 8192 < size c.args.program.now n) (sym c.loop-k.invariant.count) large))
-      | else-size_at-gt-MOST_NODES+in_ok-graph w ↦
+      | else-size_at-gt-MOST_WRITTEN_OUT+in_ok-graph w ↦
           subst (λ (graph : List Node). AreGraphs c.args.program.now (c.loop-k.graphs ++ graph ∷ []))
           (sym (w.graph-is ∙ w.in_ok-graph.ensures))
           (one-more c.args.program.now c.requires.ordered c.loop-k.graphs c.loop-k.invariant.graphs c.loop-k.k
@@ -100,11 +101,11 @@ loop-k-preserved c =
           (body-is c.as_slice-procedures.result.now c.args.program.now.procedures w.from.result c.loop-k.k
           w.index-procedures-from.result w.as_slice.result.now
           c.as_slice-procedures.ensures w.from.ensures w.as_slice.ensures)
-          (omega (arith, w.if-size_at-gt-MOST_NODES.false)) (sym c.loop-k.invariant.count))
+          (omega (arith, w.if-size_at-gt-MOST_WRITTEN_OUT.false)) (sym c.loop-k.invariant.count))
     ] in
     record {
       graphs = subst (AreGraphs c.args.program.now) (sym c.in_ok-push.ensures) all;
-      count = ap length c.in_ok-push.ensures ∙ length_push c.loop-k.graphs c.if-size_at-gt-MOST_NODES.graph
+      count = ap length c.in_ok-push.ensures ∙ length_push c.loop-k.graphs c.if-size_at-gt-MOST_WRITTEN_OUT.graph
           ∙ ap (λ (n : ℕ). n + 1) c.loop-k.invariant.count;
     }
 

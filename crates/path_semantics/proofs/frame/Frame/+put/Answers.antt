@@ -39,7 +39,8 @@ put_all-loop-last-preserved t c =
     let split : c.loop-last.left.now ≡ c.in-Some.front.now ++ c.in-Some.last.now ∷ [] = c.in-Some.ensures.cases.0 in
     let few : length (numbers_of c.loop-last.left.now)
     ≡ length (numbers_of c.in-Some.front.now) + length (numbers_of (c.in-Some.last.now ∷ [])) =
-    ap (λ (ss : List Statement). length (numbers_of ss)) split ∙ numbers-last c.in-Some.front.now c.in-Some.last.now in (
+    ap (λ (ss : List Statement). length (numbers_of ss)) split
+    ∙ numbers-last c.in-Some.front.now c.in-Some.last.now in (
       ap (λ (entries : List Entry). runs_of c.in-Some.front.now ++ entries) c.in_ok-put_statement.ensures
           ∙ sym (runs-last c.in-Some.front.now c.in-Some.last.now c.loop-last.self)
           ∙ ap (λ (ss : List Statement). runs_of ss ++ c.loop-last.self) (sym split)

@@ -1,6 +1,6 @@
 use Rattle.std.proofs.Common.{◌≡◌, ◌++◌, drop}
-use Rattle.command_dues.specs.Stopped.{stopped_from}
-use Rattle.runner.proofs.stopped.stopped_processors.Given as goal
+use Rattle.site_machine.specs.Stopped.{stopped_from}
+use Rattle.site_machine.proofs.stopped.stopped_processors.Given as goal
 
 abbrev pub invariant-loop-processor : goal.invariant-loop-processor
 invariant-loop-processor l = stopped_from 0 l.machine.state.world.stopped

@@ -1,12 +1,12 @@
 ghost use Rattle.std.specs.Prelude.{◌≡◌, IfOk};
-ghost use Rattle.command_dues.specs.Stopped.{stopped_from};
+ghost use Rattle.site_machine.specs.Stopped.{stopped_from};
 
-use command_dues::Machine;
+use crate::machine::Machine;
 use gd_words::{List, NoMemory};
 use std::alloc::Global;
 
 /// The numbers of the processors that have stopped, rising.
-pub(crate) fn stopped_processors(alloc: Global, machine: &Machine) -> Result<List<u8>, NoMemory>
+pub fn stopped_processors(alloc: Global, machine: &Machine) -> Result<List<u8>, NoMemory>
     ensures { IfOk result (λ processors. processors ≡ stopped_from 0 machine.now.state.world.stopped) }
 {
     let stopped = machine.stopped();
