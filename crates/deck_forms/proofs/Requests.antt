@@ -41,6 +41,7 @@ use Rattle.deck_reader.specs.declared.told.Told.{Told}
 use Rattle.deck_reader.specs.declared.told.Told.TheVariants as told
 use Rattle.shown_forms.proofs.Lists.{IfWord}
 use Rattle.shown_forms.specs.told_reports.specs.Words.{AreWords}
+use Rattle.tal_tree.specs.declared.limit.DeckLimit.TheVariants as deck_limit
 
 -- words of 16 bits
 abbrev pub IsWordy : List ℤ → Type 0
@@ -202,7 +203,7 @@ terminal_begins outline number name target wordy = by (not (is_new outline name)
   where
     by : (a b : Bool)
         → StepWordy (terminal_told outline number name
-        (cond a (Err fault.NameTwice) (cond b (Err (fault.Limit 2))
+        (cond a (Err fault.NameTwice) (cond b (Err (fault.Limit deck_limit.Terminals))
         (Ok (record { line = number; target = target; requests = [] })))))
     by true b = tt
     by false true = tt
@@ -226,14 +227,14 @@ requests_wordy outline name terminal number (said.Send words) one wordy own =
     by (nat_le 1000 (length terminal.requests))
   where
     by : (b : Bool)
-        → StepWordy (cond b (step.Broken (broken outline number (fault.Limit 3)))
+        → StepWordy (cond b (step.Broken (broken outline number (fault.Limit deck_limit.Requests)))
         (step.Next (at.Requests outline name (record terminal { requests = terminal.requests ++ words ∷ [] }))))
     by true = tt
     by false = (wordy, all_more IsWordy terminal.requests words own one)
 requests_wordy outline name terminal number said.LongSend one wordy own = by (nat_le 1000 (length terminal.requests))
   where
-    by : (b : Bool) → StepWordy (cond b (step.Broken (broken outline number (fault.Limit 3)))
-        (step.Broken (broken outline number (fault.Limit 4))))
+    by : (b : Bool) → StepWordy (cond b (step.Broken (broken outline number (fault.Limit deck_limit.Requests)))
+        (step.Broken (broken outline number (fault.Limit deck_limit.RequestWords))))
     by true = tt
     by false = tt
 requests_wordy outline name terminal number (said.Disc placing sectors mirrored) one wordy own =
@@ -255,7 +256,8 @@ opening_wordy number said.Nothing = tt
 opening_wordy number (said.Processors count) = by (nat_lt count 2) (nat_lt 16 count)
   where
     by : (a b : Bool) → StepWordy (site_told number
-        (cond a (Err (fault.Limit 8)) (cond b (Err (fault.Limit 8)) (Ok (outline_with count)))))
+        (cond a (Err (fault.Limit deck_limit.Processors)) (cond b (Err (fault.Limit deck_limit.Processors))
+        (Ok (outline_with count)))))
     by true b = tt
     by false true = tt
     by false false = All-nil HasWordy

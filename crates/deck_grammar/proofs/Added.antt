@@ -15,6 +15,7 @@ use Rattle.deck_reader.specs.declared.outline.ProcessLines.{ProcessLines}
 use Rattle.deck_reader.specs.declared.outline.TerminalLines.{TerminalLines}
 use Rattle.deck_reader.proofs.FreshLemmas.{new_names}
 use Rattle.deck_grammar.proofs.NewNames.{IsNew, new_is}
+use Rattle.tal_tree.specs.declared.limit.DeckLimit.TheVariants as deck_limit
 
 -- the heading of a process, a disc, and a terminal whose requests are to come
 abbrev pub heading_with : Placing → Heading
@@ -40,7 +41,7 @@ heading_is outline placing =
     by : (a b c d e : Bool) → not (is_new outline placing.name) ≡ a
         → HeadingIs outline placing (cond a (Err fault.NameTwice)
         (cond b (Err fault.SameProcessor) (cond c (Err fault.NoProcessor) (cond d (Err fault.NoProcessor)
-        (cond e (Err (fault.Limit 1)) (Ok (heading_with placing)))))))
+        (cond e (Err (fault.Limit deck_limit.Processes)) (Ok (heading_with placing)))))))
     by true b c d e p = tt
     by false true c d e p = tt
     by false false true d e p = tt
@@ -58,8 +59,8 @@ pub disc_is : (outline : Outline) (placing : Placing) (sectors : ℕ) (mirrored 
 disc_is outline placing sectors mirrored = by (heading_of outline placing) (heading_is outline placing)
   where
     sized : (heading : Heading) → HeadingIs outline placing (Ok heading) → (a b : Bool)
-        → DiscIs outline placing sectors mirrored (cond a (Err (fault.Limit 5))
-        (cond b (Err (fault.Limit 5)) (Ok (process_with heading (body.Disc sectors mirrored)))))
+        → DiscIs outline placing sectors mirrored (cond a (Err (fault.Limit deck_limit.Sectors))
+        (cond b (Err (fault.Limit deck_limit.Sectors)) (Ok (process_with heading (body.Disc sectors mirrored)))))
     sized heading is true b = tt
     sized heading is false true = tt
     sized heading is false false = (ap (λ (h : Heading). process_with h (body.Disc sectors mirrored)) is.0, is.1)
@@ -79,7 +80,8 @@ terminal_is outline number name target = by (not (is_new outline name)) (nat_le 
   where
     by : (a b : Bool) → not (is_new outline name) ≡ a
         → TerminalIs outline number name target
-        (cond a (Err fault.NameTwice) (cond b (Err (fault.Limit 2)) (Ok (terminal_with number target))))
+        (cond a (Err fault.NameTwice) (cond b (Err (fault.Limit deck_limit.Terminals))
+        (Ok (terminal_with number target))))
     by true b p = tt
     by false true p = tt
     by false false p = (refl, new_names outline name p)
@@ -92,7 +94,8 @@ pub processors_are : (count : ℕ) → ProcessorsAre count (processors_of count)
 processors_are count = by (nat_lt count 2) (nat_lt 16 count)
   where
     by : (a b : Bool) → ProcessorsAre count
-        (cond a (Err (fault.Limit 8)) (cond b (Err (fault.Limit 8)) (Ok (outline_with count))))
+        (cond a (Err (fault.Limit deck_limit.Processors)) (cond b (Err (fault.Limit deck_limit.Processors))
+        (Ok (outline_with count))))
     by true b = tt
     by false true = tt
     by false false = refl
@@ -110,7 +113,7 @@ heading_added outline placing new primary backup apart room =
     let e = lt-leb 16 (length outline.processes) room in
     λ i. cond (a i) (Err fault.NameTwice) (cond (b i) (Err fault.SameProcessor)
     (cond (c i) (Err fault.NoProcessor) (cond (d i) (Err fault.NoProcessor)
-    (cond (e i) (Err (fault.Limit 1)) (Ok (heading_with placing))))))
+    (cond (e i) (Err (fault.Limit deck_limit.Processes)) (Ok (heading_with placing))))))
 
 pub disc_added : (outline : Outline) (placing : Placing) (sectors : ℕ) (mirrored : Bool)
     → heading_of outline placing ≡ Ok (heading_with placing) → 1 ≤ sectors → sectors ≤ 64
@@ -119,7 +122,8 @@ disc_added outline placing sectors mirrored heading least most =
     let a = le-ltb sectors 1 least in
     let b = le-ltb 64 sectors most in
     ap (with_sectors sectors mirrored) heading ∙ (λ i.
-    cond (a i) (Err (fault.Limit 5)) (cond (b i) (Err (fault.Limit 5)) (Ok (disc_with placing sectors mirrored))))
+    cond (a i) (Err (fault.Limit deck_limit.Sectors)) (cond (b i) (Err (fault.Limit deck_limit.Sectors))
+    (Ok (disc_with placing sectors mirrored))))
 
 pub terminal_added : (outline : Outline) (number : ℕ) (name target : List ℕ) → IsNew outline name
     → length outline.terminals < 16
@@ -127,10 +131,12 @@ pub terminal_added : (outline : Outline) (number : ℕ) (name target : List ℕ)
 terminal_added outline number name target new room =
     let a = new_is outline name new in
     let b = lt-leb 16 (length outline.terminals) room in
-    λ i. cond (a i) (Err fault.NameTwice) (cond (b i) (Err (fault.Limit 2)) (Ok (terminal_with number target)))
+    λ i. cond (a i) (Err fault.NameTwice) (cond (b i) (Err (fault.Limit deck_limit.Terminals))
+    (Ok (terminal_with number target)))
 
 pub processors_added : (count : ℕ) → 2 ≤ count → count ≤ 16 → processors_of count ≡ Ok (outline_with count)
 processors_added count least most =
     let a = le-ltb count 2 least in
     let b = le-ltb 16 count most in
-    λ i. cond (a i) (Err (fault.Limit 8)) (cond (b i) (Err (fault.Limit 8)) (Ok (outline_with count)))
+    λ i. cond (a i) (Err (fault.Limit deck_limit.Processors))
+    (cond (b i) (Err (fault.Limit deck_limit.Processors)) (Ok (outline_with count)))

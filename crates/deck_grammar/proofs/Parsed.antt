@@ -42,6 +42,7 @@ use Rattle.deck_grammar.proofs.Added.{heading_with, processors_are, terminal_is,
 use Rattle.deck_grammar.proofs.Items.{before_body, before_events, before_requests, body_items, event_items, more_text}
 use Rattle.deck_grammar.proofs.Items.{program_items, request_items}
 use Rattle.deck_grammar.proofs.NewNames.{AreNew, IsNew, apart, new_before_process, new_before_terminal}
+use Rattle.tal_tree.specs.declared.limit.DeckLimit.TheVariants as deck_limit
 
 -- a pair and a terminal of the outline, whatever the number of their line
 abbrev pub pair_with : Heading → ProgramLines → List (List ℕ) → Named ProcessLines
@@ -352,7 +353,7 @@ module _ (final : Outline) (line : List ℕ) (lines : List (List ℕ)) where
           Leads (o.with_terminal outline name (record terminal { requests = requests })) final parts
 
       by : (b : Bool)
-          → LeadOn (cond b (step.Broken (o.broken outline number (fault.Limit 3)))
+          → LeadOn (cond b (step.Broken (o.broken outline number (fault.Limit deck_limit.Requests)))
           (step.Next (at.Requests outline name (record terminal { requests = terminal.requests ++ words ∷ [] }))))
           final lines
           → InRequests outline name terminal final (line ∷ lines)
@@ -366,8 +367,8 @@ module _ (final : Outline) (line : List ℕ) (lines : List (List ℕ)) where
   requests_lead outline name terminal number said.LongSend says later =
       by (nat_le 1000 (length terminal.requests)) later
     where
-      by : (b : Bool) → LeadOn (cond b (step.Broken (o.broken outline number (fault.Limit 3)))
-          (step.Broken (o.broken outline number (fault.Limit 4)))) final lines
+      by : (b : Bool) → LeadOn (cond b (step.Broken (o.broken outline number (fault.Limit deck_limit.Requests)))
+          (step.Broken (o.broken outline number (fault.Limit deck_limit.RequestWords)))) final lines
           → InRequests outline name terminal final (line ∷ lines)
       by true later = absurd later
       by false later = absurd later

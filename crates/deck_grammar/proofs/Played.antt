@@ -20,6 +20,7 @@ use Rattle.deck_reader.specs.declared.outline.Outline.{Outline}
 use Rattle.deck_reader.specs.declared.outline.Sums.{Sums}
 use Rattle.deck_grammar.specs.Spells.{line_of, mirror_at, process_at, terminal_at}
 use Rattle.deck_grammar.proofs.Looked.{AreThere}
+use Rattle.tal_tree.specs.declared.limit.DeckLimit.TheVariants as deck_limit
 
 some_same : {X : Type 0} (x y : X) → Some x ≡ Some y → x ≡ y
 some_same x y e = cc
@@ -38,13 +39,13 @@ singles_more : (sums : Sums) (more : ℕ) → sums.singles + more ≤ 1000000 �
 singles_more sums more few =
     let test = le-ltb 1000000 (sums.singles + more) few in
     let next : Sums = record { singles = sums.singles + more; rounds = sums.rounds } in
-    (next, (λ i. cond (test i) (Err (fault.Limit 6)) (Ok next)), refl, omega arith)
+    (next, (λ i. cond (test i) (Err (fault.Limit deck_limit.Singles)) (Ok next)), refl, omega arith)
 
 rounds_more : (sums : Sums) (more : ℕ) → sums.rounds + more ≤ 100000 → IsMoreBy sums 0 more (more_rounds sums more)
 rounds_more sums more few =
     let test = le-ltb 100000 (sums.rounds + more) few in
     let next : Sums = record { singles = sums.singles; rounds = sums.rounds + more } in
-    (next, (λ i. cond (test i) (Err (fault.Limit 7)) (Ok next)), omega arith, refl)
+    (next, (λ i. cond (test i) (Err (fault.Limit deck_limit.Rounds)) (Ok next)), omega arith, refl)
 
 -- a test that passes changes nothing
 where_true : (sums : Sums) (m n : ℕ) (b : Bool) (told : Result Sums LineFault) (why : LineFault) → b ≡ true

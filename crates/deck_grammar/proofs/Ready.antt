@@ -58,6 +58,7 @@ use Rattle.deck_grammar.proofs.Looked.{AreThere, each_so, open_files, same_mirro
 use Rattle.deck_grammar.proofs.NewNames.{AreNew, IsNew, differ, new_after_process, new_after_terminal}
 use Rattle.deck_grammar.proofs.Parsed.{named, pair_with, program_at, with_requests}
 use Rattle.deck_grammar.proofs.Played.{line_added}
+use Rattle.tal_tree.specs.declared.limit.DeckLimit.TheVariants as deck_limit
 
 abbrev no_lines : EventLines
 no_lines = record { lines = []; sums = record { singles = 0; rounds = 0 }; unknown = None }
@@ -563,7 +564,7 @@ module _ (deck : Deck) (limits : IsWithinDeckLimits deck) where
         let next : TerminalLines = record terminal { requests = terminal.requests ++ words ∷ [] } in (
           at.Requests outline name next,
           ap (o.in_requests outline name terminal number) first.0
-              ∙ ap (λ (c : Bool). cond c (step.Broken (o.broken outline number (fault.Limit 3)))
+              ∙ ap (λ (c : Bool). cond c (step.Broken (o.broken outline number (fault.Limit deck_limit.Requests)))
               (step.Next (at.Requests outline name next))) full,
           (
             blocks,

@@ -43,6 +43,7 @@ use Rattle.deck_reader.specs.declared.told.Told.{Told}
 use Rattle.deck_reader.specs.declared.told.Told.TheVariants as told
 use Rattle.deck_names.proofs.Places.{AreOnce, once-more, once-none}
 use Rattle.deck_names.proofs.Signs.{name-kept}
+use Rattle.tal_tree.specs.declared.limit.DeckLimit.TheVariants as deck_limit
 
 abbrev pub entry_name : {T : Type 0} → Named T → List ℕ
 entry_name entry = entry.0
@@ -225,7 +226,7 @@ heading-names outline placing spelled =
     by : (a b c d e : Bool) → not (is_new outline placing.name) ≡ a
         → HeadingNew outline (cond a (Err fault.NameTwice)
         (cond b (Err fault.SameProcessor) (cond c (Err fault.NoProcessor) (cond d (Err fault.NoProcessor)
-        (cond e (Err (fault.Limit 1)) (Ok (record
+        (cond e (Err (fault.Limit deck_limit.Processes)) (Ok (record
         { name = placing.name; primary = placing.primary; backup = placing.backup })))))))
     by true b c d e p = tt
     by false true c d e p = tt
@@ -241,7 +242,7 @@ disc-names outline number sectors mirrored (Err why) have new = tt
 disc-names outline number sectors mirrored (Ok heading) have new = by (nat_lt sectors 1) (nat_lt 64 sectors)
   where
     by : (a b : Bool) → StepNames (disc_told outline number
-        (cond a (Err (fault.Limit 5)) (cond b (Err (fault.Limit 5))
+        (cond a (Err (fault.Limit deck_limit.Sectors)) (cond b (Err (fault.Limit deck_limit.Sectors))
         (Ok (process_with heading (body.Disc sectors mirrored))))))
     by true b = tt
     by false true = tt
@@ -254,7 +255,7 @@ terminal-begins outline number name target spelled have =
   where
     by : (a b : Bool) → not (is_new outline name) ≡ a
         → StepNames (terminal_told outline number name
-        (cond a (Err fault.NameTwice) (cond b (Err (fault.Limit 2))
+        (cond a (Err fault.NameTwice) (cond b (Err (fault.Limit deck_limit.Terminals))
         (Ok (record { line = number; target = target; requests = [] })))))
     by true b e = tt
     by false true e = tt
@@ -280,15 +281,15 @@ requests-names outline name terminal number (said.Send words) spelled have new =
     by (nat_le 1000 (length terminal.requests))
   where
     by : (b : Bool)
-        → StepNames (cond b (step.Broken (broken outline number (fault.Limit 3)))
+        → StepNames (cond b (step.Broken (broken outline number (fault.Limit deck_limit.Requests)))
         (step.Next (at.Requests outline name (record terminal { requests = terminal.requests ++ words ∷ [] }))))
     by true = tt
     by false = (have, new)
 requests-names outline name terminal number said.LongSend spelled have new =
     by (nat_le 1000 (length terminal.requests))
   where
-    by : (b : Bool) → StepNames (cond b (step.Broken (broken outline number (fault.Limit 3)))
-        (step.Broken (broken outline number (fault.Limit 4))))
+    by : (b : Bool) → StepNames (cond b (step.Broken (broken outline number (fault.Limit deck_limit.Requests)))
+        (step.Broken (broken outline number (fault.Limit deck_limit.RequestWords))))
     by true = tt
     by false = tt
 requests-names outline name terminal number (said.Disc placing sectors mirrored) spelled have new =
@@ -310,7 +311,8 @@ opening-names number said.Nothing = tt
 opening-names number (said.Processors count) = by (nat_lt count 2) (nat_lt 16 count)
   where
     by : (a b : Bool) → StepNames (site_told number
-        (cond a (Err (fault.Limit 8)) (cond b (Err (fault.Limit 8)) (Ok (outline_with count)))))
+        (cond a (Err (fault.Limit deck_limit.Processors)) (cond b (Err (fault.Limit deck_limit.Processors))
+        (Ok (outline_with count)))))
     by true b = tt
     by false true = tt
     by false false = (names-none, names-none)

@@ -12,6 +12,7 @@ use Rattle.deck_reader.specs.declared.outline.Heading.{Heading}
 use Rattle.deck_reader.specs.declared.outline.Outline.{Outline}
 use Rattle.deck_reader.specs.declared.outline.ProcessLines.{ProcessLines}
 use Rattle.deck_lines.specs.declared.saying.Placing.{Placing}
+use Rattle.tal_tree.specs.declared.limit.DeckLimit.TheVariants as deck_limit
 
 -- a new name is neither a process's nor a terminal's
 pub new_names : (outline : Outline) (name : List ℕ) → not (is_new outline name) ≡ false
@@ -32,7 +33,7 @@ heading_new outline placing =
     by : (a b c d e : Bool) → not (is_new outline placing.name) ≡ a
         → IsNewHeading outline (cond a (Err fault.NameTwice)
         (cond b (Err fault.SameProcessor) (cond c (Err fault.NoProcessor) (cond d (Err fault.NoProcessor)
-        (cond e (Err (fault.Limit 1)) (Ok (record
+        (cond e (Err (fault.Limit deck_limit.Processes)) (Ok (record
         { name = placing.name; primary = placing.primary; backup = placing.backup })))))))
     by true b c d e p = tt
     by false true c d e p = tt
@@ -53,7 +54,7 @@ sectors_new outline sectors mirrored (Err why) new = tt
 sectors_new outline sectors mirrored (Ok heading) new = by (nat_lt sectors 1) (nat_lt 64 sectors)
   where
     by : (a b : Bool) → IsNewProcess outline
-        (cond a (Err (fault.Limit 5)) (cond b (Err (fault.Limit 5))
+        (cond a (Err (fault.Limit deck_limit.Sectors)) (cond b (Err (fault.Limit deck_limit.Sectors))
         (Ok (process_with heading (body.Disc sectors mirrored)))))
     by true b = tt
     by false true = tt

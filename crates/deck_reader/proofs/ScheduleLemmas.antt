@@ -19,6 +19,7 @@ use Rattle.deck_reader.specs.declared.line_fault.LineFault.TheVariants as fault
 use Rattle.deck_reader.specs.declared.outline.Outline.{Outline}
 use Rattle.deck_reader.specs.declared.outline.ProcessLines.{ProcessLines}
 use Rattle.deck_reader.specs.declared.outline.Sums.{Sums}
+use Rattle.tal_tree.specs.declared.limit.DeckLimit.TheVariants as deck_limit
 
 pub singles_with : (lines : List Line) (more : Line)
     → singles_of (lines ++ more ∷ []) ≡ singles_of lines + singles_in more
@@ -70,7 +71,7 @@ singles_more : (sums : Sums) (more : ℕ) → AreFewAsked sums → AsksMore sums
 singles_more sums more few = by (nat_lt 1000000 (sums.singles + more)) refl
   where
     by : (b : Bool) → nat_lt 1000000 (sums.singles + more) ≡ b
-        → AsksMore sums more 0 (cond b (Err (fault.Limit 6))
+        → AsksMore sums more 0 (cond b (Err (fault.Limit deck_limit.Singles))
         (Ok (record { singles = sums.singles + more; rounds = sums.rounds })))
     by true over = tt
     by false within = record {
@@ -83,7 +84,7 @@ rounds_more : (sums : Sums) (more : ℕ) → AreFewAsked sums → AsksMore sums 
 rounds_more sums more few = by (nat_lt 100000 (sums.rounds + more)) refl
   where
     by : (b : Bool) → nat_lt 100000 (sums.rounds + more) ≡ b
-        → AsksMore sums 0 more (cond b (Err (fault.Limit 7))
+        → AsksMore sums 0 more (cond b (Err (fault.Limit deck_limit.Rounds))
         (Ok (record { singles = sums.singles; rounds = sums.rounds + more })))
     by true over = tt
     by false within = record {

@@ -37,6 +37,7 @@ use Rattle.deck_reader.specs.declared.step.LineOutcome.{LineOutcome}
 use Rattle.deck_reader.specs.declared.step.LineOutcome.TheVariants as step
 use Rattle.deck_reader.specs.declared.told.Told.{Told}
 use Rattle.deck_reader.specs.declared.told.Told.TheVariants as told
+use Rattle.tal_tree.specs.declared.limit.DeckLimit.TheVariants as deck_limit
 
 -- at most 16 words
 abbrev pub IsShort : List ℤ → Type 0
@@ -168,7 +169,7 @@ terminal_begins outline number name target short = by (not (is_new outline name)
   where
     by : (a b : Bool)
         → StepShort (terminal_told outline number name
-        (cond a (Err fault.NameTwice) (cond b (Err (fault.Limit 2))
+        (cond a (Err fault.NameTwice) (cond b (Err (fault.Limit deck_limit.Terminals))
         (Ok (record { line = number; target = target; requests = [] })))))
     by true b = tt
     by false true = tt
@@ -192,14 +193,14 @@ requests_short outline name terminal number (said.Send words) one short own =
     by (nat_le 1000 (length terminal.requests))
   where
     by : (b : Bool)
-        → StepShort (cond b (step.Broken (broken outline number (fault.Limit 3)))
+        → StepShort (cond b (step.Broken (broken outline number (fault.Limit deck_limit.Requests)))
         (step.Next (at.Requests outline name (record terminal { requests = terminal.requests ++ words ∷ [] }))))
     by true = tt
     by false = (short, all_more IsShort terminal.requests words own one)
 requests_short outline name terminal number said.LongSend one short own = by (nat_le 1000 (length terminal.requests))
   where
-    by : (b : Bool) → StepShort (cond b (step.Broken (broken outline number (fault.Limit 3)))
-        (step.Broken (broken outline number (fault.Limit 4))))
+    by : (b : Bool) → StepShort (cond b (step.Broken (broken outline number (fault.Limit deck_limit.Requests)))
+        (step.Broken (broken outline number (fault.Limit deck_limit.RequestWords))))
     by true = tt
     by false = tt
 requests_short outline name terminal number (said.Disc placing sectors mirrored) one short own =
@@ -221,7 +222,8 @@ opening_short number said.Nothing = tt
 opening_short number (said.Processors count) = by (nat_lt count 2) (nat_lt 16 count)
   where
     by : (a b : Bool) → StepShort (site_told number
-        (cond a (Err (fault.Limit 8)) (cond b (Err (fault.Limit 8)) (Ok (outline_with count)))))
+        (cond a (Err (fault.Limit deck_limit.Processors)) (cond b (Err (fault.Limit deck_limit.Processors))
+        (Ok (outline_with count)))))
     by true b = tt
     by false true = tt
     by false false = All-nil HasShort

@@ -34,6 +34,7 @@ use Rattle.deck_reader.specs.declared.step.LineOutcome.TheVariants as step
 use Rattle.deck_reader.specs.declared.told.Told.{Told}
 use Rattle.deck_reader.specs.declared.told.Told.TheVariants as told
 use Rattle.deck_reader.proofs.EachLemmas.{IsDoneTo}
+use Rattle.tal_tree.specs.declared.limit.DeckLimit.TheVariants as deck_limit
 
 -- how long the texts are that were told up to a stage
 abbrev stage_size : Stage → ℕ
@@ -60,8 +61,8 @@ disc_within outline number placing sectors mirrored = by (heading_of outline pla
   where
     sized : (heading : Heading) (a b : Bool)
         → IsWithin (text_size outline.processes)
-        (disc_told outline number (cond a (Err (fault.Limit 5))
-        (cond b (Err (fault.Limit 5)) (Ok (process_with heading (body.Disc sectors mirrored))))))
+        (disc_told outline number (cond a (Err (fault.Limit deck_limit.Sectors))
+        (cond b (Err (fault.Limit deck_limit.Sectors)) (Ok (process_with heading (body.Disc sectors mirrored))))))
     sized heading true b = omega arith
     sized heading false true = omega arith
     sized heading false false =
@@ -98,7 +99,7 @@ requests_within outline name terminal number (said.Send words) = by (nat_le 1000
           processes = outline.processes;
           own = None;
           line = number;
-          why = fault.Limit 3;
+          why = fault.Limit deck_limit.Requests;
         })) (step.Next (at.Requests outline name
         (record terminal { requests = terminal.requests ++ words ∷ [] }))))
     by true = omega arith
@@ -111,13 +112,13 @@ requests_within outline name terminal number said.LongSend = by (nat_le 1000 (le
           processes = outline.processes;
           own = None;
           line = number;
-          why = fault.Limit 3;
+          why = fault.Limit deck_limit.Requests;
         })) (step.Broken (record {
           processes =
               outline.processes;
           own = None;
           line = number;
-          why = fault.Limit 4;
+          why = fault.Limit deck_limit.RequestWords;
         })))
     by true = omega arith
     by false = omega arith
@@ -136,7 +137,8 @@ opening_within number said.Nothing = omega arith
 opening_within number (said.Processors count) = by (nat_lt count 2) (nat_lt 16 count)
   where
     by : (a b : Bool) → IsWithin 0 (site_told number
-        (cond a (Err (fault.Limit 8)) (cond b (Err (fault.Limit 8)) (Ok (outline_with count)))))
+        (cond a (Err (fault.Limit deck_limit.Processors)) (cond b (Err (fault.Limit deck_limit.Processors))
+        (Ok (outline_with count)))))
     by true b = omega arith
     by false true = omega arith
     by false false = omega arith

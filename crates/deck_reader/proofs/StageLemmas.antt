@@ -43,6 +43,7 @@ use Rattle.deck_reader.specs.declared.told.Told.TheVariants as told
 use Rattle.deck_reader.proofs.FreshLemmas.{heading_new, new_names}
 use Rattle.deck_reader.proofs.ScheduleLemmas.{AreFewAsked, AsksMore, asks_more, line_asked, rounds_asked, rounds_with}
 use Rattle.deck_reader.proofs.ScheduleLemmas.{singles_asked, singles_with}
+use Rattle.tal_tree.specs.declared.limit.DeckLimit.TheVariants as deck_limit
 
 -- two different processors of the deck
 pub record HeadingKeeps (processors : ℕ) (heading : Heading) : Type 0 where
@@ -166,7 +167,7 @@ heading_kept outline placing =
         → nat_le outline.processors placing.backup ≡ d → nat_le 16 (length outline.processes) ≡ e
         → PairKeeps outline (cond a (Err fault.NameTwice)
         (cond b (Err fault.SameProcessor) (cond c (Err fault.NoProcessor) (cond d (Err fault.NoProcessor)
-        (cond e (Err (fault.Limit 1)) (Ok (record
+        (cond e (Err (fault.Limit deck_limit.Processes)) (Ok (record
         { name = placing.name; primary = placing.primary; backup = placing.backup })))))))
     by true b c d e p q r s = tt
     by false true c d e p q r s = tt
@@ -189,8 +190,8 @@ disc_kept outline number placing sectors mirrored keeps none =
   where
     sized : (heading : Heading) → PairKeeps outline (Ok heading) → (a b : Bool) → nat_lt sectors 1 ≡ a
         → nat_lt 64 sectors ≡ b
-        → Keeps (disc_told outline number (cond a (Err (fault.Limit 5))
-        (cond b (Err (fault.Limit 5)) (Ok (process_with heading (body.Disc sectors mirrored))))))
+        → Keeps (disc_told outline number (cond a (Err (fault.Limit deck_limit.Sectors))
+        (cond b (Err (fault.Limit deck_limit.Sectors)) (Ok (process_with heading (body.Disc sectors mirrored))))))
     sized heading pair true b p q = tt
     sized heading pair false true p q = tt
     sized heading pair false false p q = (
@@ -212,7 +213,7 @@ terminal_begun outline number name target keeps none =
   where
     by : (a b : Bool) → not (is_new outline name) ≡ a → nat_le 16 (length outline.terminals) ≡ b
         → Keeps (terminal_told outline number name
-        (cond a (Err fault.NameTwice) (cond b (Err (fault.Limit 2))
+        (cond a (Err fault.NameTwice) (cond b (Err (fault.Limit deck_limit.Terminals))
         (Ok (record { line = number; target = target; requests = [] })))))
     by true b o p = tt
     by false true o p = tt
@@ -256,7 +257,7 @@ request_kept outline name terminal number (said.Send words) keeps = by (nat_le 1
           processes = outline.processes;
           own = None;
           line = number;
-          why = fault.Limit 3;
+          why = fault.Limit deck_limit.Requests;
         })) (step.Next (at.Requests outline name
         (record terminal { requests = terminal.requests ++ words ∷ [] }))))
     by true over = tt
@@ -272,8 +273,14 @@ request_kept outline name terminal number (said.Send words) keeps = by (nat_le 1
 request_kept outline name terminal number said.LongSend keeps = by (nat_le 1000 (length terminal.requests))
   where
     by : (b : Bool) → Keeps (cond b (step.Broken
-        (record { processes = outline.processes; own = None; line = number; why = fault.Limit 3 }))
-        (step.Broken (record { processes = outline.processes; own = None; line = number; why = fault.Limit 4 })))
+        (record { processes = outline.processes; own = None; line = number; why = fault.Limit deck_limit.Requests }))
+        (step.Broken (record {
+          processes = outline.processes;
+          own = None;
+          line = number;
+          why = fault.Limit
+              deck_limit.RequestWords;
+        })))
     by true = tt
     by false = tt
 request_kept outline name terminal number (said.Disc placing sectors mirrored) keeps =
@@ -295,8 +302,8 @@ opening_kept number said.Nothing = tt
 opening_kept number (said.Processors count) = by (nat_lt count 2) (nat_lt 16 count) refl refl
   where
     by : (a b : Bool) → nat_lt count 2 ≡ a → nat_lt 16 count ≡ b
-        → Keeps (site_told number (cond a (Err (fault.Limit 8))
-        (cond b (Err (fault.Limit 8)) (Ok (outline_with count)))))
+        → Keeps (site_told number (cond a (Err (fault.Limit deck_limit.Processors))
+        (cond b (Err (fault.Limit deck_limit.Processors)) (Ok (outline_with count)))))
     by true b p q = tt
     by false true p q = tt
     by false false p q = (

@@ -19,6 +19,7 @@ use Rattle.deck_reader.specs.declared.outline.TerminalLines.{TerminalLines}
 use Rattle.deck_lines.specs.declared.saying.Placing.{Placing}
 use Rattle.gd_words.specs.declared.limits.TheConstants.{MOST_PROCESSES, MOST_PROCESSORS, MOST_ROUNDS, MOST_SECTORS}
 use Rattle.gd_words.specs.declared.limits.TheConstants.{MOST_SINGLES, MOST_TERMINALS, TERMINAL_NODE}
+use Rattle.tal_tree.specs.declared.limit.DeckLimit.TheVariants as deck_limit
 
 -- `processors N`: a site of 2 to 16 processors, with nothing else yet
 abbrev pub outline_with : ℕ → Outline
@@ -31,8 +32,8 @@ outline_with processors = record {
 
 abbrev pub processors_of : ℕ → Result Outline LineFault
 processors_of count =
-    if nat_lt count 2 then Err (fault.Limit 8)
-    else if nat_lt MOST_PROCESSORS count then Err (fault.Limit 8)
+    if nat_lt count 2 then Err (fault.Limit deck_limit.Processors)
+    else if nat_lt MOST_PROCESSORS count then Err (fault.Limit deck_limit.Processors)
     else Ok (outline_with count)
 
 -- no process and no terminal has the name
@@ -46,7 +47,7 @@ heading_of outline placing =
     else if placing.primary == placing.backup then Err fault.SameProcessor
     else if nat_le outline.processors placing.primary then Err fault.NoProcessor
     else if nat_le outline.processors placing.backup then Err fault.NoProcessor
-    else if nat_le MOST_PROCESSES (length outline.processes) then Err (fault.Limit 1)
+    else if nat_le MOST_PROCESSES (length outline.processes) then Err (fault.Limit deck_limit.Processes)
     else Ok (record { name = placing.name; primary = placing.primary; backup = placing.backup })
 
 -- a process: under the name of its heading stand the processors of its two copies, and what it is
@@ -57,8 +58,8 @@ process_with heading body = (heading.name, record { primary = heading.primary; b
 abbrev pub with_sectors : ℕ → Bool → Result Heading LineFault → Result (Named ProcessLines) LineFault
 with_sectors sectors mirrored (Err why) = Err why
 with_sectors sectors mirrored (Ok heading) =
-    if nat_lt sectors 1 then Err (fault.Limit 5)
-    else if nat_lt MOST_SECTORS sectors then Err (fault.Limit 5)
+    if nat_lt sectors 1 then Err (fault.Limit deck_limit.Sectors)
+    else if nat_lt MOST_SECTORS sectors then Err (fault.Limit deck_limit.Sectors)
     else Ok (process_with heading (body.Disc sectors mirrored))
 
 -- `disc NAME P B SECTORS` and `mirror NAME P B SECTORS`
@@ -69,18 +70,18 @@ disc_of outline placing sectors mirrored = with_sectors sectors mirrored (headin
 abbrev pub terminal_of : Outline → ℕ → List ℕ → List ℕ → Result TerminalLines LineFault
 terminal_of outline line name target =
     if not (is_new outline name) then Err fault.NameTwice
-    else if nat_le MOST_TERMINALS (length outline.terminals) then Err (fault.Limit 2)
+    else if nat_le MOST_TERMINALS (length outline.terminals) then Err (fault.Limit deck_limit.Terminals)
     else Ok (record { line = line; target = target; requests = [] })
 
 -- so many more single events, or rounds
 abbrev pub more_singles : Sums → ℕ → Result Sums LineFault
 more_singles sums more =
-    if nat_lt MOST_SINGLES (sums.singles + more) then Err (fault.Limit 6) else Ok
+    if nat_lt MOST_SINGLES (sums.singles + more) then Err (fault.Limit deck_limit.Singles) else Ok
     (record { singles = sums.singles + more; rounds = sums.rounds })
 
 abbrev pub more_rounds : Sums → ℕ → Result Sums LineFault
 more_rounds sums more =
-    if nat_lt MOST_ROUNDS (sums.rounds + more) then Err (fault.Limit 7) else Ok
+    if nat_lt MOST_ROUNDS (sums.rounds + more) then Err (fault.Limit deck_limit.Rounds) else Ok
     (record { singles = sums.singles; rounds = sums.rounds + more })
 
 -- `run NAME TIMES` and `copy NAME D TIMES`: at least once

@@ -28,6 +28,7 @@ use Rattle.deck_reader.specs.declared.step.LineOutcome.TheVariants as step
 use Rattle.deck_reader.specs.declared.told.Told.{Told}
 use Rattle.deck_reader.specs.declared.told.Told.TheVariants as told
 use Rattle.gd_words.specs.declared.limits.TheConstants.{MOST_REQUESTS}
+use Rattle.tal_tree.specs.declared.limit.DeckLimit.TheVariants as deck_limit
 
 -- the line of this number can't stand here
 abbrev pub broken : Outline → ℕ → LineFault → Breach
@@ -89,14 +90,16 @@ in_program outline heading program line =
 -- one more request: a terminal has at most 1,000
 abbrev pub request_told : Outline → List ℕ → TerminalLines → ℕ → List ℤ → LineOutcome
 request_told outline name terminal number words =
-    if nat_le MOST_REQUESTS (length terminal.requests) then step.Broken (broken outline number (fault.Limit 3))
+    if nat_le MOST_REQUESTS (length terminal.requests) then step.Broken
+    (broken outline number (fault.Limit deck_limit.Requests))
     else step.Next (at.Requests outline name (record terminal { requests = terminal.requests ++ words ∷ [] }))
 
 -- a request of more than 16 words
 abbrev pub long_request_told : Outline → TerminalLines → ℕ → LineOutcome
 long_request_told outline terminal number =
-    if nat_le MOST_REQUESTS (length terminal.requests) then step.Broken (broken outline number (fault.Limit 3))
-    else step.Broken (broken outline number (fault.Limit 4))
+    if nat_le MOST_REQUESTS (length terminal.requests) then step.Broken
+    (broken outline number (fault.Limit deck_limit.Requests))
+    else step.Broken (broken outline number (fault.Limit deck_limit.RequestWords))
 
 -- the terminal stands in the outline once its requests are told
 abbrev pub with_terminal : Outline → List ℕ → TerminalLines → Outline

@@ -47,7 +47,7 @@ fault_at number line.Form = fault.Line number
 fault_at number line.NameTwice = fault.NameTwice number
 fault_at number line.SameProcessor = fault.SameProcessor number
 fault_at number line.NoProcessor = fault.NoProcessor number
-fault_at number (line.Limit which) = fault.Limit number which
+fault_at number (line.Limit limit) = fault.Limit number limit
 fault_at number line.NoEnd = fault.NoEnd number
 
 -- that fault, or where the line is a pair's that of its program, if it is refused

@@ -11,6 +11,7 @@ use gd_words::limits::{
 };
 use gd_words::{List, Name};
 use std::alloc::Global;
+use tal_tree::DeckLimit;
 
 /// Why a line can't stand where it does.
 #[derive(Clone, Copy, PartialEq, Eq, Drop)]
@@ -20,8 +21,8 @@ pub enum LineFault {
     NameTwice,
     SameProcessor,
     NoProcessor,
-    /// It is past the limit of this number.
-    Limit(u8),
+    /// It is past this limit.
+    Limit(DeckLimit),
     /// It is the last line, and END hasn't come.
     NoEnd,
 }
@@ -49,7 +50,7 @@ pub fn heading_of(outline: &Outline, placing: Placing) -> Result<Heading, LineFa
         return Err(LineFault::NoProcessor);
     }
     if MOST_PROCESSES <= outline.processes.len() {
-        return Err(LineFault::Limit(1));
+        return Err(LineFault::Limit(DeckLimit::Processes));
     }
     Ok(Heading {
         name,
@@ -69,10 +70,10 @@ pub fn disc_of(
 {
     let heading = heading_of(outline, placing)?;
     if sectors < 1 {
-        return Err(LineFault::Limit(5));
+        return Err(LineFault::Limit(DeckLimit::Sectors));
     }
     if MOST_SECTORS < sectors {
-        return Err(LineFault::Limit(5));
+        return Err(LineFault::Limit(DeckLimit::Sectors));
     }
     let body = Body::Disc {
         sectors: sectors as u8,
@@ -95,7 +96,7 @@ pub fn terminal_of(
         return Err(LineFault::NameTwice);
     }
     if MOST_TERMINALS <= outline.terminals.len() {
-        return Err(LineFault::Limit(2));
+        return Err(LineFault::Limit(DeckLimit::Terminals));
     }
     Ok(TerminalLines {
         line,
@@ -111,7 +112,7 @@ fn more_singles(sums: Sums, more: u32) -> Result<Sums, LineFault>
     let Sums { singles, rounds } = sums;
     let all = u64::from(singles) + u64::from(more);
     if MOST_SINGLES < all {
-        return Err(LineFault::Limit(6));
+        return Err(LineFault::Limit(DeckLimit::Singles));
     }
     let singles = all as u32;
     Ok(Sums { singles, rounds })
@@ -124,7 +125,7 @@ fn more_rounds(sums: Sums, more: u32) -> Result<Sums, LineFault>
     let Sums { singles, rounds } = sums;
     let all = u64::from(rounds) + u64::from(more);
     if MOST_ROUNDS < all {
-        return Err(LineFault::Limit(7));
+        return Err(LineFault::Limit(DeckLimit::Rounds));
     }
     let rounds = all as u32;
     Ok(Sums { singles, rounds })

@@ -116,7 +116,7 @@ fn fault_at(number: u32, why: LineFault) -> DeckFault
         LineFault::NameTwice => DeckFault::NameTwice(number),
         LineFault::SameProcessor => DeckFault::SameProcessor(number),
         LineFault::NoProcessor => DeckFault::NoProcessor(number),
-        LineFault::Limit(which) => DeckFault::Limit(number, which),
+        LineFault::Limit(limit) => DeckFault::Limit(number, limit),
         LineFault::NoEnd => DeckFault::NoEnd(number),
     }
 }

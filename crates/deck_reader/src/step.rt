@@ -22,6 +22,7 @@ use gd_words::{List, Name, NoMemory, Words};
 use name_table::NameTable;
 use schedule::Line;
 use std::alloc::Global;
+use tal_tree::DeckLimit;
 
 /// Where in the deck the next line stands, and what was said before.
 #[derive(Drop)]
@@ -128,10 +129,10 @@ fn processors_of(alloc: Global, count: u32) -> Result<Outline, LineFault>
     ensures { result ≡ processors_of count }
 {
     if count < 2 {
-        return Err(LineFault::Limit(8));
+        return Err(LineFault::Limit(DeckLimit::Processors));
     }
     if (MOST_PROCESSORS as u32) < count {
-        return Err(LineFault::Limit(8));
+        return Err(LineFault::Limit(DeckLimit::Processors));
     }
     Ok(Outline::new(alloc, count as u8))
 }
@@ -316,7 +317,11 @@ fn request_told(
     ensures { IfOk result (λ next. next ≡ request_told outline name terminal number words) }
 {
     if MOST_REQUESTS <= terminal.requests.len() {
-        return Ok(LineOutcome::Broken(broken(outline, number, LineFault::Limit(3))));
+        return Ok(LineOutcome::Broken(broken(
+            outline,
+            number,
+            LineFault::Limit(DeckLimit::Requests),
+        )));
     }
     let mut terminal = terminal;
     terminal.requests.push(words)?;
@@ -328,9 +333,9 @@ fn long_request_told(outline: Outline, terminal: &TerminalLines, number: u32) ->
     ensures { result ≡ long_request_told outline terminal.now number }
 {
     if MOST_REQUESTS <= terminal.requests.len() {
-        LineOutcome::Broken(broken(outline, number, LineFault::Limit(3)))
+        LineOutcome::Broken(broken(outline, number, LineFault::Limit(DeckLimit::Requests)))
     } else {
-        LineOutcome::Broken(broken(outline, number, LineFault::Limit(4)))
+        LineOutcome::Broken(broken(outline, number, LineFault::Limit(DeckLimit::RequestWords)))
     }
 }
 

@@ -21,6 +21,7 @@ use Rattle.deck_reader.specs.declared.told.Told.{Told}
 use Rattle.accepted_sites.proofs.Listed.{both}
 use Rattle.load_laws.specs.LoadDeck.{each_below, request}
 use Rattle.load_laws.proofs.Below.{all_below, passes-below}
+use Rattle.tal_tree.specs.declared.limit.DeckLimit.TheVariants as deck_limit
 
 abbrev is_in_line : ℕ → Bool
 is_in_line c = not (c == 10)
@@ -96,7 +97,8 @@ module _ (outline : Outline) (name : List ℕ) (terminal : TerminalLines) (numbe
       ap (told_after (after_requests before) line) (request-line number before rest)
       ∙ ap (λ (saying : Saying). led_on on (in_requests outline name (asked_so_far terminal number before) (line + 1)
       saying)) (request-said number before)
-      ∙ ap (λ (full : Bool). led_on on (if full then step.Broken (broken outline (line + 1) (fault.Limit 3)) else
+      ∙ ap (λ (full : Bool). led_on on (if full then step.Broken
+      (broken outline (line + 1) (fault.Limit deck_limit.Requests)) else
       step.Next (after_requests (suc before))))
       (lt-leb 1000 (length (each_below (request number) before))
       (subst (λ (n : ℕ). n < 1000) (sym (length-each (request number) before)) few))

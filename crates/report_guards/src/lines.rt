@@ -1,7 +1,12 @@
-ghost use Rattle.std.specs.Prelude.{◌≡◌, [], ◌∷◌, ◌++◌, codes, ℕ, List};
+ghost use Rattle.std.specs.Prelude.{◌≡◌, [], ◌∷◌, ◌++◌, codes, map, ℕ, List};
 ghost use Rattle.std.specs.Fmt.{decimal};
 ghost use Rattle.tal_tree.specs.declared.fault.DeckFault.TheVariants as deck;
 ghost use Rattle.tal_tree.specs.declared.fault.TalFault.TheVariants as tal;
+ghost use Rattle.tal_tree.specs.declared.limit.DeckLimit.{DeckLimit};
+ghost use Rattle.tal_tree.specs.declared.limit.DeckLimit.TheVariants as most;
+ghost use Rattle.tal_tree.specs.declared.limit.ProgramLimit.{ProgramLimit};
+ghost use Rattle.tal_tree.specs.declared.limit.ProgramLimit.TheVariants as limit;
+ghost use Rattle.tal_tree.specs.LimitNumbers.{deck_limit_number, program_limit_number};
 ghost use Rattle.trace_print.specs.declared.closing.End.TheVariants.{Idle, Cut, Second, Checked, Refused, Swept};
 ghost use Rattle.trace_print.specs.EndLine.{end_line, usage_line};
 ghost use Rattle.trace_print.specs.FaultLine.{fault_line, fault_numbers};
@@ -20,7 +25,8 @@ pub fn a_fault_has_its_numbers()
     ensures unknown_name { (line : ℕ) → fault_numbers (deck.UnknownName line) ≡ line ∷ 4 ∷ [] }
     ensures same_processor { (line : ℕ) → fault_numbers (deck.SameProcessor line) ≡ line ∷ 5 ∷ [] }
     ensures no_processor { (line : ℕ) → fault_numbers (deck.NoProcessor line) ≡ line ∷ 6 ∷ [] }
-    ensures limit { (line which : ℕ) → fault_numbers (deck.Limit line which) ≡ line ∷ 7 ∷ which ∷ [] }
+    ensures limit { (line : ℕ) (passed : DeckLimit)
+        → fault_numbers (deck.Limit line passed) ≡ line ∷ 7 ∷ deck_limit_number passed ∷ [] }
     ensures no_end { (line : ℕ) → fault_numbers (deck.NoEnd line) ≡ line ∷ 8 ∷ [] }
     ensures opens_itself { (line : ℕ) → fault_numbers (deck.OpensItself line) ≡ line ∷ 9 ∷ [] }
     ensures too_long { fault_numbers deck.TooLong ≡ 0 ∷ 10 ∷ [] }
@@ -54,16 +60,27 @@ pub fn a_fault_of_a_program_has_its_place()
         ≡ n ∷ 2 ∷ 9 ∷ line ∷ column ∷ [] }
     ensures prologue { (n line column : ℕ) → fault_numbers
         (deck.Program n (tal.Prologue (record { line = line; column = column }))) ≡ n ∷ 2 ∷ 10 ∷ line ∷ column ∷ [] }
-    ensures limit { (n which line column : ℕ)
-        → fault_numbers (deck.Program n (tal.Limit which (record { line = line; column = column })))
-        ≡ n ∷ 2 ∷ 11 ∷ line ∷ column ∷ which ∷ [] }
+    ensures limit { (n line column : ℕ) (passed : ProgramLimit)
+        → fault_numbers (deck.Program n (tal.Limit passed (record { line = line; column = column })))
+        ≡ n ∷ 2 ∷ 11 ∷ line ∷ column ∷ program_limit_number passed ∷ [] }
     ensures no_main { (n line column : ℕ) → fault_numbers
         (deck.Program n (tal.NoMain (record { line = line; column = column }))) ≡ n ∷ 2 ∷ 12 ∷ line ∷ column ∷ [] }
 {}
 
+/// Each limit of a deck and of a program has its own number.
+pub fn a_limit_has_its_number()
+    ensures decks { map deck_limit_number (most.Processes ∷ most.Terminals ∷ most.Requests ∷ most.RequestWords
+        ∷ most.Sectors ∷ most.Singles ∷ most.Rounds ∷ most.Processors ∷ [])
+        ≡ 1 ∷ 2 ∷ 3 ∷ 4 ∷ 5 ∷ 6 ∷ 7 ∷ 8 ∷ [] }
+    ensures programs { map program_limit_number (limit.Globals ∷ limit.GlobalWords ∷ limit.ArrayWords ∷ limit.Files
+        ∷ limit.Procedures ∷ limit.Locals ∷ limit.Statements ∷ limit.Levels ∷ limit.KeptReplies ∷ [])
+        ≡ 1 ∷ 2 ∷ 3 ∷ 4 ∷ 5 ∷ 6 ∷ 7 ∷ 8 ∷ 9 ∷ [] }
+{}
+
 /// These numbers stand behind `DECK`, each after a space.
 pub fn a_fault_has_its_line()
-    ensures limit { fault_line (deck.Limit 4 2) ≡ codes "DECK" ++ numbers_text (4 ∷ 7 ∷ 2 ∷ []) ++ 10 ∷ [] }
+    ensures limit { fault_line (deck.Limit 4 most.Terminals)
+        ≡ codes "DECK" ++ numbers_text (4 ∷ 7 ∷ 2 ∷ []) ++ 10 ∷ [] }
     ensures too_long { fault_line deck.TooLong ≡ codes "DECK" ++ numbers_text (0 ∷ 10 ∷ []) ++ 10 ∷ [] }
     ensures numbers { (number : ℕ) (rest : List ℕ)
         → numbers_text (number ∷ rest) ≡ codes " " ++ decimal number ++ numbers_text rest }

@@ -17,6 +17,7 @@ use Rattle.tal_names.specs.Faults.{fault_at, if_so}
 use Rattle.tal_names.specs.Names.{Declarations, is_declared, meaning_in, with_name}
 use Rattle.tal_names.specs.Systems.{system_of}
 use Rattle.gd_words.specs.declared.limits.TheConstants.{MOST_ARRAY_WORDS, MOST_GLOBALS, MOST_GLOBAL_WORDS}
+use Rattle.tal_tree.specs.declared.limit.ProgramLimit.TheVariants as program_limit
 
 -- a name can't be declared where it is declared before, or is the system's
 abbrev pub is_taken : Declarations → List ℕ → Bool
@@ -112,9 +113,9 @@ extent_of names (g.bounded start low colon high close) =
 -- at most 64 global names, 1,024 words, and 256 words an array
 abbrev pub item_limits : Declared → At → ℕ → List RuleFault
 item_limits d at words =
-    if_so (nat_le MOST_GLOBALS (length d.items)) (fault_at at (Limit 1))
-    ++ if_so (nat_lt MOST_GLOBAL_WORDS (d.words + words)) (fault_at at (Limit 2))
-    ++ if_so (nat_lt MOST_ARRAY_WORDS words) (fault_at at (Limit 3))
+    if_so (nat_le MOST_GLOBALS (length d.items)) (fault_at at (Limit program_limit.Globals))
+    ++ if_so (nat_lt MOST_GLOBAL_WORDS (d.words + words)) (fault_at at (Limit program_limit.GlobalWords))
+    ++ if_so (nat_lt MOST_ARRAY_WORDS words) (fault_at at (Limit program_limit.ArrayWords))
 
 abbrev pub item_faults : Declared → g.Item → List RuleFault
 item_faults d (g.item at name bounds) =

@@ -14,6 +14,7 @@ use Rattle.tal_declarations.specs.Globals.{is_taken, taken_faults}
 use Rattle.tal_names.specs.Names.{Declarations, is_declared, with_name}
 use Rattle.tal_names.specs.Systems.{system_of}
 use Rattle.gd_words.specs.declared.limits.TheConstants.{MOST_LOCALS, MOST_PROCEDURES}
+use Rattle.tal_tree.specs.declared.limit.ProgramLimit.TheVariants as program_limit
 
 -- the names of a list, in order
 abbrev pub names_of : g.Names → List Named
@@ -41,7 +42,7 @@ with_locals ds (n ∷ ns) = with_locals (with_local ds n.name) ns
 
 -- at most 12 parameters and locals
 abbrev pub count_faults : Declarations → At → List RuleFault
-count_faults before at = if_so (nat_le MOST_LOCALS (length before)) (fault_at at (Limit 6))
+count_faults before at = if_so (nat_le MOST_LOCALS (length before)) (fault_at at (Limit program_limit.Locals))
 
 -- a parameter stands among the locals before BEGIN, and once in its list
 abbrev pub parameter_faults : Declarations → Declarations → Named → List RuleFault
@@ -93,7 +94,8 @@ main_faults false at bare (g.is_main word) = if_so (not bare) (fault_at at Prolo
 -- at most 64 procedures, of different names, one of them MAIN
 abbrev pub heading_faults : Headed → g.Heading → List RuleFault
 heading_faults h (g.heading gives proc at name listed main end) =
-    taken_faults h.names at name ++ if_so (nat_le MOST_PROCEDURES h.count) (fault_at at (Limit 5))
+    taken_faults h.names at name ++ if_so (nat_le MOST_PROCEDURES h.count)
+    (fault_at at (Limit program_limit.Procedures))
     ++ main_faults (is_some h.main) at (not (does_give gives) && (length (parameters_of listed) == 0)) main
 
 abbrev pub main_number : Option ℕ → ℕ → g.Main → Option ℕ

@@ -21,7 +21,7 @@ use tal_names::meaning::Meaning;
 use tal_names::names::Names;
 use tal_names::system::system_of;
 use tal_syntax::{At, Atom, Bounds, Constant, Globals, Item, Literal, NextItem, NextLiteral};
-use tal_tree::Shape;
+use tal_tree::{ProgramLimit, Shape};
 
 /// Whether a name can't be declared.
 pub fn is_taken(names: &Names, name: Ident) -> bool
@@ -226,9 +226,19 @@ fn judge_limits(
 {
     let past_names = declared.items.len() >= MOST_GLOBALS;
     let past_words = MOST_GLOBAL_WORDS < declared.words.saturating_add(words);
-    let so_far = with_fault_if(so_far, past_names, at, Rule::Limit(1));
-    let so_far = with_fault_if(so_far, past_words, at, Rule::Limit(2));
-    with_fault_if(so_far, MOST_ARRAY_WORDS < words, at, Rule::Limit(3))
+    let so_far = with_fault_if(so_far, past_names, at, Rule::Limit(ProgramLimit::Globals));
+    let so_far = with_fault_if(
+        so_far,
+        past_words,
+        at,
+        Rule::Limit(ProgramLimit::GlobalWords),
+    );
+    with_fault_if(
+        so_far,
+        MOST_ARRAY_WORDS < words,
+        at,
+        Rule::Limit(ProgramLimit::ArrayWords),
+    )
 }
 
 /// Judges an item.

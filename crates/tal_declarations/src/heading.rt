@@ -20,6 +20,7 @@ use tal_names::names::Names;
 use tal_names::scope::Named;
 use tal_names::system::system_of;
 use tal_syntax::{At, Gives, Heading, Local, Main, NextName, Parameters, Procedure};
+use tal_tree::ProgramLimit;
 
 /// Puts the names that are left of a list after those before.
 fn push_names(all: &mut List<Named>, more: &[NextName]) -> Result<(), NoMemory>
@@ -98,7 +99,12 @@ pub fn declare_locals(names: &mut Names, locals: &[Named]) -> Result<(), NoMemor
 fn judge_count(before: &Names, at: At, so_far: Option<RuleFault>) -> Option<RuleFault>
     ensures { result ≡ least so_far (count_faults before.now at) }
 {
-    with_fault_if(so_far, before.len() >= MOST_LOCALS, at, Rule::Limit(6))
+    with_fault_if(
+        so_far,
+        before.len() >= MOST_LOCALS,
+        at,
+        Rule::Limit(ProgramLimit::Locals),
+    )
 }
 
 /// Judges a parameter.
@@ -270,7 +276,12 @@ fn judge_heading(headed: &Headed, heading: &Heading, so_far: Option<RuleFault>) 
 {
     let at = heading.at;
     let so_far = judge_taken(&headed.names, at, heading.name, so_far);
-    let so_far = with_fault_if(so_far, headed.count >= MOST_PROCEDURES, at, Rule::Limit(5));
+    let so_far = with_fault_if(
+        so_far,
+        headed.count >= MOST_PROCEDURES,
+        at,
+        Rule::Limit(ProgramLimit::Procedures),
+    );
     let bare = !does_give(heading.gives) && parameter_count(&heading.parameters) == 0;
     judge_main(headed.main.is_some(), at, bare, heading.main, so_far)
 }

@@ -18,6 +18,7 @@ use Rattle.tal_faultless.proofs.Common.Faultless.{split, refuted}
 use Rattle.tal_faultless.proofs.Common.Names.{texts_append}
 use Rattle.tal_faultless.proofs.Scopes.LocalNames.{local_names}
 use Rattle.tal_tree.specs.Limits.{IsProcedureWithinLimits}
+use Rattle.tal_tree.specs.declared.limit.ProgramLimit.TheVariants as program_limit
 
 -- one more local, where there is room
 local_room : (ds : Declarations) (name : List ℕ) → length ds < 12 → length (with_local ds name) ≤ 12
@@ -31,7 +32,8 @@ local_room ds name low = by (is_declared name ds)
     by false = omega (arith, low, length-append ds last)
 
 room_of : (before : Declarations) (at : At) → count_faults before at ≡ [] → length before < 12
-room_of before at fine = leb-false 12 (length before) (refuted (nat_le 12 (length before)) at (Limit 6) fine)
+room_of before at fine = leb-false 12 (length before) (refuted (nat_le 12 (length before)) at
+    (Limit program_limit.Locals) fine)
 
 parameters_few : (outer before : Declarations) (ns : List Named) → parameters_faults outer before ns ≡ []
     → length before ≤ 12 → length (with_locals before ns) ≤ 12

@@ -6,6 +6,7 @@ use Rattle.tal_syntax.specs.tal_tokens.specs.declared.token.At.{At}
 use Rattle.tal_syntax.specs.tal_tree.specs.declared.fault.TalFault.{TalFault}
 use Rattle.tal_syntax.specs.tal_tree.specs.declared.fault.TalFault.TheVariants as tal
 use Rattle.tal_syntax.specs.tal_tree.specs.declared.place.Place.{Place}
+use Rattle.tal_syntax.specs.tal_tree.specs.LimitNumbers.{program_limit_number}
 use Rattle.tal_names.specs.declared.fault.Rule.{Rule}
 use Rattle.tal_names.specs.declared.fault.Rule.TheVariants.{Unknown, Twice, WrongKind, NotBefore, Prologue, Limit}
 use Rattle.tal_names.specs.declared.fault.Rule.TheVariants.{NoMain}
@@ -18,7 +19,7 @@ answer_by Twice place = tal.Twice place
 answer_by WrongKind place = tal.WrongKind place
 answer_by NotBefore place = tal.NotBefore place
 answer_by Prologue place = tal.Prologue place
-answer_by (Limit which) place = tal.Limit which place
+answer_by (Limit limit) place = tal.Limit limit place
 answer_by NoMain place = tal.NoMain place
 
 abbrev pub answer_of : RuleFault → TalFault
@@ -31,13 +32,18 @@ rule_number Twice = 7
 rule_number WrongKind = 8
 rule_number NotBefore = 9
 rule_number Prologue = 10
-rule_number (Limit which) = 11
+rule_number (Limit limit) = 11
 rule_number NoMain = 12
 
 -- of two limits the lower goes before
 abbrev pub which_of : Rule → ℕ
-which_of (Limit which) = which
-which_of _ = 0
+which_of (Limit limit) = program_limit_number limit
+which_of Unknown = 0
+which_of Twice = 0
+which_of WrongKind = 0
+which_of NotBefore = 0
+which_of Prologue = 0
+which_of NoMain = 0
 
 -- whether a pair of numbers is below another: by the first ones, and where these are equal by the rest
 abbrev pub below : ℕ → ℕ → Bool → Bool

@@ -1,6 +1,6 @@
-use tal_syntax::Place;
+use tal_syntax::{Place, ProgramLimit};
 
-/// A rule that a text breaks. A limit has its number.
+/// A rule that a text breaks. Of a limit it is told what the text has too much of.
 #[derive(Clone, Copy, PartialEq, Eq)]
 pub enum Rule {
     Unknown,
@@ -8,7 +8,7 @@ pub enum Rule {
     WrongKind,
     NotBefore,
     Prologue,
-    Limit(u8),
+    Limit(ProgramLimit),
     NoMain,
 }
 

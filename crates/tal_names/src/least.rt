@@ -24,8 +24,13 @@ fn which_of(rule: Rule) -> u8
     ensures { result ≡ which_of rule }
 {
     match rule {
-        Rule::Limit(which) => which,
-        _ => 0,
+        Rule::Limit(limit) => limit.number(),
+        Rule::Unknown
+        | Rule::Twice
+        | Rule::WrongKind
+        | Rule::NotBefore
+        | Rule::Prologue
+        | Rule::NoMain => 0,
     }
 }
 
@@ -105,7 +110,7 @@ pub fn answer_of(fault: RuleFault) -> TalFault
         Rule::WrongKind => TalFault::WrongKind(place),
         Rule::NotBefore => TalFault::NotBefore(place),
         Rule::Prologue => TalFault::Prologue(place),
-        Rule::Limit(which) => TalFault::Limit(which, place),
+        Rule::Limit(limit) => TalFault::Limit(limit, place),
         Rule::NoMain => TalFault::NoMain(place),
     }
 }

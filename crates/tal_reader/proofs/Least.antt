@@ -3,6 +3,10 @@ use Rattle.std.proofs.Common.{◌≡◌, ℕ, Bool, false, List, [], arith, refl
 use Rattle.std.proofs.lemmas.Bool.Decides.{nat_tests}
 use Rattle.std.proofs.lemmas.List.Elements.{All-contains}
 use Rattle.std.specs.Prelude.{nat_lt}
+use Rattle.tal_tree.specs.LimitNumbers.{program_limit_number}
+use Rattle.tal_tree.specs.declared.limit.ProgramLimit.{ProgramLimit}
+use Rattle.tal_tree.specs.declared.limit.ProgramLimit.TheVariants.{Globals, GlobalWords, ArrayWords, Files, Procedures}
+use Rattle.tal_tree.specs.declared.limit.ProgramLimit.TheVariants.{Locals, Statements, Levels, KeptReplies}
 use Rattle.tal_tree.specs.declared.place.Place.{Place}
 use Rattle.tal_meaning.specs.tal_names.specs.declared.fault.Rule.{Rule}
 use Rattle.tal_meaning.specs.tal_names.specs.declared.fault.Rule.TheVariants.{Unknown, Twice, WrongKind, NotBefore}
@@ -21,13 +25,25 @@ rest-by a b r e h = grind (arith, nat_tests)
 no-less : (a b : ℕ) → nat_lt a b ≡ false → nat_lt b a ≡ false → a ≡ b
 no-less a b h i = grind (arith, nat_tests)
 
+same-limit : (x y : ProgramLimit) → program_limit_number x ≡ program_limit_number y → x ≡ y
+same-limit Globals Globals w = refl
+same-limit GlobalWords GlobalWords w = refl
+same-limit ArrayWords ArrayWords w = refl
+same-limit Files Files w = refl
+same-limit Procedures Procedures w = refl
+same-limit Locals Locals w = refl
+same-limit Statements Statements w = refl
+same-limit Levels Levels w = refl
+same-limit KeptReplies KeptReplies w = refl
+same-limit x y w = absurd cc
+
 same-rule : (r s : Rule) → rule_number r ≡ rule_number s → which_of r ≡ which_of s → r ≡ s
 same-rule Unknown Unknown n w = refl
 same-rule Twice Twice n w = refl
 same-rule WrongKind WrongKind n w = refl
 same-rule NotBefore NotBefore n w = refl
 same-rule Prologue Prologue n w = refl
-same-rule (Limit x) (Limit y) n w = ap Limit w
+same-rule (Limit x) (Limit y) n w = ap Limit (same-limit x y w)
 same-rule NoMain NoMain n w = refl
 same-rule r s n w = absurd cc
 

@@ -30,6 +30,7 @@ use Rattle.tal_reader.specs.Reads.{IsSyntaxOf, Reads, IsRefused, misspelt, unexp
 use Rattle.tal_reader.specs.Reads.{IsJudged}
 use Rattle.tal_reader.proofs.Ends.{AllGoOn, Ended, whole, broken, tokens-end}
 use Rattle.tal_reader.proofs.Least.{one-answer, none-least}
+use Rattle.tal_tree.specs.declared.limit.ProgramLimit.TheVariants as program_limit
 
 -- One program, one fault
 
@@ -84,7 +85,7 @@ one-fault text f h (too_deep j one u g e) (unexpected k other v i d) =
 one-fault text f h (too_deep j one u g e) (too_deep k other v i d) =
     let s : TooDeep j ≡ TooDeep k = once text (TooDeep j) (TooDeep k) u v in
     let same : j ≡ k = cc in
-    e ∙ ap (fault.Limit 8) (one-place (tokens_of text).list j k one other same g i) ∙ sym d
+    e ∙ ap (fault.Limit program_limit.Levels) (one-place (tokens_of text).list j k one other same g i) ∙ sym d
 one-fault text f h (too_deep j one u g e) (unruly t least v l d) =
     absurd (let s : TooDeep j ≡ Fine = once text (TooDeep j) Fine u (within text t v) in cc)
 one-fault text f h (unruly t least u l e) (misspelt d v) =
@@ -166,7 +167,7 @@ unexpected-as text tokens k token e u i =
 
 pub deep-as : (text : List ℕ) (tokens : TokenList) (k : ℕ) (token : Token) → tokens ≡ tokens_of text
     → IsTooDeep 33 tokens.list k
-    → slice_get tokens.list k ≡ Some token → IsRead text (Err (fault.Limit 8 (place_of token)))
+    → slice_get tokens.list k ≡ Some token → IsRead text (Err (fault.Limit program_limit.Levels (place_of token)))
 deep-as text tokens k token e u i =
     λ ne. too_deep k token (subst (λ (l : TokenList). IsTooDeep 33 l.list k) e u)
     (subst (λ (l : TokenList). slice_get l.list k ≡ Some token) e i) refl

@@ -17,6 +17,7 @@ use Rattle.tal_meaning.specs.Judged.{Judged}
 use Rattle.tal_builder.specs.Built.{IsSyntax}
 use Rattle.tal_reader.specs.Places.{place_of}
 use Rattle.tal_tree.specs.gd_words.specs.declared.limits.TheConstants.{MOST_LEVELS}
+use Rattle.tal_tree.specs.declared.limit.ProgramLimit.TheVariants as program_limit
 
 -- the text's tokens are those of a syntax of the grammar, and none of them stands deeper than 33 levels, that of a
 -- procedure's own statements counted
@@ -39,7 +40,7 @@ pub data IsRefused (text : List ℕ) : TalFault → Type 0 where
       → f ≡ fault.Expected (place_of token) → IsRefused text f
   too_deep : {f : TalFault} (k : ℕ) (token : Token) → IsTooDeep MOST_LEVELS (tokens_of text).list k
       → slice_get (tokens_of text).list k ≡ Some token
-      → f ≡ fault.Limit 8 (place_of token) → IsRefused text f
+      → f ≡ fault.Limit program_limit.Levels (place_of token) → IsRefused text f
   unruly : {f : TalFault} (t : g.Text) (least : RuleFault) → IsSyntaxOf text t → IsLeast least (faults t)
       → f ≡ answer_of least → IsRefused text f
 

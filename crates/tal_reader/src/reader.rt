@@ -10,7 +10,7 @@ use tal_builder::{BuildFault, build};
 use tal_meaning::tree;
 use tal_recogniser::{Judgement, judge};
 use tal_tokens::{Token, tokens};
-use tal_tree::{Program, TalFault};
+use tal_tree::{Program, ProgramLimit, TalFault};
 
 /// The program that a text reads as, or the fault for which it is refused.
 pub fn read_program(alloc: Global, text: &[u8]) -> Result<Program, TalFault>
@@ -26,7 +26,7 @@ pub fn read_program(alloc: Global, text: &[u8]) -> Result<Program, TalFault>
             None => unreachable!(),
         },
         Judgement::Unexpected(k) => Err(TalFault::Expected(place_of(&list[k]))),
-        Judgement::TooDeep(k) => Err(TalFault::Limit(8, place_of(&list[k]))),
+        Judgement::TooDeep(k) => Err(TalFault::Limit(ProgramLimit::Levels, place_of(&list[k]))),
     }
 }
 

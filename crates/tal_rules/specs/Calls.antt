@@ -24,6 +24,7 @@ use Rattle.tal_names.specs.Names.{Declarations, is_declared, with_name}
 use Rattle.tal_names.specs.Places.{first_of_argument, name_of_argument, front_name_of_argument, constant_of}
 use Rattle.tal_names.specs.Scopes.{meaning_of, name_faults}
 use Rattle.tal_syntax.specs.gd_words.specs.declared.limits.TheConstants.{MOST_FILES}
+use Rattle.tal_tree.specs.declared.limit.ProgramLimit.TheVariants as program_limit
 
 -- a procedure is called with as many values as it has parameters, on a right side only where it gives a value, and only
 -- after its own declaration has ended
@@ -155,7 +156,8 @@ is_opened s opened (Some a) = name_opened s opened (name_of_argument a)
 -- at most 8 files
 abbrev pub file_limit : ℕ → Option g.Argument → List RuleFault
 file_limit opened None = []
-file_limit opened (Some a) = if_so (nat_le MOST_FILES opened) (fault_at (first_of_argument a) (Limit 4))
+file_limit opened (Some a) = if_so (nat_le MOST_FILES opened)
+    (fault_at (first_of_argument a) (Limit program_limit.Files))
 
 -- a depth is from 1 to 4, and 1 for `$RECEIVE`
 abbrev pub is_depth : Bool → ℤ → Bool
@@ -164,7 +166,8 @@ is_depth false value = int_le (pos 1) value && int_le value (pos 4)
 
 abbrev pub depth_limit : Bool → g.Argument → Option ℤ → List RuleFault
 depth_limit receive a None = []
-depth_limit receive a (Some value) = if_so (not (is_depth receive value)) (fault_at (first_of_argument a) (Limit 9))
+depth_limit receive a (Some value) = if_so (not (is_depth receive value))
+    (fault_at (first_of_argument a) (Limit program_limit.KeptReplies))
 
 abbrev pub depth_form : Scope → g.Argument → Option g.Constant → List RuleFault
 depth_form s a None = fault_at (first_of_argument a) WrongKind

@@ -25,6 +25,7 @@ use Rattle.tal_names.specs.Systems.{system_of}
 use Rattle.tal_names.specs.Places.{first_of_spot, name_of_expr, arguments_of}
 use Rattle.tal_names.specs.Scopes.{meaning_of, name_faults}
 use Rattle.tal_syntax.specs.gd_words.specs.declared.limits.TheConstants.{MOST_FILES, MOST_STATEMENTS}
+use Rattle.tal_tree.specs.declared.limit.ProgramLimit.TheVariants as program_limit
 
 -- the number after another. Those past the limit all count as 2,001
 abbrev pub next_number : ℕ → ℕ
@@ -75,7 +76,7 @@ after_call w arguments None = stepped w
 
 -- at most 2,000 numbered statements
 abbrev pub number_faults : ℕ → At → List RuleFault
-number_faults n at = if_so (nat_lt MOST_STATEMENTS n) (fault_at at (Limit 7))
+number_faults n at = if_so (nat_lt MOST_STATEMENTS n) (fault_at at (Limit program_limit.Statements))
 
 -- RETURN has an expression exactly in a procedure that gives a value
 abbrev pub return_faults : Scope → At → g.Answer → List RuleFault

@@ -29,7 +29,7 @@ use tal_names::place::at_of_argument;
 use tal_names::scope::{Named, Scope};
 use tal_names::system::System;
 use tal_syntax::{Argument, Arguments, At, Constant, Ident, NextArgument, NextValue, NoMemory};
-use tal_tree::MOST_FILES;
+use tal_tree::{MOST_FILES, ProgramLimit};
 
 /// Judges a call of what a name stands for with so many arguments; `wants` where its value goes to a target.
 #[tactic(auto, using(crate::proofs::Parts::parts))]
@@ -416,7 +416,7 @@ fn judge_file(
             so_far,
             opened >= MOST_FILES,
             at_of_argument(argument),
-            Rule::Limit(4),
+            Rule::Limit(ProgramLimit::Files),
         ),
     }
 }
@@ -445,7 +445,7 @@ fn judge_depth_value(
             so_far,
             !is_depth(receive, value),
             at_of_argument(argument),
-            Rule::Limit(9),
+            Rule::Limit(ProgramLimit::KeptReplies),
         ),
     }
 }

@@ -33,7 +33,7 @@ use tal_syntax::{
     Answer, Arguments, Assign, AssignCall, At, Call, Expr, ForHead, Next, NextValue, NoMemory,
     Otherwise, Return, Statement, Step, Test, Until,
 };
-use tal_tree::{MOST_FILES, MOST_STATEMENTS};
+use tal_tree::{MOST_FILES, MOST_STATEMENTS, ProgramLimit};
 
 /// What stands before a statement, and the least fault so far.
 #[derive(Clone, Copy)]
@@ -136,7 +136,12 @@ pub fn after_call(walk: Walk, arguments: &Arguments, system: Option<System>) -> 
 fn judge_number(number: u16, at: At, so_far: Option<RuleFault>) -> Option<RuleFault>
     ensures { result ≡ least so_far (number_faults number at) }
 {
-    with_fault_if(so_far, number > MOST_STATEMENTS, at, Rule::Limit(7))
+    with_fault_if(
+        so_far,
+        number > MOST_STATEMENTS,
+        at,
+        Rule::Limit(ProgramLimit::Statements),
+    )
 }
 
 /// Judges whether RETURN has an expression exactly where its procedure gives a value.

@@ -23,5 +23,5 @@ pub use statement::{
     Answer, Argument, ArgumentList, Arguments, Assign, AssignCall, Call, Direction, ForHead, Next,
     NextArgument, NextValue, Otherwise, Return, Statement, Step, Test, Until,
 };
-pub use tal_tokens::{At, Ident, List, NoMemory, Place, TalFault};
+pub use tal_tokens::{At, Ident, List, NoMemory, Place, ProgramLimit, TalFault};
 pub use text::{Procedure, Text};

@@ -17,5 +17,7 @@ pub mod token;
 mod word;
 
 pub use lexer::{TokenList, tokens};
-pub use tal_tree::{Boxed, Ident, List, MOST_LEVELS, Name, NoMemory, Place, TalFault};
+pub use tal_tree::{
+    Boxed, Ident, List, MOST_LEVELS, Name, NoMemory, Place, ProgramLimit, TalFault,
+};
 pub use token::{At, Token};

@@ -1,3 +1,4 @@
+use crate::limit::{DeckLimit, ProgramLimit};
 use crate::place::Place;
 use gd_words::NoMemory;
 use thiserror::Error;
@@ -25,8 +26,8 @@ pub enum TalFault {
     NotBefore(Place),
     #[error("{0}: the main procedure has to begin with CHECKMONITOR and the OPENs")]
     Prologue(Place),
-    #[error("{1}: past limit {0}")]
-    Limit(u8, Place),
+    #[error("{1}: more than a program may have")]
+    Limit(ProgramLimit, Place),
     #[error("{0}: no procedure is MAIN")]
     NoMain(Place),
     #[error("out of memory")]
@@ -48,8 +49,8 @@ pub enum DeckFault {
     SameProcessor(u32),
     #[error("line {0}: there is no such processor")]
     NoProcessor(u32),
-    #[error("line {0}: past limit {1}")]
-    Limit(u32, u8),
+    #[error("line {0}: more than a deck may have")]
+    Limit(u32, DeckLimit),
     #[error("the deck ends before END, after {0} lines")]
     NoEnd(u32),
     #[error("line {0}: the program opens its own pair")]

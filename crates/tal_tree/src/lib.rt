@@ -9,6 +9,7 @@
 pub mod act;
 pub mod expression;
 pub mod fault;
+pub mod limit;
 pub mod place;
 pub mod program;
 pub mod site;
@@ -26,6 +27,7 @@ pub use gd_words::{
     Boxed, DeviceCall, Ident, List, Name, NoMemory, Sector, Words, div_trunc, wrap_add, wrap_mul,
     wrap_neg, wrap_sub,
 };
+pub use limit::{DeckLimit, ProgramLimit};
 pub use place::Place;
 pub use program::{FileUse, Item, Procedure, Program, Shape, Target};
 pub use site::{Kind, OpenerSpec, ProcessSpec, Site, TerminalSpec, Who};

@@ -7,6 +7,7 @@ ghost use Rattle.tal_tokens.specs.declared.token.Token.TheVariants as tok;
 ghost use Rattle.token_guards.specs.Loops.{one_global, numbered_from, number_alone, name_alone, open_if};
 ghost use Rattle.token_guards.specs.Loops.{counted_loop, tested_loop};
 ghost use Rattle.token_guards.specs.Texts.{tokens_in, on_first_line};
+ghost use Rattle.tal_tree.specs.declared.limit.ProgramLimit.TheVariants as program_limit;
 
 /// The words of loops are keywords, in either case.
 pub fn a_loop_has_words_of_its_own()
@@ -54,8 +55,8 @@ pub fn a_for_counts_by_one_or_more()
 pub fn a_loop_may_have_a_number_too_many()
     ensures two { statement_faults one_global (numbered_from 1999) tested_loop ≡ [] }
     ensures after_body { statement_faults one_global (numbered_from 2000) tested_loop
-        ≡ fault_at (on_first_line 0 2) (Limit 7) }
+        ≡ fault_at (on_first_line 0 2) (Limit program_limit.Statements) }
     ensures three { statement_faults one_global (numbered_from 1998) counted_loop ≡ [] }
     ensures last { statement_faults one_global (numbered_from 1999) counted_loop
-        ≡ fault_at (on_first_line 0 3) (Limit 7) }
+        ≡ fault_at (on_first_line 0 3) (Limit program_limit.Statements) }
 {}

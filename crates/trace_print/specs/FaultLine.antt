@@ -1,5 +1,6 @@
 -- The line of a deck's fault.
 use Rattle.std.specs.Prelude.{ℕ, List, [], ◌∷◌, ◌++◌, codes}
+use Rattle.tal_tree.specs.LimitNumbers.{deck_limit_number}
 use Rattle.tal_tree.specs.declared.fault.DeckFault.{DeckFault}
 use Rattle.tal_tree.specs.declared.fault.DeckFault.TheVariants.{Line, Program, NameTwice, UnknownName, SameProcessor}
 use Rattle.tal_tree.specs.declared.fault.DeckFault.TheVariants.{NoProcessor, Limit, NoEnd, OpensItself, TooLong}
@@ -21,7 +22,7 @@ fault_numbers (NameTwice line) = line ∷ 3 ∷ []
 fault_numbers (UnknownName line) = line ∷ 4 ∷ []
 fault_numbers (SameProcessor line) = line ∷ 5 ∷ []
 fault_numbers (NoProcessor line) = line ∷ 6 ∷ []
-fault_numbers (Limit line which) = line ∷ 7 ∷ which ∷ []
+fault_numbers (Limit line limit) = line ∷ 7 ∷ deck_limit_number limit ∷ []
 fault_numbers (NoEnd line) = line ∷ 8 ∷ []
 fault_numbers (OpensItself line) = line ∷ 9 ∷ []
 fault_numbers TooLong = 0 ∷ 10 ∷ []

@@ -1,5 +1,6 @@
 -- The numbers that tell of a program text's fault.
 use Rattle.std.specs.Prelude.{ℕ, List, [], ◌∷◌}
+use Rattle.tal_tree.specs.LimitNumbers.{program_limit_number}
 use Rattle.tal_tree.specs.declared.place.Place.{Place}
 use Rattle.tal_tree.specs.declared.fault.TalFault.{TalFault}
 use Rattle.tal_tree.specs.declared.fault.TalFault.TheVariants.{BadCharacter, NumberTooLarge, OpenString, NameTooLong}
@@ -27,6 +28,6 @@ tal_numbers (Twice place) = placed 7 place
 tal_numbers (WrongKind place) = placed 8 place
 tal_numbers (NotBefore place) = placed 9 place
 tal_numbers (Prologue place) = placed 10 place
-tal_numbers (Limit which place) = 11 ∷ place.line ∷ place.column ∷ which ∷ []
+tal_numbers (Limit limit place) = 11 ∷ place.line ∷ place.column ∷ program_limit_number limit ∷ []
 tal_numbers (NoMain place) = placed 12 place
 tal_numbers (NoMemory _) = []

@@ -36,7 +36,7 @@ fn push_fault(line: &mut Line, fault: &DeckFault)
         DeckFault::UnknownName(at) => line.numbers(&[*at, 4]),
         DeckFault::SameProcessor(at) => line.numbers(&[*at, 5]),
         DeckFault::NoProcessor(at) => line.numbers(&[*at, 6]),
-        DeckFault::Limit(at, which) => line.numbers(&[*at, 7, u32::from(*which)]),
+        DeckFault::Limit(at, limit) => line.numbers(&[*at, 7, u32::from(limit.number())]),
         DeckFault::NoEnd(at) => line.numbers(&[*at, 8]),
         DeckFault::OpensItself(at) => line.numbers(&[*at, 9]),
         DeckFault::TooLong => line.numbers(&[0, 10]),
@@ -61,8 +61,8 @@ fn push_tal_fault(line: &mut Line, fault: &TalFault)
         TalFault::WrongKind(place) => push_placed(line, 8, place),
         TalFault::NotBefore(place) => push_placed(line, 9, place),
         TalFault::Prologue(place) => push_placed(line, 10, place),
-        TalFault::Limit(which, place) => {
-            line.numbers(&[11, place.line, place.column, u32::from(*which)]);
+        TalFault::Limit(limit, place) => {
+            line.numbers(&[11, place.line, place.column, u32::from(limit.number())]);
         }
         TalFault::NoMain(place) => push_placed(line, 12, place),
         TalFault::NoMemory(_) => unreachable!(),

@@ -21,6 +21,7 @@ use Rattle.tal_declarations.specs.Globals.{first_of_constant, atom_faults, atom_
 use Rattle.tal_declarations.specs.Globals.{item_limits, item_faults}
 use Rattle.tal_names.specs.Names.{Declarations}
 use Rattle.tal_faultless.proofs.Common.Faultless.{refuted, three}
+use Rattle.tal_tree.specs.declared.limit.ProgramLimit.TheVariants as program_limit
 
 -- what a shape is declared with: how many words it takes
 abbrev pub extent_by : Shape → Extent
@@ -99,17 +100,18 @@ item_declarable d at name b fine =
     let parts = three (taken_faults d.names at name) (bounds_faults d.names b) (item_limits d at x.words) fine in
     let s = shaped d.names b parts.1 in
     let sizes =
-    three (if_so (nat_le 64 (length d.items)) (fault_at at (Limit 1)))
-    (if_so (nat_lt 1024 (d.words + x.words)) (fault_at at (Limit 2)))
-    (if_so (nat_lt 256 x.words) (fault_at at (Limit 3))) parts.2 in
+    three (if_so (nat_le 64 (length d.items)) (fault_at at (Limit program_limit.Globals)))
+    (if_so (nat_lt 1024 (d.words + x.words)) (fault_at at (Limit program_limit.GlobalWords)))
+    (if_so (nat_lt 256 x.words) (fault_at at (Limit program_limit.ArrayWords))) parts.2 in
     record {
       is = s.is;
       declarable = record {
         free = refuted (is_taken d.names name) at Twice parts.0;
         is_ordered = s.fine;
-        few = refuted (nat_le 64 (length d.items)) at (Limit 1) sizes.0;
+        few = refuted (nat_le 64 (length d.items)) at (Limit program_limit.Globals) sizes.0;
         room = sym (ap (λ e. nat_lt 1024 (d.words + e.words)) s.is)
-            ∙ refuted (nat_lt 1024 (d.words + x.words)) at (Limit 2) sizes.1;
-        small = sym (ap (λ e. nat_lt 256 e.words) s.is) ∙ refuted (nat_lt 256 x.words) at (Limit 3) sizes.2;
+            ∙ refuted (nat_lt 1024 (d.words + x.words)) at (Limit program_limit.GlobalWords) sizes.1;
+        small = sym (ap (λ e. nat_lt 256 e.words) s.is) ∙ refuted (nat_lt 256 x.words) at
+            (Limit program_limit.ArrayWords) sizes.2;
       };
     }

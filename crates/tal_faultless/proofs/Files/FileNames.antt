@@ -33,6 +33,7 @@ use Rattle.std.proofs.lemmas.Bool.{not-false, leb-false, or_parts}
 use Rattle.tal_faultless.proofs.Common.Limits.{next_is, min_is}
 use Rattle.tal_faultless.proofs.Common.Faultless.{first_nil, second_nil, refuted}
 use Rattle.tal_faultless.proofs.Common.Entries.{get_front, get_last, get_either}
+use Rattle.tal_tree.specs.declared.limit.ProgramLimit.TheVariants as program_limit
 
 -- the variable of a file, which is a simple global, with the file's number
 pub record IsOpened (globals : Declarations) (uses : List FileUse) (i : ℕ) (d : List ℕ × Meaning) : Type 0 where
@@ -203,7 +204,7 @@ module _ (s : Scope) where
   by_arguments f k r (x ∷ y ∷ []) three once fine few a = absurd (omega (arith, three))
   by_arguments f k r (string ∷ variable ∷ depth ∷ []) three once fine few a =
       named_opened f k r string depth (name_of_argument variable)
-      (refuted (nat_le 8 k) (first_of_argument variable) (Limit 4) few) once fine a
+      (refuted (nat_le 8 k) (first_of_argument variable) (Limit program_limit.Files) few) once fine a
   by_arguments f k r (x ∷ y ∷ z ∷ u ∷ rest) three once fine few a = absurd (omega (arith, three))
 
   -- the files after an OPEN without faults

@@ -19,6 +19,7 @@ use Rattle.tal_names.specs.Scopes.{or_else, meaning_of, is_file}
 use Rattle.tal_faultless.proofs.Scopes.SourceNames.{SourceNames}
 use Rattle.tal_faultless.proofs.Scopes.SourceScopes.{without_files}
 use Rattle.tal_faultless.proofs.Common.Faultless.{no_fault, split, refuted}
+use Rattle.tal_tree.specs.declared.limit.ProgramLimit.TheVariants as program_limit
 
 -- a depth from 1 to 4 is the number itself
 pub depth_is : (receive : Bool) (d : ℕ) → is_depth receive (pos d) ≡ true → depth_of (Some (pos d)) ≡ d
@@ -42,7 +43,7 @@ kept_depth true None a faultless = refl
 kept_depth false None a faultless = refl
 kept_depth receive (Some (pos n)) a faultless =
     let fine = not-false (is_depth receive (pos n))
-    (refuted (not (is_depth receive (pos n))) (first_of_argument a) (Limit 9) faultless) in
+    (refuted (not (is_depth receive (pos n))) (first_of_argument a) (Limit program_limit.KeptReplies) faultless) in
     ap (λ k. is_depth receive (pos k)) (depth_is receive n fine) ∙ fine
 kept_depth true (Some (negsuc n)) a faultless = no_fault faultless
 kept_depth false (Some (negsuc n)) a faultless = no_fault faultless

@@ -29,6 +29,7 @@ use Rattle.tal_faultless.proofs.Common.Limits.{limit_is, min_is}
 use Rattle.std.proofs.lemmas.Bool.{leb-false, or_parts}
 use Rattle.tal_faultless.proofs.Common.Faultless.{first_nil, second_nil, refuted}
 use Rattle.tal_faultless.proofs.Common.Entries.{none_of, get_front, get_last, get_either}
+use Rattle.tal_tree.specs.declared.limit.ProgramLimit.TheVariants as program_limit
 
 -- what a name is declared as among the globals is an item or a procedure of this name
 abbrev pub Means : List Item → List (List ℕ) → List ℕ → Meaning → Type 0
@@ -160,7 +161,7 @@ item_globals : (d : Declared) (i : g.Item) → item_faults d i ≡ [] → AreIte
 item_globals d (g.item at name bounds) e a =
     with_one_item d.names d.items name (extent_of d.names bounds).shape (extent_plain d.names bounds)
     (not_taken d.names at name (first_nil taken misfits (first_nil (taken ++ misfits) limits e))).1
-    (refuted (nat_le 64 (length d.items)) at (Limit 1)
+    (refuted (nat_le 64 (length d.items)) at (Limit program_limit.Globals)
     (first_nil many large (first_nil (many ++ large) long (second_nil (taken ++ misfits) limits e))))
     a
   where
@@ -177,13 +178,13 @@ item_globals d (g.item at name bounds) e a =
     limits = item_limits d at words
 
     many : List RuleFault
-    many = if_so (nat_le 64 (length d.items)) (fault_at at (Limit 1))
+    many = if_so (nat_le 64 (length d.items)) (fault_at at (Limit program_limit.Globals))
 
     large : List RuleFault
-    large = if_so (nat_lt 1024 (d.words + words)) (fault_at at (Limit 2))
+    large = if_so (nat_lt 1024 (d.words + words)) (fault_at at (Limit program_limit.GlobalWords))
 
     long : List RuleFault
-    long = if_so (nat_lt 256 words) (fault_at at (Limit 3))
+    long = if_so (nat_lt 256 words) (fault_at at (Limit program_limit.ArrayWords))
 
 literal_globals : (d : Declared) (l : g.Literal) → AreItems d → AreItems (with_literal d l)
 literal_globals d (g.literal at name equal c) a =
@@ -246,7 +247,7 @@ heading_globals : (h : Headed) (items : List Item) (procedures : List (List ℕ)
     → AreHeaded (with_heading h x) items (procedures ++ name_by x ∷ [])
 heading_globals h items procedures (g.heading gives proc at name listed main end) e a =
     let taken : List RuleFault = taken_faults h.names at name in
-    let few : List RuleFault = if_so (nat_le 64 h.count) (fault_at at (Limit 5)) in
+    let few : List RuleFault = if_so (nat_le 64 h.count) (fault_at at (Limit program_limit.Procedures)) in
     let mains : List RuleFault =
     main_faults (is_some h.main) at (not (does_give gives) && (length (parameters_of listed) == 0)) main in
     let free = free_name h.names at name (first_nil taken few (first_nil (taken ++ few) mains e)) in
@@ -263,7 +264,8 @@ heading_globals h items procedures (g.heading gives proc at name listed main end
           min_is 64 (h.count + 1) (omega (
             arith,
             leb-false 64 h.count
-                (refuted (nat_le 64 h.count) at (Limit 5) (second_nil taken few (first_nil (taken ++ few) mains e))),
+                (refuted (nat_le 64 h.count) at (Limit program_limit.Procedures)
+                (second_nil taken few (first_nil (taken ++ few) mains e))),
           ))
           ∙ ap (λ n. n + 1) a.count ∙ sym (length-append procedures (name ∷ []));
     }

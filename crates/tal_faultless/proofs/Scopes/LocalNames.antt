@@ -25,6 +25,7 @@ use Rattle.tal_faultless.proofs.Common.Names.{texts_append}
 use Rattle.tal_faultless.proofs.Common.Faultless.{first_nil, second_nil, refuted}
 use Rattle.tal_faultless.proofs.Common.Entries.{get_front, get_last}
 use Rattle.std.proofs.lemmas.Bool.{or_parts}
+use Rattle.tal_tree.specs.declared.limit.ProgramLimit.TheVariants as program_limit
 
 -- a name stands for a local in its place
 pub record IsLocal (texts : List (List ℕ)) (name : List ℕ) (x : Meaning) : Type 0 where
@@ -63,7 +64,7 @@ one_local ds texts name new few a = record {
         (subst (λ y. IsLocal (texts ++ name ∷ []) name y) e.1 is_last)
 
 few_of : (before : Declarations) (at : At) → count_faults before at ≡ [] → nat_le 12 (length before) ≡ false
-few_of before at e = refuted (nat_le 12 (length before)) at (Limit 6) e
+few_of before at e = refuted (nat_le 12 (length before)) at (Limit program_limit.Locals) e
 
 -- the parameters, and the locals after them
 parameter_locals : (outer before : Declarations) (texts : List (List ℕ)) (ns : List Named)

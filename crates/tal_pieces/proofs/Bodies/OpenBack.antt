@@ -43,6 +43,7 @@ use Rattle.tal_pieces.proofs.Bodies.StatementsBack.{StatementBack}
 use Rattle.tal_pieces.proofs.Bodies.SystemCallBack.{called_back, system_back}
 use Rattle.tal_faultless.proofs.Common.Faultless.{nils}
 use Rattle.tal_faultless.proofs.Common.Limits.{next_is}
+use Rattle.tal_tree.specs.declared.limit.ProgramLimit.TheVariants as program_limit
 
 -- the string of an OPEN
 record StringBack (s : Scope) (t : Target) (ks : List Piece) (tokens : List Token) : Type 0 where
@@ -162,9 +163,10 @@ module _ (p : Program) (locals : List (List ℕ)) (s : Scope) (f : Files) where
             (stands_next at o))
             b.fine)
             (ap (kind_faults need.FileVariable x.at) o.means ∙ file_fine o.opened.target o.opened.item file x.at))
-            (ap (λ r. if_so r (fault_at x.at (Limit 4))) o.few))
-            (ap (λ r. if_so (not (is_depth r (pos o.opened.depth))) (fault_at q.at (Limit 9))) b.receives
-            ∙ ap (λ r. if_so (not r) (fault_at q.at (Limit 9))) o.depth);
+            (ap (λ r. if_so r (fault_at x.at (Limit program_limit.Files))) o.few))
+            (ap (λ r. if_so (not (is_depth r (pos o.opened.depth))) (fault_at q.at (Limit program_limit.KeptReplies)))
+            b.receives
+            ∙ ap (λ r. if_so (not r) (fault_at q.at (Limit program_limit.KeptReplies))) o.depth);
         shallow = λ ls held. (
           deep,
           b.shallow (suc (suc n))

@@ -37,6 +37,7 @@ use Rattle.tal_pieces.proofs.Declarations.LocalsBack.{parameters_back, locals_ba
 use Rattle.tal_pieces.proofs.Declarations.LocalsFaults.{NamesFine, with_texts, by_texts, names_fine, locals_fine}
 use Rattle.tal_faultless.proofs.Common.Names.{texts_append}
 use Rattle.tal_faultless.proofs.Common.Faultless.{nils, refuted, silent, three}
+use Rattle.tal_tree.specs.declared.limit.ProgramLimit.TheVariants as program_limit
 
 -- the names of a list by their spelling alone
 texts_length : (ns : List Named) → length (texts_of ns) ≡ length ns
@@ -177,7 +178,7 @@ module _ (hd : Headed) (gives : g.Gives) (proc at : At) (name : List ℕ) (liste
       let ps : List Named = parameters_of listed in
       let bare : Bool = not (does_give gives) && (length ps == 0) in
       let heads =
-      three (taken_faults hd.names at name) (if_so (nat_le 64 hd.count) (fault_at at (Limit 5)))
+      three (taken_faults hd.names at name) (if_so (nat_le 64 hd.count) (fault_at at (Limit program_limit.Procedures)))
       (main_faults (is_some hd.main) at bare main) fine in
       let free : is_taken hd.names name ≡ false = refuted (is_taken hd.names name) at Twice heads.0 in
       let count : length (parameters_of b.listed) ≡ length ps = count_from (parameters_of b.listed) ps b.listed_texts in
@@ -212,7 +213,8 @@ module _ (hd : Headed) (gives : g.Gives) (proc at : At) (name : List ℕ) (liste
         };
         faultless =
             nils (nils (silent (is_taken (without_literals hd.names) name) b.at Twice (still_free hd.names name free))
-            (silent (nat_le 64 hd.count) b.at (Limit 5) (refuted (nat_le 64 hd.count) at (Limit 5) heads.1)))
+            (silent (nat_le 64 hd.count) b.at (Limit program_limit.Procedures)
+            (refuted (nat_le 64 hd.count) at (Limit program_limit.Procedures) heads.1)))
             (same_main main b.main (sym b.main_same) (is_some hd.main) at b.at bare
             (not (does_give b.given) && (length (parameters_of b.listed) == 0))
             (λ i. not (sym b.gives_same i) && (sym count i == 0)) heads.2);

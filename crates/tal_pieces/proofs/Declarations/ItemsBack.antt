@@ -29,6 +29,7 @@ use Rattle.tal_pieces.proofs.Declarations.DeclarationsBack.{FilesAreSimple, Line
 use Rattle.tal_faultless.proofs.Declarations.ItemsDeclarable.{extent_by, IsOrdered, IsDeclarable}
 use Rattle.tal_pieces.proofs.Declarations.ItemsDeclared.{AreDeclarable, with_declared, declared_by, lines_declare}
 use Rattle.tal_faultless.proofs.Common.Faultless.{nils, silent}
+use Rattle.tal_tree.specs.declared.limit.ProgramLimit.TheVariants as program_limit
 
 -- a declaration opens no level
 pub low_level : 0 ≤ 33
@@ -93,9 +94,9 @@ item_fine : (d : Declared) (i : Item) (at : At) (b : g.Bounds) → extent_of d.n
 item_fine d i at b x bounds fine =
     nils (nils (silent (is_taken d.names i.name) at Twice fine.free) bounds)
     (ap (λ e. item_limits d at e.words) x
-    ∙ nils (nils (silent (nat_le 64 (length d.items)) at (Limit 1) fine.few)
-    (silent (nat_lt 1024 (d.words + (extent_by i.shape).words)) at (Limit 2) fine.room))
-    (silent (nat_lt 256 (extent_by i.shape).words) at (Limit 3) fine.small))
+    ∙ nils (nils (silent (nat_le 64 (length d.items)) at (Limit program_limit.Globals) fine.few)
+    (silent (nat_lt 1024 (d.words + (extent_by i.shape).words)) at (Limit program_limit.GlobalWords) fine.room))
+    (silent (nat_lt 256 (extent_by i.shape).words) at (Limit program_limit.ArrayWords) fine.small))
 
 items_back : (d : Declared) (items : List Item) (ks : List Piece) (tokens : List Token) → AreDeclarable d items
     → AreTokens (items_pieces items ks) tokens

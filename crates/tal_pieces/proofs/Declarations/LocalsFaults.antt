@@ -13,6 +13,7 @@ use Rattle.tal_names.specs.Names.{Declarations, is_declared}
 use Rattle.tal_meaning.specs.Programs.{texts_of}
 use Rattle.tal_pieces.proofs.Scopes.DeclaredNames.{stays, is_there, fresh_of_free, one_more}
 use Rattle.tal_faultless.proofs.Common.Faultless.{nils, first_nil, second_nil, refuted, silent, three}
+use Rattle.tal_tree.specs.declared.limit.ProgramLimit.TheVariants as program_limit
 
 -- with these names declared as locals
 abbrev pub with_texts : Declarations → List (List ℕ) → Declarations
@@ -55,7 +56,7 @@ are_parameters outer before (n ∷ ns) fine =
     (if_so (not (is_declared n.name outer)) (fault_at n.at Unknown)) (count_faults before n.at) one in (
       refuted (is_taken before n.name) n.at Twice parts.0,
       not-false (is_declared n.name outer) (refuted (not (is_declared n.name outer)) n.at Unknown parts.1),
-      refuted (nat_le 12 (length before)) n.at (Limit 6) parts.2,
+      refuted (nat_le 12 (length before)) n.at (Limit program_limit.Locals) parts.2,
       are_parameters outer (with_local before n.name) ns
           (second_nil (parameter_faults outer before n) (parameters_faults outer (with_local before n.name) ns) fine),
     )
@@ -70,7 +71,7 @@ are_inner outer before (n ∷ ns) fine =
     (refuted taken n.at Twice (first_nil (if_so taken (fault_at n.at Twice)) (count_faults before n.at) one)) in (
       new.0,
       new.1,
-      refuted (nat_le 12 (length before)) n.at (Limit 6)
+      refuted (nat_le 12 (length before)) n.at (Limit program_limit.Locals)
           (second_nil (if_so taken (fault_at n.at Twice)) (count_faults before n.at) one),
       are_inner outer (with_local before n.name) ns
           (second_nil (one_inner_faults outer before n) (inner_faults outer (with_local before n.name) ns) fine),
@@ -83,7 +84,7 @@ parameters_fine outer before [] h = refl
 parameters_fine outer before (n ∷ ns) h =
     nils (nils (nils (silent (is_taken before n.name) n.at Twice h.0)
     (silent (not (is_declared n.name outer)) n.at Unknown (ap not h.1)))
-    (silent (nat_le 12 (length before)) n.at (Limit 6) h.2))
+    (silent (nat_le 12 (length before)) n.at (Limit program_limit.Locals) h.2))
     (parameters_fine outer (with_local before n.name) ns h.3)
 
 outer_fine : (parameters before : Declarations) (ns : List Named) → AreOuter parameters before (texts_of ns)
@@ -100,7 +101,7 @@ inner_fine outer before [] h = refl
 inner_fine outer before (n ∷ ns) h =
     nils (nils (silent (is_taken before n.name || is_declared n.name outer) n.at Twice
     (or_from (is_taken before n.name) (is_declared n.name outer) h.0 h.1))
-    (silent (nat_le 12 (length before)) n.at (Limit 6) h.2))
+    (silent (nat_le 12 (length before)) n.at (Limit program_limit.Locals) h.2))
     (inner_fine outer (with_local before n.name) ns h.3)
 
 -- a name that is declared stays declared after more

@@ -33,6 +33,7 @@ use Rattle.tal_pieces.proofs.Standing.Stands.{Stands, lone, tests, loops, counts
 use Rattle.tal_pieces.proofs.Standing.Stands.{ended, goes_on}
 use Rattle.tal_faultless.proofs.Scopes.SourceScopes.{without_files}
 use Rattle.tal_faultless.proofs.Common.Faultless.{split, refuted}
+use Rattle.tal_tree.specs.declared.limit.ProgramLimit.TheVariants as program_limit
 
 module _ (p : Program) (locals : List (List ℕ)) (s : Scope) (all : Files) (agreed : Agreement p locals s)
     (names : SourceNames s)
@@ -94,14 +95,14 @@ module _ (p : Program) (locals : List (List ℕ)) (s : Scope) (all : Files) (agr
         parts.1
         (levels.after_statement s 33 t (suc n) (nest_otherwise (suc n) o ls)
         (levels.after_expr s 33 test (suc n) (suc n ∷ yes_levels) low.1).1) in
-        single (tests (refuted (nat_lt 2000 w.number) head (Limit 7) counted.0)
+        single (tests (refuted (nat_lt 2000 w.number) head (Limit program_limit.Statements) counted.0)
         (fits_test p locals s agreed test (suc n) (suc n ∷ yes_levels) low.1) x.inner y.inner) y.opened
     stand (g.while_do head test do_at t) n w f ls so_far more none low =
         let parts = split none in
         let counted = split parts.0 in
         let x = stand t (suc n) (stepped w) f ls so_far more parts.1
         (levels.after_expr s 33 test (suc n) (suc n ∷ nest_statement (suc n) t ls) low.1).1 in
-        single (loops (refuted (nat_lt 2000 w.number) head (Limit 7) counted.0)
+        single (loops (refuted (nat_lt 2000 w.number) head (Limit program_limit.Statements) counted.0)
         (fits_test p locals s agreed test (suc n) (suc n ∷ nest_statement (suc n) t ls) low.1) x.inner) x.opened
     stand (g.for_do head at name set_at from direction to step do_at t) n w f ls so_far more none low =
         let parts = split none in
@@ -117,7 +118,8 @@ module _ (p : Program) (locals : List (List ℕ)) (s : Scope) (all : Files) (agr
         single (counts (named_variable p locals s agreed at name (meaning_of s name) refl named.0)
         (fits_value p locals s agreed from (suc n) (suc n ∷ nest_expr (suc n) to to_levels) low.1.1.1)
         (fits_value p locals s agreed to (suc n) to_levels low_to) (step_fine step steps.1) x.inner
-        (refuted (nat_lt 2000 (after s (stepped (stepped w)) t).number) head (Limit 7) parts.1)) x.opened
+        (refuted (nat_lt 2000 (after s (stepped (stepped w)) t).number) head (Limit program_limit.Statements)
+        parts.1)) x.opened
     stand (g.do_until head t at test) n w f ls so_far more none low =
         let parts = split none in
         let counted = split parts.1 in
@@ -126,28 +128,32 @@ module _ (p : Program) (locals : List (List ℕ)) (s : Scope) (all : Files) (agr
         single (repeats
         (fits_test p locals s agreed test (suc n) ls (levels.after_statement s 33 t (suc n) test_levels low.1).1)
         x.inner
-        (refuted (nat_lt 2000 (after s (inside_do w) t).number) head (Limit 7) counted.0)) x.opened
+        (refuted (nat_lt 2000 (after s (inside_do w) t).number) head (Limit program_limit.Statements) counted.0))
+        x.opened
     stand (g.call head at name a) n w f ls so_far more none low =
         let parts = split none in
         let x = call_stand p locals s all agreed names files_are names_are n w f head at name (arguments_of a)
         (system_of name)
-        (refuted (nat_lt 2000 w.number) head (Limit 7) parts.0) low.0 (low_arguments s a (suc n) ls low.1.1) so_far
+        (refuted (nat_lt 2000 w.number) head (Limit program_limit.Statements) parts.0) low.0
+        (low_arguments s a (suc n) ls low.1.1) so_far
         more parts.1 in
         single x.stands x.opened
     stand (g.return head a) n w f ls so_far more none low =
         let parts = split none in
-        single (lone (refuted (nat_lt 2000 w.number) head (Limit 7) parts.0)
+        single (lone (refuted (nat_lt 2000 w.number) head (Limit program_limit.Statements) parts.0)
         (return_stands p locals s agreed names n head a ls parts.1 low.0 low.1)) so_far
     stand (g.assign target at e) n w f ls so_far more none low =
         let parts = split none in
         let target_parts = split parts.0 in
-        single (lone (refuted (nat_lt 2000 w.number) (first_of_spot target) (Limit 7) target_parts.0)
+        single (lone (refuted (nat_lt 2000 w.number) (first_of_spot target) (Limit program_limit.Statements)
+        target_parts.0)
         (assign_stands p locals s agreed names n target e ls (name_of_expr e) target_parts.1 low parts.1)) so_far
     stand (g.assign_call target at name_at name start first rest close) n w f ls so_far more none low =
         let parts = split (split none).0 in
         let called = split parts.0 in
         let target_parts = split called.0 in
-        single (lone (refuted (nat_lt 2000 w.number) (first_of_spot target) (Limit 7) target_parts.0)
+        single (lone (refuted (nat_lt 2000 w.number) (first_of_spot target) (Limit program_limit.Statements)
+        target_parts.0)
         (assign_call_stands p locals s agreed names n target name_at name first rest ls target_parts.1 called.1 low))
         so_far
 

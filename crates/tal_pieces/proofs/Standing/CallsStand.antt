@@ -42,6 +42,7 @@ use Rattle.tal_pieces.proofs.Standing.Stands.{IsCounted, Stands, lone, monitors,
 use Rattle.tal_faultless.proofs.Scopes.SourceScopes.{without_files}
 use Rattle.tal_faultless.proofs.Common.Faultless.{no_fault, split, refuted}
 use Rattle.std.proofs.lemmas.Bool.{not-false, or_parts}
+use Rattle.tal_tree.specs.declared.limit.ProgramLimit.TheVariants as program_limit
 
 started : (x : Stage) → is_start x ≡ true → x ≡ stage.Start
 started stage.Start e = refl
@@ -137,7 +138,7 @@ module _ (p : Program) (locals : List (List ℕ)) (s : Scope) (all : Files) (agr
       open_named n w f line string variable depth (name_of_argument variable) few (omega (arith, low.0)) so_far
       (extends_on more (opened_grows (without_files s) f (string ∷ variable ∷ depth ∷ []))) more string_is alone ready
       fresh
-      (refuted (nat_le 8 w.files) (first_of_argument variable) (Limit 4) limit) deep named
+      (refuted (nat_le 8 w.files) (first_of_argument variable) (Limit program_limit.Files) limit) deep named
   open_by n w f line other count few low so_far more string_is alone ready fresh limit deep named =
       absurd (omega (arith, count))
 

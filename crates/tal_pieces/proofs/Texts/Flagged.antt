@@ -20,6 +20,7 @@ use Rattle.tal_pieces.specs.Printed.Procedures.{procedure_pieces, procedures_pie
 use Rattle.tal_faultless.proofs.Common.Faultless.{no_fault, refuted, first_nil, second_nil}
 use Rattle.std.proofs.lemmas.Bool.{leb-false, false≢true}
 use Rattle.std.proofs.lemmas.Option.{none-some}
+use Rattle.tal_tree.specs.declared.limit.ProgramLimit.TheVariants as program_limit
 
 -- the pieces of procedures, each with whether MAIN stands in its heading
 abbrev pub flagged : Program → List (Bool × Procedure) → List Piece → List Piece
@@ -46,12 +47,13 @@ main_once at bare gives proc name listed (g.is_main word) end d = no_fault d
 
 heads : (hd : Headed) (h : g.Heading) → heading_faults hd h ≡ [] → Heads hd h
 heads hd (g.heading gives proc at name listed main end) e =
-    let limits = if_so (nat_le 64 hd.count) (fault_at at (Limit 5)) in
+    let limits = if_so (nat_le 64 hd.count) (fault_at at (Limit program_limit.Procedures)) in
     let bare = not (does_give gives) && (length (parameters_of listed) == 0) in
     let taken = taken_faults hd.names at name in
     let mains = main_faults (is_some hd.main) at bare main in
     record {
-      few = refuted (nat_le 64 hd.count) at (Limit 5) (second_nil taken limits (first_nil (taken ++ limits) mains e));
+      few = refuted (nat_le 64 hd.count) at (Limit program_limit.Procedures)
+          (second_nil taken limits (first_nil (taken ++ limits) mains e));
       once = λ some. main_once at bare gives proc name listed main end
           (sym (ap (λ b. main_faults b at bare main) some) ∙ second_nil (taken ++ limits) mains e);
     }
