@@ -144,6 +144,11 @@ abbrev pub draining : LinePlace → Option (Bool × ℕ)
 draining (standing.Rounds rule.Drain left (place.Delivers y packets)) = Some (y, packets)
 draining _ = None
 
+-- how many rounds are left of a drain that stands between two rounds
+abbrev pub rounds_to_drain : LinePlace → Option ℕ
+rounds_to_drain (standing.Rounds rule.Drain left place.Before) = Some left
+rounds_to_drain _ = None
+
 -- where a line stands with so many packets left that its round delivers
 abbrev pub with_packets_left : ℕ → LinePlace → LinePlace
 with_packets_left packets (standing.Rounds rule left (place.Delivers y before)) =

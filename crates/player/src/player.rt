@@ -2,9 +2,10 @@ ghost use Rattle.std.specs.Prelude.{◌≡◌, ◌-◌, nat_lt, Bool, false, Som
 ghost use Rattle.schedule.specs.declared.event.Counts.{Counts as AnyCounts};
 ghost use Rattle.player.specs.declared.standing.LinePlace.TheVariants as standing;
 ghost use Rattle.player.specs.declared.standing.Place.TheVariants as place;
+ghost use Rattle.player.specs.declared.standing.Rule.TheVariants as rule;
 ghost use Rattle.player.specs.Lines.{begun, proposed, asks_idle, next_event, stands_after, event_of, packet_of, on_bus};
 ghost use Rattle.player.specs.Lines.{aimed};
-ghost use Rattle.player.specs.Lines.{draining, with_packets_left};
+ghost use Rattle.player.specs.Lines.{draining, rounds_to_drain, with_packets_left};
 
 use crate::mixed::{first_draws, next_mixed};
 use crate::round::next_turn;
@@ -91,6 +92,39 @@ impl Player {
             } => Some((y, left)),
             _ => None,
         }
+    }
+
+    /// The sizes of the site for which it gives events.
+    pub fn sizes(&self) -> Sizes
+        ensures { result ≡ self.now.sizes }
+    {
+        self.sizes
+    }
+
+    /// How many rounds are left of a drain that stands between two rounds.
+    #[inline(always)]
+    pub fn rounds_to_drain(&self) -> Option<u32>
+        ensures { result ≡ rounds_to_drain self.now.standing }
+    {
+        match self.standing {
+            LinePlace::Rounds {
+                rule: Rule::Drain,
+                left,
+                place: Place::Before,
+            } => Some(left),
+            _ => None,
+        }
+    }
+
+    /// The line is a drain with so many rounds left behind the one that stands here.
+    pub fn drain_from(&mut self, left: u32, place: Place)
+        ensures { self.new ≡ record self.old { standing = standing.Rounds rule.Drain left place } }
+    {
+        self.standing = LinePlace::Rounds {
+            rule: Rule::Drain,
+            left,
+            place,
+        };
     }
 
     /// So many packets are left of those that the round delivers.
