@@ -44,7 +44,7 @@ drains (standing.Rounds rule.Drain left (place.Delivers z before)) y packets is 
 drains (standing.Rounds rule.Drain left (place.Ticks node)) y packets is = absurd (cc)
 drains (standing.Mixed left place draws) y packets is = absurd (cc)
 
-delivers : (sizes : Sizes) (x z : ℕ) (y : Bool) (packets : ℕ) → nat_lt 0 packets ≡ true
+pub delivers : (sizes : Sizes) (x z : ℕ) (y : Bool) (packets : ℕ) → nat_lt 0 packets ≡ true
     → next_turn sizes x z (place.Delivers y packets) ≡ turn (Deliver y 0) (place.Delivers y (packets - 1))
 delivers sizes x z true packets some =
     ap (λ (b : Bool). if b then turn (Deliver true 0) (place.Delivers true (packets - 1)) else ticks sizes 0) some
@@ -59,7 +59,7 @@ next-delivery sizes left y packets counts some =
     ap (λ (one : Turn). Some (moved rule.Drain left one))
     (delivers sizes counts.x counts.y y packets (lt-ltb 0 packets some))
 
-makes : {Wires : Type 0} (played : Played Wires) (before after : State Wires)
+pub makes : {Wires : Type 0} (played : Played Wires) (before after : State Wires)
     → Settles played before effect.Done after → played ≡ Makes after
 makes (Makes next) before after is = ap Makes (sym is.1)
 makes Skips before after is = absurd (cc)

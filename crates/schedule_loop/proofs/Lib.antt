@@ -1,3 +1,4 @@
+pub mod Drained
 pub mod Draining
 pub mod Looking
 pub mod Plain

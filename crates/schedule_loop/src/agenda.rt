@@ -1,7 +1,9 @@
-ghost use Rattle.std.specs.Prelude.{◌≡◌, ◌≤◌, ◌<◌, ◌+◌, ◌-◌, ℕ, None, Some, false};
+ghost use Rattle.std.specs.Prelude.{◌≡◌, ◌≤◌, ◌<◌, ◌+◌, ◌-◌, ℕ, IfOk, None, Some, false};
 ghost use Rattle.std.specs.Option.{IfSome, option_map};
 ghost use Rattle.player.specs.Lines.{begun, event_of, next_event, stands_after};
+ghost use Rattle.player.specs.declared.standing.Place.TheVariants as place;
 ghost use Rattle.agendas.specs.Agendas.{agenda_of, coming, stopped_by};
+ghost use Rattle.schedule_loop.specs.Drained.{GoesOn, IsFree, scheduled};
 ghost use Rattle.schedule_loop.specs.Ends.{Course};
 ghost use Rattle.schedule_loop.specs.Looks.{asks_packet};
 ghost use Rattle.schedule_loop.specs.Plans.{next_seen, planned_seen, upcoming_seen};
@@ -9,8 +11,10 @@ ghost use Rattle.schedule_loop.specs.Playing.{IsPlaying};
 ghost use Rattle.schedule_loop.specs.Rules.{sight_of};
 ghost use Rattle.schedule_loop.specs.Seen.{IsBegun, IsDraining, event_in, player_at, with_left};
 
+use crate::drain::Drain;
 use crate::machine::ScheduleMachine;
-use player::{Player, ProcessorStop, Sizes};
+use machine_states::NoMemory;
+use player::{Place, Player, ProcessorStop, Sizes};
 use schedule::{Counts, Event, Line};
 use std::marker::Model;
 
@@ -124,6 +128,55 @@ impl<'a> Schedule<'a> {
             left -= 1;
         }
         left
+    }
+
+    /// Plays rounds of a drain that is to begin one, as long as that can be done at once. Answers how many events were
+    /// played then.
+    #[inline(always)]
+    pub fn drain_on<M: ScheduleMachine>(
+        &mut self,
+        before: u32,
+        machine: &mut M,
+    ) -> Result<u32, NoMemory>
+        requires can { GoesOn M.rules M.is_ready self.old (M.state machine.old) before }
+        requires whole { M.is_broken machine.old ≡ false }
+        ensures plays { IfOk result (λ after. (course : Course M.Wires)
+            → IsPlaying M.rules course self.old (M.state machine.old) before
+            → IsPlaying M.rules course self.new (M.state machine.new) after) }
+        ensures more { IfOk result (λ after. before ≤ after) }
+        ensures whole { IfOk result (λ after. M.is_broken machine.new ≡ false) }
+    {
+        match self.drain(before) {
+            None => Ok(before),
+            Some(drain) => {
+                let mut drain = drain;
+                drain.rounds(machine)?;
+                self.player.drain_from(drain.left, drain.place);
+                Ok(drain.played)
+            }
+        }
+    }
+
+    /// The drain that is to begin a round, if so many events were played.
+    #[inline(always)]
+    fn drain(&self, before: u32) -> Option<Drain>
+        ensures stands { IfSome result (λ drain. self.now
+            ≡ scheduled self.now.agenda.lines self.now.agenda.stop drain) }
+        ensures place { IfSome result (λ drain. drain.place ≡ place.Before) }
+        ensures played { IfSome result (λ drain. drain.played ≡ before) }
+        ensures free { IfSome result (λ drain. IsFree self.now.agenda.stop before drain.until) }
+    {
+        let left = self.player.rounds_to_drain()?;
+        match self.held_back {
+            Some(_) => None,
+            None => Some(Drain {
+                sizes: self.player.sizes(),
+                left,
+                place: Place::Before,
+                played: before,
+                until: before + self.free_after(before),
+            }),
+        }
     }
 
     /// How many events may follow so many with no stop before any of them.

@@ -6,6 +6,7 @@
 #![tactic(auto)]
 
 pub mod agenda;
+mod drain;
 pub mod laws;
 pub mod machine;
 pub mod ran;

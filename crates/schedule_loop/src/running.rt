@@ -35,7 +35,10 @@ pub fn run<M: ScheduleMachine>(
     while let Some(event) = schedule.next(played, &machine) {
         let next = played + 1;
         match tried(&mut machine, event)? {
-            None => played = schedule.deliver_at_once(next, &mut machine),
+            None => {
+                let delivered = schedule.deliver_at_once(next, &mut machine);
+                played = schedule.drain_on(delivered, &mut machine)?;
+            }
             Some(ending) => {
                 return Ok(Ran {
                     machine,
@@ -49,7 +52,8 @@ pub fn run<M: ScheduleMachine>(
 }
 
 /// Plays an event. Answers how the run ends before it, where it would do harm, and then nothing changes.
-fn tried<M: ScheduleMachine>(machine: &mut M, event: Event) -> Result<Option<Ending>, NoMemory>
+#[inline(always)]
+pub fn tried<M: ScheduleMachine>(machine: &mut M, event: Event) -> Result<Option<Ending>, NoMemory>
     requires { M.is_ready (M.state machine.old) }
     ensures tried { IfOk result (λ ending. IsTriedBy M.rules (M.state machine.old) event (M.state machine.new)
         ending) }
