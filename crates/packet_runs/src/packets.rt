@@ -53,6 +53,7 @@ impl ScheduleMachine for PlayedPackets {
 
     ghost is_broken = { λ packets. packets.machine.is_broken };
 
+    #[inline(always)]
     fn event(&mut self, event: Event) -> Result<Effect, NoMemory> {
         self.machine.event(event)
     }

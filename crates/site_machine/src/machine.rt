@@ -69,6 +69,7 @@ impl Machine {
     }
 
     /// Plays one event, and tells what came of it. This is the machine's only step.
+    #[inline(always)]
     pub fn event(&mut self, event: Event) -> Result<Effect, NoMemory>
         requires { IsReady self.old.state }
         ensures done { IfOk result (λ effect. Settles (play self.old.state event) self.old.state effect
