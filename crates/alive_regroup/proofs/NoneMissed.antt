@@ -20,7 +20,7 @@ heard-of (Up false missed.None report) none = (refl, refl)
 heard-of (Up came missed.One report) none = absurd (cc)
 heard-of (Up came missed.More report) none = absurd (cc)
 
-first-of : (a b : Bool) → (a && b) ≡ true → (a ≡ true) × (b ≡ true)
+pub first-of : (a b : Bool) → (a && b) ≡ true → (a ≡ true) × (b ≡ true)
 first-of true true both = (refl, refl)
 first-of true false both = absurd (cc)
 first-of false b both = absurd (cc)

@@ -1,14 +1,17 @@
 //! Silence and agreement: what a node knows of the processors of its site from their alive packets and reports, and
 //! when it pulls the hold line of one.
 //!
-//! Below stands nothing but std. The layers above use that each call of a `Watch` changes what the node knows as
-//! `specs/Watching.antt` says, and that `decide` names the first processor of which all agree that it is silent.
+//! Below stands nothing but std. The layers above use that each call of a `Watch`, and of the `Listener` that keeps
+//! one, changes what the node knows as `specs/Watching.antt` says, and that `decide` names the first processor of which
+//! all agree that it is silent.
 #![tactic(auto)]
 
+pub mod listener;
 pub mod neighbour;
 pub mod set;
 pub mod watch;
 
+pub use listener::Listener;
 pub use neighbour::{Missed, Neighbour};
 pub use set::ProcessorSet;
 pub use watch::Watch;

@@ -6,6 +6,7 @@ ghost use Rattle.alive_regroup.specs.Watching.{risen, is_more, neighbour_after_c
 ghost use Rattle.alive_regroup.specs.Watching.{is_up, is_down, neighbour_after_report, agrees, neighbour_after_down};
 ghost use Rattle.alive_regroup.specs.Watching.{neighbour_after_up, neighbour_after_up_of};
 ghost use Rattle.alive_regroup.specs.Watching.{is_missed};
+ghost use Rattle.alive_regroup.specs.Listening.{is_at_rest};
 
 use crate::set::ProcessorSet;
 
@@ -193,6 +194,26 @@ impl Neighbour {
                 report: _,
             } => !matches!(missed, Missed::None),
             Neighbour::Down { heard: _ } => false,
+        }
+    }
+
+    /// Whether a check leaves it as it is, if an alive packet came from it where it is up.
+    pub fn is_at_rest(&self) -> bool
+        ensures { result ≡ is_at_rest self.now }
+    {
+        match self {
+            Neighbour::Absent => true,
+            Neighbour::Up {
+                heard,
+                missed: Missed::None,
+                report: _,
+            } => !*heard,
+            Neighbour::Up {
+                heard: _,
+                missed: Missed::One | Missed::More,
+                report: _,
+            } => false,
+            Neighbour::Down { heard } => !*heard,
         }
     }
 

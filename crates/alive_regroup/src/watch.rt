@@ -10,6 +10,7 @@ ghost use Rattle.alive_regroup.specs.Watching.{is_coordinator, is_held, all_but,
 ghost use Rattle.alive_regroup.specs.Watching.{is_silent_at};
 ghost use Rattle.alive_regroup.specs.Watching.{after_up, does_check, neighbour_after_up, neighbour_after_up_of};
 ghost use Rattle.alive_regroup.specs.Watching.{told_by_tick};
+ghost use Rattle.alive_regroup.specs.Listening.{all_heard, is_at_rest, is_calm, watch_after};
 
 use crate::neighbour::{Neighbour, neighbour_up};
 use crate::set::ProcessorSet;
@@ -169,6 +170,41 @@ impl Watch {
         }
     }
 
+    /// A tick that doesn't check.
+    pub(crate) fn wait(&mut self)
+        ensures { self.new ≡ record self.old { checks = true } }
+    {
+        self.checks = true;
+    }
+
+    /// A check that changes nothing.
+    pub(crate) fn pass(&mut self)
+        ensures { self.new ≡ record self.old { checks = false } }
+    {
+        self.checks = false;
+    }
+
+    /// Alive packets came from these processors.
+    pub(crate) fn hear_all(&mut self, heard: &[bool; 16])
+        ensures { self.new ≡ watch_after heard.now self.old }
+    {
+        hear_all(&mut self.neighbours, heard);
+    }
+
+    /// Which processors are others that aren't marked down.
+    pub(crate) fn up(&self) -> [bool; 16]
+        ensures { result ≡ map is_up self.now.neighbours }
+    {
+        all_up(&self.neighbours)
+    }
+
+    /// Whether a check changes nothing, if an alive packet came from each that is up.
+    pub(crate) fn is_calm(&self) -> bool
+        ensures { result ≡ is_calm self.now }
+    {
+        !self.due && self.told == ProcessorSet::nobody() && all_at_rest(self.neighbours.as_slice())
+    }
+
     /// Whether the last check missed no processor. Then no line is pulled after a tick made now.
     pub fn misses_none(&self) -> bool
         ensures missed { result ≡ misses_none self.now }
@@ -317,6 +353,34 @@ fn none_up(neighbours: &[Neighbour]) -> bool
     ensures { result ≡ list_all (λ one. not (is_up one)) neighbours.now }
 {
     neighbours.iter().all(|one| !one.is_up())
+}
+
+/// An alive packet came from each of these.
+fn hear_all(neighbours: &mut [Neighbour; 16], heard: &[bool; 16])
+    ensures { neighbours.new ≡ all_heard heard.now neighbours.old }
+{
+    for place in 0..16 {
+        if heard[place] {
+            neighbours[place].hear();
+        }
+    }
+}
+
+/// Which of them are others that aren't marked down.
+fn all_up(neighbours: &[Neighbour; 16]) -> [bool; 16]
+    ensures { result ≡ map is_up neighbours.now }
+{
+    let mut members = [false; 16];
+    for place in 0..16 {
+        members[place] = neighbours[place].is_up();
+    }
+    members
+}
+
+fn all_at_rest(neighbours: &[Neighbour]) -> bool
+    ensures { result ≡ list_all is_at_rest neighbours.now }
+{
+    neighbours.iter().all(|one| one.is_at_rest())
 }
 
 fn none_missed(neighbours: &[Neighbour]) -> bool
