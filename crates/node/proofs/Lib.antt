@@ -1,6 +1,6 @@
 pub mod Arrivals
-pub mod Calm
 pub mod Ends
 pub mod Lines
 pub mod Loops
+pub mod Noted
 pub mod Quiet

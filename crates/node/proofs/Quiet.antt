@@ -1,35 +1,18 @@
 -- A tick at ends that hold nothing.
-use Rattle.std.specs.List.{list_all}
 use Rattle.std.specs.Option.{option_and_then, option_map}
 use Rattle.std.proofs.Common.{◌≡◌, ℕ, zero, suc, ◌+◌, ◌-◌, ◌≤◌, ◌<◌, arith, ◌&&◌, not, Bool, true, false, if◌then◌else◌}
-use Rattle.std.proofs.Common.{List, [], ◌∷◌, Option}
-use Rattle.std.proofs.Common.{Some, None, slice_get, slice_set, refl, ap, ap₂, sym, subst, ◌∙◌}
-use Rattle.event_parts.specs.packet_wires.specs.world_semantics.proofs.Lists.{some-same}
+use Rattle.std.proofs.Common.{List, Option}
+use Rattle.std.proofs.Common.{Some, None, slice_get, slice_set, refl, ap, ap₂, sym, ◌∙◌}
 use Rattle.packet_words.specs.Buses.{other_bus}
 use Rattle.link_control.specs.declared.channel.Resent.{Resent}
 use Rattle.link_control.specs.Ends.{End, after_tick, is_empty, is_idle, packet_outstanding, sent_by_tick, after_tick_of}
 use Rattle.event_parts.specs.packet_wires.specs.Idle.{holds_nothing}
-use Rattle.event_parts.specs.packet_wires.specs.Nodes.{Node, all_nodes, end_at, numbers}
+use Rattle.event_parts.specs.packet_wires.specs.Nodes.{Node, end_at, numbers}
 use Rattle.event_parts.specs.packet_wires.specs.Wires.{Wires, Midst, at_end, at_end_of, at_node, end_changed, for_each}
 use Rattle.event_parts.specs.packet_wires.specs.Wires.{goes_again}
-use Rattle.event_parts.specs.packet_wires.specs.Wires.{nothing_sent, resends, tick_at, with_sent}
+use Rattle.event_parts.specs.packet_wires.specs.Wires.{nothing_sent, tick_at, with_sent}
 use Rattle.event_parts.specs.Parts.{carried_out}
-use Rattle.node.specs.Calls.{IsQuiet}
 use Rattle.node.proofs.Ends.{set-same}
-
-all-there : {A : Type 0} (passes : A → Bool) (xs : List A) (k : ℕ) (x : A) → list_all passes xs ≡ true
-    → slice_get xs k ≡ Some x → passes x ≡ true
-all-there passes [] k x all there = absurd cc
-all-there passes (y ∷ xs) zero x all there = subst (λ z. passes z ≡ true) (some-same there) (first (passes y) all)
-  where
-    first : (b : Bool) → (b && list_all passes xs) ≡ true → b ≡ true
-    first true is = refl
-    first false is = is
-all-there passes (y ∷ xs) (suc k) x all there = all-there passes xs k x (rest (passes y) all) there
-  where
-    rest : (b : Bool) → (b && list_all passes xs) ≡ true → list_all passes xs ≡ true
-    rest true is = is
-    rest false is = absurd cc
 
 tick-same : (e : End) → is_empty e ≡ true → after_tick e ≡ e
 tick-same e empty = by e.down
@@ -75,20 +58,6 @@ module _ (x y : ℕ) (midst : Midst) where
           → at_node (λ node. at_end_of (tick_at x y node) (slice_get node.ends y)) found midst ≡ midst
       by None is = refl
       by (Some node) is = of node is (slice_get node.ends y) refl
-
-quiet-each : (x : ℕ) (midst : Midst) → ((node : Node) → slice_get midst.nodes x ≡ Some node → IsQuiet node)
-    → (ys : List ℕ)
-    → for_each (λ y. at_end x y (tick_at x y)) ys midst ≡ midst
-quiet-each x midst quiet [] = refl
-quiet-each x midst quiet (y ∷ ys) =
-    ap (for_each (λ y. at_end x y (tick_at x y)) ys)
-    (quiet-end x y midst (λ node e there is. all-there is_empty node.ends y e (quiet node there) is))
-    ∙ quiet-each x midst quiet ys
-
-pub quiet-resends : (x : ℕ) (wires : Wires) → ((node : Node) → slice_get wires.nodes x ≡ Some node → IsQuiet node)
-    → wires ≡ carried_out (resends x) wires
-quiet-resends x wires quiet =
-    ap (λ (midst : Midst). with_sent midst wires) (sym (quiet-each x (nothing_sent wires.nodes) quiet all_nodes))
 
 holds-none : (x y : ℕ) (nodes : List Node) (node : Node) (e : End) → slice_get nodes x ≡ Some node
     → slice_get node.ends y ≡ Some e → holds_nothing (end_at nodes x y) ≡ true

@@ -1,13 +1,12 @@
 -- What a call makes of a node and of wires, and what it tells. Our own rule, as what happens at nodes is.
-use Rattle.std.specs.Prelude.{◌≡◌, true, ℕ, slice_get, slice_set, Option, Some, None}
-use Rattle.std.specs.List.{list_all}
+use Rattle.std.specs.Prelude.{ℕ, slice_get, slice_set, Option, Some, None}
 use Rattle.std.specs.Option.{option_and_then}
 use Rattle.packet_words.specs.declared.bus_name.BusName.{BusName}
 use Rattle.packet_words.specs.declared.bus_name.BusName.TheVariants as bus
 use Rattle.packet_words.specs.declared.packet.Packet.{Packet}
 use Rattle.packet_words.specs.declared.packet.PacketKind.{PacketKind}
 use Rattle.packet_words.specs.declared.packet.PacketKind.TheVariants as kind
-use Rattle.link_control.specs.Ends.{End, is_empty, after_packet, sent_by_packet}
+use Rattle.link_control.specs.Ends.{End, after_packet, sent_by_packet}
 use Rattle.alive_regroup.specs.Watching.{Watching}
 use Rattle.event_parts.specs.packet_wires.specs.Nodes.{Node}
 use Rattle.event_parts.specs.packet_wires.specs.Wires.{Midst, any_goes_over, end_changed, goes_over}
@@ -28,10 +27,6 @@ told_at_end y tells node = option_and_then tells (slice_get node.ends y)
 
 abbrev pub with_watch_changed : (Watching → Watching) → Node → Node
 with_watch_changed change node = record node { watch = change node.watch }
-
--- no end of the node holds anything, outstanding or queued
-abbrev pub IsQuiet : Node → Type 0
-IsQuiet node = list_all is_empty node.ends ≡ true
 
 -- Wires
 

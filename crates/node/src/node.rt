@@ -1,20 +1,18 @@
-ghost use Rattle.std.specs.Prelude.{◌≡◌, ◌≤◌, ◌<◌, ◌==◌, ◌&&◌, ℕ, true, not, length, map, slice_get};
+ghost use Rattle.std.specs.Prelude.{◌≡◌, ◌≤◌, ◌<◌, ◌==◌, ◌&&◌, ℕ, true, false, not, length, map, slice_get, slice_set};
 ghost use Rattle.std.specs.Prelude.{IfSome, IfNone, IfOk, OnOk, Some};
-ghost use Rattle.std.specs.Bool.{OnTrue};
-ghost use Rattle.std.specs.List.{list_all};
 ghost use Rattle.std.specs.Option.{option_copied};
 ghost use Rattle.alive_regroup.specs.Watching as watching;
-ghost use Rattle.alive_regroup.specs.Watching.{changed_at, is_held, misses_none, told_by_tick};
+ghost use Rattle.alive_regroup.specs.Watching.{changed_at, is_held, told_by_tick};
 ghost use Rattle.link_control.specs.Ends.{after_down, after_packet, after_push, after_tick, alive_of, handed_by_packet};
-ghost use Rattle.link_control.specs.Ends.{End, HasIncarnationLeft, end_after_reload, is_empty, sent_by_packet};
+ghost use Rattle.link_control.specs.Ends.{End, HasIncarnationLeft, end_after_reload, sent_by_packet};
 ghost use Rattle.link_control.specs.Ends.{sent_by_push, sent_by_tick};
 ghost use Rattle.event_parts.specs.packet_wires.specs.Idle.{holds_nothing};
 ghost use Rattle.event_parts.specs.packet_wires.specs.Lines.{first_held, line_pulled};
 ghost use Rattle.event_parts.specs.packet_wires.specs.Nodes.{node_after_reload, node_at_boot};
 ghost use Rattle.event_parts.specs.Numbers.{HasNumbersWith, NodeCanPush, NodeCanReload};
-ghost use Rattle.node.specs.Calls.{IsQuiet, told_at_end, with_end_changed, with_watch_changed};
+ghost use Rattle.node.specs.Calls.{told_at_end, with_end_changed, with_watch_changed};
 
-use alive_regroup::{ProcessorSet, Watch};
+use alive_regroup::{Listener, ProcessorSet, Watch};
 use gd_words::{List, NoMemory};
 use link_control::{Arrived, Channel, Resent};
 use packet_words::{Incarnation, Packet};
@@ -35,26 +33,24 @@ const NEVER_RELOADED: Incarnation = Incarnation {
 #[derive(Drop)]
 pub struct Node {
     ends: Vec<Channel>,
-    watch: Watch,
-    /// Whether an end may hold something. Where none does, a tick looks at none.
+    listener: Listener,
+    /// Which ends may hold something, so that a tick looks at no other.
+    held: [bool; 17],
+    /// Whether there is one.
     busy: bool,
-    /// Whether the last check may have missed a processor. Where it missed none, a tick pulls no line.
-    misses: bool,
 }
 
 impl Model for Node {
-    ghost use Rattle.std.specs.Prelude.{◌≡◌, true, false};
-    ghost use Rattle.std.specs.List.{list_all};
-    ghost use Rattle.link_control.specs.Ends.{is_empty};
-    ghost use Rattle.alive_regroup.specs.Watching.{misses_none};
+    ghost use Rattle.std.specs.Prelude.{◌≡◌, false, replicate};
     ghost use Rattle.event_parts.specs.packet_wires.specs.Nodes as nodes;
+    ghost use Rattle.node.specs.Held.{AreNoted};
 
     ghost Value = { nodes.Node };
 
-    ghost view = { λ node. record { ends = node.ends.items; watch = node.watch } };
+    ghost view = { λ node. record { ends = node.ends.items; watch = node.listener } };
 
-    ghost invariant = { λ node. (node.busy ≡ false → list_all is_empty node.ends.items ≡ true)
-        × (node.misses ≡ false → misses_none node.watch ≡ true) };
+    ghost invariant = { λ node. AreNoted node.held node.ends.items
+        × (node.busy ≡ false → node.held ≡ replicate 17 false) };
 }
 
 impl Node {
@@ -68,9 +64,9 @@ impl Node {
         }
         Ok(Node {
             ends,
-            watch: Watch::new(me, processors),
+            listener: Listener::new(me, processors),
+            held: [true; 17],
             busy: true,
-            misses: true,
         })
     }
 
@@ -86,6 +82,7 @@ impl Node {
             return Ok(None);
         }
         self.busy = true;
+        note(&mut self.held, place, true);
         let packet = self.ends[place].push(message)?;
         Ok(packet)
     }
@@ -107,6 +104,7 @@ impl Node {
             });
         }
         self.busy = true;
+        note(&mut self.held, place, true);
         let arrived = self.ends[place].on_packet(packet)?;
         Ok(arrived)
     }
@@ -121,7 +119,21 @@ impl Node {
             return None;
         }
         self.busy = true;
-        self.ends[place].on_tick()
+        note(&mut self.held, place, true);
+        let resent = self.ends[place].on_tick();
+        if self.ends[place].is_empty() {
+            self.pass(place);
+        }
+        resent
+    }
+
+    /// The end at a place is empty.
+    fn pass(&mut self, place: usize)
+        requires { holds_nothing (slice_get self.old.ends place) ≡ true }
+        ensures { self.new ≡ self.old }
+    {
+        note(&mut self.held, place, false);
+        self.busy = self.held != [false; 17];
     }
 
     /// The node throws its end with a processor away.
@@ -131,6 +143,7 @@ impl Node {
         let place = usize::from(processor);
         if place < self.ends.len() {
             self.busy = true;
+            note(&mut self.held, place, true);
             self.ends[place].down();
         }
     }
@@ -167,10 +180,10 @@ impl Node {
     pub fn watch(&self) -> Watch
         ensures { result ≡ self.now.watch }
     {
-        self.watch
+        self.listener.watch()
     }
 
-    /// The first node from a number on, the end with which has something outstanding or queued.
+    /// The first node from a number on, the end with which may have something outstanding or queued.
     pub fn held_from(&self, first: u8) -> Option<u8>
         ensures held { IfSome result (λ held. (first ≤ held) × (held < 17)) }
         ensures skipped { IfSome result (λ held. (other : ℕ) → first ≤ other → other < held
@@ -178,28 +191,11 @@ impl Node {
         ensures none { IfNone result ((other : ℕ) → first ≤ other → other < 17
             → holds_nothing (slice_get self.now.ends other) ≡ true) }
     {
-        let ends = self.ends.as_slice();
-        let last = ends.len().min(usize::from(NODES));
-        for other in usize::from(first)..last {
-            if !ends[other].is_empty() {
-                return Some(other as u8);
-            }
+        if !self.busy {
+            return None;
         }
-        None
-    }
-
-    /// Whether the node is known to hold nothing at any end: no message to send, and no piece that isn't acknowledged.
-    pub fn is_quiet(&self) -> bool
-        ensures { OnTrue result (IsQuiet self.now) }
-    {
-        !self.busy
-    }
-
-    /// Finds out whether the node holds something.
-    pub fn settle(&mut self)
-        ensures { self.new ≡ self.old }
-    {
-        self.busy = !all_empty(self.ends.as_slice());
+        let other = noted_from(&self.held, first)?;
+        Some(other)
     }
 
     /// A tick of what the node knows of the processors: the silent set to report, where a check changed it.
@@ -207,61 +203,28 @@ impl Node {
         ensures told { result ≡ told_by_tick self.old.watch }
         ensures after { self.new ≡ with_watch_changed watching.after_tick self.old }
     {
-        if self.misses {
-            return self.check_now();
-        }
-        if self.watch.does_check() {
-            return self.check_now();
-        }
-        self.watch.tick()
-    }
-
-    /// A tick, after which it is found out whether the last check missed a processor.
-    fn check_now(&mut self) -> Option<ProcessorSet>
-        ensures told { result ≡ told_by_tick self.old.watch }
-        ensures after { self.new ≡ with_watch_changed watching.after_tick self.old }
-    {
-        self.misses = true;
-        let told = self.watch.tick();
-        self.look();
-        told
-    }
-
-    /// Finds out whether the last check missed a processor.
-    fn look(&mut self)
-        ensures { self.new ≡ self.old }
-    {
-        self.misses = !self.watch.misses_none();
-    }
-
-    /// Whether the node is known to miss no processor.
-    fn is_calm(&self) -> bool
-        ensures { OnTrue result (misses_none self.now.watch ≡ true) }
-    {
-        !self.misses
+        self.listener.tick()
     }
 
     /// An alive packet came from a processor.
     pub fn hear(&mut self, from: u8)
         ensures { self.new ≡ with_watch_changed (changed_at from watching.neighbour_after_alive) self.old }
     {
-        self.watch.heard(from);
+        self.listener.hear(from);
     }
 
     /// A report came from a processor.
     pub fn note(&mut self, from: u8, silent: ProcessorSet)
         ensures { self.new ≡ with_watch_changed (changed_at from (watching.neighbour_after_report silent)) self.old }
     {
-        self.misses = true;
-        self.watch.on_report(from, silent);
+        self.listener.on_report(from, silent);
     }
 
     /// The node has marked a processor.
     pub fn mark(&mut self, processor: u8)
         ensures { self.new ≡ with_watch_changed (changed_at processor watching.neighbour_after_down) self.old }
     {
-        self.misses = true;
-        self.watch.on_down(processor);
+        self.listener.on_down(processor);
     }
 
     /// A processor of a site with so many was loaded again.
@@ -270,12 +233,12 @@ impl Node {
         ensures { self.new ≡ node_after_reload processors loaded self.old }
     {
         self.busy = true;
-        self.misses = true;
+        self.held = [true; 17];
         reload_all(self.ends.as_mut_slice(), alloc, loaded);
-        if self.watch.me() == loaded {
-            self.watch = Watch::new(loaded, processors);
+        if self.listener.me() == loaded {
+            self.listener = Listener::new(loaded, processors);
         } else {
-            self.watch.on_up(loaded);
+            self.listener.on_up(loaded);
         }
     }
 
@@ -283,17 +246,17 @@ impl Node {
     pub fn line(&self, me: u8) -> Option<u8>
         ensures { result ≡ line_pulled me self.now }
     {
-        first_held(&self.watch, me)
+        first_held(&self.listener.watch(), me)
     }
 
     /// The processor whose line it would pull after a tick made now.
     pub fn line_after_tick(&self, me: u8) -> Option<u8>
         ensures { result ≡ line_pulled me (with_watch_changed watching.after_tick self.now) }
     {
-        if self.is_calm() {
+        if self.listener.is_calm() {
             return None;
         }
-        let mut later = self.watch;
+        let mut later = self.listener.watch();
         later.tick();
         first_held(&later, me)
     }
@@ -309,10 +272,29 @@ fn reload_all(ends: &mut [Channel], alloc: Global, loaded: u8)
     }
 }
 
-fn all_empty(ends: &[Channel]) -> bool
-    ensures { result ≡ list_all is_empty ends.now }
+/// Whether the end at a place may hold something.
+fn note(held: &mut [bool; 17], place: usize, may_hold: bool)
+    ensures { held.new ≡ slice_set held.old place may_hold }
 {
-    ends.iter().all(|end| end.is_empty())
+    if place < held.len() {
+        held[place] = may_hold;
+    }
+}
+
+/// The first place from one on where something may be held.
+fn noted_from(held: &[bool; 17], first: u8) -> Option<u8>
+    ensures noted { IfSome result (λ noted. (first ≤ noted) × (noted < 17)) }
+    ensures skipped { IfSome result (λ noted. (other : ℕ) → first ≤ other → other < noted
+        → slice_get held.now other ≡ Some false) }
+    ensures none { IfNone result ((other : ℕ) → first ≤ other → other < 17
+        → slice_get held.now other ≡ Some false) }
+{
+    for other in first..NODES {
+        if held[usize::from(other)] {
+            return Some(other);
+        }
+    }
+    None
 }
 
 /// The first processor but the node itself of which all agree that it is silent.

@@ -1,6 +1,5 @@
 ghost use Rattle.std.specs.Prelude.{◌≡◌, ◌<◌, ◌≤◌, ◌==◌, ◌++◌, ◌∷◌, [], ℕ, None, Some, length, slice_get};
 ghost use Rattle.std.specs.Prelude.{true, if◌then◌else◌, map, IfSome, IfNone, IfOk, OnOk};
-ghost use Rattle.std.specs.Bool.{OnTrue};
 ghost use Rattle.std.specs.Option.{option_and_then, option_copied, option_map};
 ghost use Rattle.packet_words.specs.declared.packet.Packet.{Packet};
 ghost use Rattle.alive_regroup.specs.Watching as watching;
@@ -18,7 +17,7 @@ ghost use Rattle.event_parts.specs.packet_wires.specs.Wires.{wires_at_boot};
 ghost use Rattle.event_parts.specs.packet_wires.specs.Wires.{loaded_again, without_packet};
 ghost use Rattle.event_parts.specs.Numbers.{CanPush, CanReload, HasNumbersAt};
 ghost use Rattle.event_parts.specs.Parts.{carried_out, completed_by, delivered, is_current_in, repeated};
-ghost use Rattle.node.specs.Calls.{IsQuiet, alive_address, arrive_by, both_go};
+ghost use Rattle.node.specs.Calls.{alive_address, arrive_by, both_go};
 
 use crate::node::{NODES, Node};
 use alive_regroup::{ProcessorSet, Watch};
@@ -425,45 +424,6 @@ impl PacketWires {
     fn resend(&mut self, from: u8)
         ensures { self.new ≡ carried_out (resends from) self.old }
     {
-        if self.is_quiet(from) {
-            return;
-        }
-        self.settle(from);
-        self.resend_held(from);
-    }
-
-    /// What is outstanding at a node is sent again, after it was found out whether the node holds something.
-    fn resend_held(&mut self, from: u8)
-        ensures { self.new ≡ carried_out (resends from) self.old }
-    {
-        if self.is_quiet(from) {
-            return;
-        }
-        self.resend_all(from);
-    }
-
-    /// Whether a node, where there is one, is known to hold nothing.
-    fn is_quiet(&self, node: u8) -> bool
-        ensures { OnTrue result ((there : Node) → slice_get self.now.nodes node ≡ Some there → IsQuiet there) }
-    {
-        match self.nodes.get(usize::from(node)) {
-            None => true,
-            Some(node) => node.is_quiet(),
-        }
-    }
-
-    fn settle(&mut self, node: u8)
-        ensures { self.new ≡ self.old }
-    {
-        let place = usize::from(node);
-        if place < self.nodes.len() {
-            self.nodes[place].settle();
-        }
-    }
-
-    fn resend_all(&mut self, from: u8)
-        ensures { self.new ≡ carried_out (resends from) self.old }
-    {
         let mut next = 0;
         while let Some(to) = self.held_from(from, next) {
             self.resend_to(from, to);
@@ -471,7 +431,7 @@ impl PacketWires {
         }
     }
 
-    /// The first node from a number on, the end of a node with which holds something.
+    /// The first node from a number on, the end of a node with which may hold something.
     fn held_from(&self, node: u8, first: u8) -> Option<u8>
         ensures held { IfSome result (λ held. (first ≤ held) × (held < 17)) }
         ensures skipped { IfSome result (λ held. (other : ℕ) → first ≤ other → other < held

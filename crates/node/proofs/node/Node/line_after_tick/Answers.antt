@@ -1,4 +1,4 @@
-use Rattle.std.proofs.Common.{◌∙◌, ap}
+use Rattle.std.proofs.Common.{◌∙◌, ap, sym}
 use Rattle.alive_regroup.specs.Watching as watching
 use Rattle.alive_regroup.specs.Watching.{Watching}
 use Rattle.alive_regroup.proofs.NoneMissed.{none-held}
@@ -11,10 +11,12 @@ use Rattle.node.proofs.node.Node.line_after_tick.Goals as goal
 pub returns : goal.returns
 returns c =
     c.first_held.ensures
-    ∙ ap (λ (watch : Watching). first_held c.args.me watch 0 16) c.tick.ensures.after
+    ∙ ap (λ (watch : Watching). first_held c.args.me watch 0 16)
+    (c.tick.ensures.after ∙ ap watching.after_tick c.watch-later.ensures)
     ∙ ap (λ (node : Node). line_pulled c.args.me (with_watch_changed watching.after_tick node)) c.self.view_is
 
 pub returns-then-is_calm : goal.returns-then-is_calm
 returns-then-is_calm c =
     none-first c.args.me (watching.after_tick c.args.self.now.watch) 0 16
-    (none-held c.args.self.now.watch c.if-is_calm.ensures)
+    (none-held c.args.self.now.watch
+    (ap (λ (node : Node). watching.misses_none node.watch) (sym c.self.view_is) ∙ c.if-is_calm.ensures))

@@ -1,11 +1,24 @@
-use Rattle.std.proofs.Common.{ap, ◌∙◌}
-use Rattle.event_parts.specs.packet_wires.specs.Wires.{resends}
-use Rattle.event_parts.specs.Parts.{carried_out}
-use Rattle.node.proofs.Quiet.{quiet-resends}
+use Rattle.std.proofs.Common.{◌≡◌, ◌-◌, ◌+◌, suc, ◌∙◌, sym, arith}
+use Rattle.event_parts.specs.packet_wires.specs.Wires.{at_end, tick_at}
+use Rattle.event_parts.proofs.Adds.{adds-tick}
+use Rattle.node.proofs.Loops.{each-turn}
+use Rattle.node.proofs.Quiet.{skipped-ticks}
 use Rattle.node.proofs.wires.PacketWires.resend.Goals as goal
 
-pub returns-then-is_quiet : goal.returns-then-is_quiet
-returns-then-is_quiet c = quiet-resends c.args.from c.args.self.now (c.if-is_quiet.ensures)
+pub loop-to-preserved : goal.loop-to-preserved
+loop-to-preserved c =
+    let count : 17 - c.in-Some.to ≡ suc (17 - (c.in-Some.to + 1)) = omega (arith, c.in-Some.ensures.held.1) in (
+      each-turn (λ y. at_end c.args.from y (tick_at c.args.from y)) (adds-tick c.args.from) (17 - c.in-Some.to)
+          (17 - (c.in-Some.to + 1)) c.in-Some.to
+          c.loop-to.self _ count c.resend_to.ensures
+          ∙ sym (skipped-ticks c.args.from c.loop-to.next c.in-Some.to c.loop-to.self c.in-Some.ensures.held.0
+          (omega (arith, c.in-Some.ensures.held.1)) c.in-Some.ensures.skipped)
+          ∙ c.loop-to.invariant.0,
+      omega (arith, c.in-Some.ensures.held.1),
+    )
 
 pub returns : goal.returns
-returns c = c.resend_held.ensures ∙ ap (carried_out (resends c.args.from)) c.settle.ensures
+returns c =
+    sym (skipped-ticks c.args.from c.loop-to.next 17 c.loop-to.self c.loop-to.invariant.1 (omega arith)
+    c.in_default.ensures.none)
+    ∙ c.loop-to.invariant.0

@@ -1,8 +1,0 @@
-use Rattle.std.proofs.Common.{◌≡◌, ◌≤◌, ◌<◌, ℕ, true, slice_get}
-use Rattle.event_parts.specs.packet_wires.specs.Idle.{holds_nothing}
-use Rattle.node.proofs.node.Node.held_from.Given as goal
-
-abbrev pub invariant-loop-other : goal.invariant-loop-other
-invariant-loop-other l =
-    (l.first ≤ l.other)
-    × ((other : ℕ) → l.first ≤ other → other < l.other → holds_nothing (slice_get l.self.ends other) ≡ true)
