@@ -3,10 +3,10 @@ use Rattle.std.specs.List.{list_all}
 use Rattle.std.specs.Option.{option_map, unwrap_or}
 use Rattle.std.specs.Bool.{beq}
 use Rattle.std.specs.Cmp.Lexicographic.{pointwise}
-use Rattle.std.proofs.Common.{◌≡◌, ◌≤◌, ◌<◌, ◌+◌, ◌&&◌, ◌∷◌, ◌∙◌, ℕ, zero, suc, Bool, true, false, not, List, [], map}
+use Rattle.std.proofs.Common.{◌≡◌, ◌≤◌, ◌<◌, ◌+◌, ◌&&◌, ◌∷◌, ◌++◌, ◌∙◌, ℕ, zero, suc, Bool, true, false, not, List, [], map}
 use Rattle.std.proofs.Common.{Option, Some, None, if◌then◌else◌, length, take, get_or, set, replicate, slice_get, slice_set}
 use Rattle.std.proofs.Common.{refl, ap, ap₂, sym, arith}
-use Rattle.std.proofs.lemmas.List.{length-map}
+use Rattle.std.proofs.lemmas.List.{length-map, take_all, take_more}
 use Rattle.std.proofs.lemmas.Option.{slice_get_past}
 use Rattle.alive_regroup.specs.declared.neighbour.Missed.TheVariants as missed
 use Rattle.alive_regroup.specs.declared.neighbour.Neighbour.{Neighbour}
@@ -159,6 +159,14 @@ none-missed [] (one ∷ all) rest =
 none-missed (h ∷ heard) [] rest = refl
 none-missed (h ∷ heard) (one ∷ all) rest =
     both-true _ _ (rest-not-missed h one (first-of _ _ rest).0) (none-missed heard all (first-of _ _ rest).1)
+
+pub same-more : (xs ys : List Bool) (k : ℕ) → k < length xs → k < length ys → take k xs ≡ take k ys
+    → get_or xs k false ≡ get_or ys k false → take (k + 1) xs ≡ take (k + 1) ys
+same-more xs ys k within room so here =
+    take_more xs k false within ∙ ap₂ (λ items one. items ++ one ∷ []) so here ∙ sym (take_more ys k false room)
+
+pub same-taken : (xs ys : List Bool) (k : ℕ) → length xs ≤ k → length ys ≤ k → take k xs ≡ take k ys → xs ≡ ys
+same-taken xs ys k within room so = sym (take_all k xs within) ∙ so ∙ take_all k ys room
 
 pub same-all : (xs ys : List Bool) → pointwise beq xs ys ≡ true → xs ≡ ys
 same-all [] [] same = refl

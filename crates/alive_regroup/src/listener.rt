@@ -1,5 +1,5 @@
 ghost use Rattle.std.specs.Prelude.{◌≡◌, true};
-ghost use Rattle.std.specs.Bool.{OnTrue};
+ghost use Rattle.std.specs.Bool.{OnFalse, OnTrue};
 ghost use Rattle.alive_regroup.specs.Watching.{after_tick, after_up, changed_at, misses_none, neighbour_after_alive};
 ghost use Rattle.alive_regroup.specs.Watching.{neighbour_after_down, neighbour_after_report, new_watch, told_by_tick};
 
@@ -117,7 +117,7 @@ impl Listener {
             self.watch.wait();
             return None;
         }
-        if self.calm && self.heard == self.up {
+        if self.calm && !differ(&self.heard, &self.up) {
             self.watch.pass();
             self.heard = [false; 16];
             return None;
@@ -143,4 +143,17 @@ impl Listener {
     {
         self.calm
     }
+}
+
+/// Whether two sets of processors differ. It looks at all places, so that the compiler takes them at once.
+fn differ(first: &[bool; 16], second: &[bool; 16]) -> bool
+    ensures { OnFalse result (first.now ≡ second.now) }
+{
+    let mut differs = false;
+    for place in 0..16 {
+        if first[place] != second[place] {
+            differs = true;
+        }
+    }
+    differs
 }
