@@ -1,5 +1,5 @@
 -- Ends that may hold something are noted.
-use Rattle.std.proofs.Common.{◌≡◌, ◌≤◌, ◌<◌, ◌+◌, ◌∙◌, ℕ, zero, suc, Bool, true, false, not, List, [], ◌∷◌, Some, inl, inr}
+use Rattle.std.proofs.Common.{◌≡◌, ◌≤◌, ◌<◌, ◌+◌, ◌∙◌, ℕ, zero, suc, Bool, true, false, List, [], ◌∷◌, Some, inl, inr}
 use Rattle.std.proofs.Common.{slice_get, slice_set, refl, ap, arith}
 use Rattle.std.proofs.Math.Nat.{eq-or-lt_of_le}
 use Rattle.link_control.specs.Ends.{End}
@@ -29,7 +29,3 @@ none-so-far noted first other below here y least most =
       | inl same ↦ ap (slice_get noted) same ∙ here
       | inr less ↦ below y least less
     ]
-
-pub not-false : (b : Bool) → not b ≡ false → b ≡ true
-not-false true is = refl
-not-false false is = absurd cc

@@ -1,5 +1,6 @@
-ghost use Rattle.std.specs.Prelude.{◌≡◌, ◌≤◌, ◌<◌, ◌==◌, ◌&&◌, ℕ, true, false, not, length, map, slice_get, slice_set};
-ghost use Rattle.std.specs.Prelude.{IfSome, IfNone, IfOk, OnOk, Some};
+ghost use Rattle.std.specs.Prelude.{◌≡◌, ◌≤◌, ◌<◌, ◌==◌, ◌&&◌, ℕ, true, false, not, length, map, replicate, slice_get};
+ghost use Rattle.std.specs.Prelude.{slice_set, IfSome, IfNone, IfOk, OnOk, Some};
+ghost use Rattle.std.specs.Bool.{OnFalse};
 ghost use Rattle.std.specs.Option.{option_copied};
 ghost use Rattle.alive_regroup.specs.Watching as watching;
 ghost use Rattle.alive_regroup.specs.Watching.{changed_at, is_held, told_by_tick};
@@ -133,7 +134,7 @@ impl Node {
         ensures { self.new ≡ self.old }
     {
         note(&mut self.held, place, false);
-        self.busy = self.held != [false; 17];
+        self.busy = any(&self.held);
     }
 
     /// The node throws its end with a processor away.
@@ -279,6 +280,19 @@ fn note(held: &mut [bool; 17], place: usize, may_hold: bool)
     if place < held.len() {
         held[place] = may_hold;
     }
+}
+
+/// Whether something may be held. It looks at all places, so that the compiler takes them at once.
+fn any(held: &[bool; 17]) -> bool
+    ensures { OnFalse result (held.now ≡ replicate 17 false) }
+{
+    let mut any = false;
+    for place in 0..17 {
+        if held[place] {
+            any = true;
+        }
+    }
+    any
 }
 
 /// The first place from one on where something may be held.
