@@ -121,11 +121,16 @@ impl Node {
         }
         self.busy = true;
         note(&mut self.held, place, true);
-        let resent = self.ends[place].on_tick();
-        if self.ends[place].is_empty() {
-            self.pass(place);
+        self.ends[place].on_tick()
+    }
+
+    /// Finds out whether the end with a node holds something. If not, the next tick passes it over.
+    pub fn settle(&mut self, to: u8)
+        ensures { self.new ≡ self.old }
+    {
+        if self.holds_nothing(to) {
+            self.pass(usize::from(to));
         }
-        resent
     }
 
     /// The end at a place is empty.

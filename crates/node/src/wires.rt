@@ -427,6 +427,7 @@ impl PacketWires {
         let mut next = 0;
         while let Some(to) = self.held_from(from, next) {
             self.resend_to(from, to);
+            self.settle(from, to);
             next = to + 1;
         }
     }
@@ -454,6 +455,15 @@ impl PacketWires {
         }
         let resent = self.nodes[place].on_tick(to);
         self.put_again(resent);
+    }
+
+    fn settle(&mut self, node: u8, to: u8)
+        ensures { self.new ≡ self.old }
+    {
+        let place = usize::from(node);
+        if place < self.nodes.len() {
+            self.nodes[place].settle(to);
+        }
     }
 
     /// The processor whose line a node pulls now.

@@ -10,7 +10,7 @@ loop-to-preserved c =
     let count : 17 - c.in-Some.to ≡ suc (17 - (c.in-Some.to + 1)) = omega (arith, c.in-Some.ensures.held.1) in (
       each-turn (λ y. at_end c.args.from y (tick_at c.args.from y)) (adds-tick c.args.from) (17 - c.in-Some.to)
           (17 - (c.in-Some.to + 1)) c.in-Some.to
-          c.loop-to.self _ count c.resend_to.ensures
+          c.loop-to.self _ count (c.settle.ensures ∙ c.resend_to.ensures)
           ∙ sym (skipped-ticks c.args.from c.loop-to.next c.in-Some.to c.loop-to.self c.in-Some.ensures.held.0
           (omega (arith, c.in-Some.ensures.held.1)) c.in-Some.ensures.skipped)
           ∙ c.loop-to.invariant.0,
