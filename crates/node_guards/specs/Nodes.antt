@@ -1,12 +1,17 @@
 -- Nodes and wires of a site with three processors that the guards name.
-use Rattle.std.specs.Prelude.{ℕ, true, List}
+use Rattle.std.specs.Prelude.{◌≡◌, ℕ, true, List}
+use Rattle.std.specs.List.{list_all}
 use Rattle.packet_words.specs.declared.packet.Packet.{Packet}
 use Rattle.packet_words.specs.declared.packet.PacketKind.TheVariants as kind
-use Rattle.link_control.specs.Ends.{after_packet, after_push}
+use Rattle.link_control.specs.Ends.{after_packet, after_push, is_empty}
 use Rattle.packet_wires.specs.Nodes.{Node, node_at_boot, nodes_at_boot}
 use Rattle.packet_wires.specs.Wires.{Wires}
 use Rattle.node.specs.Calls.{with_end_changed}
 use Rattle.node_guards.specs.Packets.{packet_of, message_of}
+
+-- no end of the node holds anything, outstanding or queued
+abbrev pub IsQuiet : Node → Type 0
+IsQuiet node = list_all is_empty node.ends ≡ true
 
 -- processor 0, to which nothing has happened
 abbrev pub first_node : Node

@@ -2,8 +2,8 @@ ghost use Rattle.std.specs.Prelude.{◌≡◌, true, slice_get, Some, None};
 ghost use Rattle.alive_regroup.specs.Watching.{after_up, new_watch, changed_at, is_marked, neighbour_after_down};
 ghost use Rattle.link_control.specs.Ends.{after_down, alive_of, end_after_reload, sent_by_push};
 ghost use Rattle.packet_wires.specs.Nodes.{node_after_reload};
-ghost use Rattle.node.specs.Calls.{IsQuiet, told_at_end, with_end_changed, with_watch_changed};
-ghost use Rattle.node_guards.specs.Nodes.{busy_node, done_node, first_node, only_piece};
+ghost use Rattle.node.specs.Calls.{told_at_end, with_end_changed, with_watch_changed};
+ghost use Rattle.node_guards.specs.Nodes.{IsQuiet, busy_node, done_node, first_node, only_piece};
 ghost use Rattle.node_guards.specs.Packets.{alive, message_of};
 
 /// A call at an end concerns that end alone, and nothing where the node has none.
