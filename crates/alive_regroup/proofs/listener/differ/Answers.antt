@@ -1,4 +1,4 @@
-use Rattle.std.proofs.Common.{◌≡◌, false, arith}
+use Rattle.std.proofs.Common.{◌≡◌, arith}
 use Rattle.std.proofs.lemmas.Bool.{OnFalse_from}
 use Rattle.alive_regroup.proofs.Heard.{same-taken}
 use Rattle.alive_regroup.proofs.listener.differ.Goals as goal
