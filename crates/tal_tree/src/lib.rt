@@ -3,7 +3,7 @@
 //!
 //! Below stands `gd_words`, whose `List` and `Boxed` make every type here a plain value in a contract. The crates above
 //! match on these types in their definitions, and where such a definition recurs, they take from `specs/Rows.antt` what
-//! it says of one more layer; no call here does more than let a tree go.
+//! it says of one more layer. A call here lets a tree go, or gives the number of a limit.
 #![tactic(auto)]
 
 pub mod act;
