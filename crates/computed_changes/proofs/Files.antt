@@ -3,9 +3,8 @@ use Rattle.std.proofs.Common.{◌≡◌, inl, inr, ℕ, zero, suc, ◌+◌, ◌<
 use Rattle.std.proofs.Common.{slice_get, slice_set, refl, subst, ◌∙◌}
 use Rattle.std.specs.Cmp.Derive.{both_true}
 use Rattle.std.proofs.lemmas.Bool.{lt-ltb}
-use Rattle.std.proofs.lemmas.List.{length-map, length-set}
+use Rattle.std.proofs.lemmas.List.{length-replicate, length-set}
 use Rattle.tal_tree.specs.gd_words.specs.Members.{IsAmong}
-use Rattle.tal_tree.specs.declared.program.FileUse.{FileUse}
 use Rattle.tal_tree.specs.declared.site.Site.{Site}
 use Rattle.tal_tree.specs.declared.site.ProcessSpec.{ProcessSpec}
 use Rattle.tal_tree.specs.declared.site.OpenerSpec.{OpenerSpec}
@@ -55,7 +54,7 @@ put-length core applied image e =
 begun-length : (site : Site) (number : ℕ) (spec : ProcessSpec) (core : Core)
     → slice_get site.processes number ≡ Some spec
     → length (new_core site number (slice_get site.processes number) core).next ≡ length (files_of spec.what)
-begun-length site number spec core named = rw named (length-map (files_of spec.what) (λ (file : FileUse). 1))
+begun-length site number spec core named = rw named (length-replicate (length (files_of spec.what)) 1)
 
 becomes-length : {site : Site} {w : World} {number : ℕ} {pair : Pair} {sent : List ImageMessage} {k : Which}
     {cause : Cause} {after : Copy}
@@ -105,8 +104,8 @@ begin-numbered site from (one ∷ specs) zero pair spec k e named =
     (some-same named) (by-which k))
   where
     by-which : (k : Which) → length (copy_of k (pair_at_boot site from one)).core.next ≡ length (files_of one.what)
-    by-which First = length-map (files_of one.what) (λ (file : FileUse). 1)
-    by-which Second = length-map (files_of one.what) (λ (file : FileUse). 1)
+    by-which First = length-replicate (length (files_of one.what)) 1
+    by-which Second = length-replicate (length (files_of one.what)) 1
 begin-numbered site from (one ∷ specs) (suc number) pair spec k e named =
     begin-numbered site (from + 1) specs number pair spec k e named
 

@@ -28,7 +28,7 @@ use Rattle.world_semantics.specs.Rules.{by_print, by_reload, by_request, by_stop
 use Rattle.world_semantics.specs.Rules.{pair_at_down, reloaded_by, renewals_ended, stopped_pair, taker}
 use Rattle.world_semantics.specs.World.{Copy, Down, Pair, World, boot, copy_of, receives, with_copy}
 use Rattle.world_semantics.proofs.Beginning.{all-begin}
-use Rattle.world_semantics.proofs.Lists.{map-all, set-all, some-same}
+use Rattle.world_semantics.proofs.Lists.{map-all, repeated, set-all, some-same}
 use Rattle.world_semantics.proofs.Roles.{reload-all, taker-is}
 use Rattle.world_semantics.proofs.Runs.{holds-on}
 
@@ -368,9 +368,8 @@ change-eras {site = site} w next cause sendings (by_reload {times = times} x dow
 
 none-loaded : (processors processor times : ℕ) → slice_get (replicate processors 0) processor ≡ Some times
     → times ≤ most_reloads
-none-loaded zero processor times there = absurd (cc)
-none-loaded (suc processors) zero times there = let same = some-same there in omega (arith, same)
-none-loaded (suc processors) (suc processor) times there = none-loaded processors processor times there
+none-loaded processors processor times there =
+    let none = repeated processors 0 processor times there in omega (arith, none)
 
 eras-begin : (site : Site) → HasEras (boot site)
 eras-begin site = record {

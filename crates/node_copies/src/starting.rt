@@ -5,7 +5,7 @@ ghost use Rattle.processes.specs.Seen.{IsLoadableKind, state_of};
 ghost use Rattle.file_calls.specs.sync_ids.specs.Tables.{IsDepth};
 ghost use Rattle.process_control.specs.whole_states.specs.Listing as listing;
 ghost use Rattle.process_control.specs.whole_states.specs.Processes.{IsWholeProcess};
-ghost use Rattle.process_control.specs.Cores.{core_at_start};
+ghost use Rattle.kept_acts.specs.world_semantics.specs.Core.{core_at_start};
 ghost use Rattle.kept_acts.specs.world_semantics.specs.Rules.{blank_copy};
 ghost use Rattle.kept_acts.specs.world_semantics.specs.World.{copy_at_boot};
 
@@ -34,7 +34,7 @@ impl NodeCopy {
         requires depths { All (λ opener. IsDepth opener.depth) openers.now }
         ensures { IfOk result (λ one. one ≡ record {
           copy = copy_at_boot role processor
-              (core_at_start (start_of what.now) (length (files_of what.now)) openers.now).core;
+              (core_at_start (start_of what.now) (length (files_of what.now)) openers.now);
           depths = map (λ opener. opener.depth) openers.now;
         }) }
     {
@@ -64,7 +64,7 @@ impl NodeCopy {
         requires depths { All (λ opener. IsDepth opener.depth) openers.now }
         ensures { IfOk result (λ one. one ≡ record {
           copy = blank_copy processor era
-              (core_at_start (start_of what.now) (length (files_of what.now)) openers.now).core;
+              (core_at_start (start_of what.now) (length (files_of what.now)) openers.now);
           depths = map (λ opener. opener.depth) openers.now;
         }) }
     {

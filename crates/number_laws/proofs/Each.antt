@@ -1,6 +1,6 @@
 -- What holds of each item of a list.
 use Rattle.std.proofs.Common.{◌≡◌, ℕ, zero, suc, Bool, true, false, cond, List, [], ◌∷◌, ◌++◌, map, take, drop, Some}
-use Rattle.std.proofs.Common.{slice_get, slice_set, subst}
+use Rattle.std.proofs.Common.{replicate, slice_get, slice_set, subst}
 use Rattle.std.specs.List.{All, filter, remove}
 use Rattle.std.proofs.lemmas.List.Elements.{All-cons, All-nil}
 use Rattle.world_semantics.proofs.Lists.{some-same}
@@ -38,6 +38,10 @@ each-map P f (x ∷ xs) each = (each.0, each-map P f xs each.1)
 pub each-always : {A : Type 0} (P : A → Type 0) → ((x : A) → P x) → (xs : List A) → Each P xs
 each-always P all [] = tt
 each-always P all (x ∷ xs) = (all x, each-always P all xs)
+
+pub each-replicate : {A : Type 0} (P : A → Type 0) (n : ℕ) (x : A) → P x → Each P (replicate n x)
+each-replicate P zero x is = tt
+each-replicate P (suc n) x is = (is, each-replicate P n x is)
 
 pub each-filter : {A : Type 0} (P : A → Type 0) (test : A → Bool) (xs : List A) → Each P xs → Each P (filter test xs)
 each-filter P test [] each = tt

@@ -9,9 +9,9 @@ use Rattle.computed_changes.specs.change_layout.specs.declared.message.ChangeMes
 use Rattle.checkpoint_image.specs.declared.message.ImageMessage.{ImageMessage}
 use Rattle.computed_changes.specs.world_semantics.specs.declared.role.Role.{Role}
 use Rattle.computed_changes.specs.world_semantics.specs.declared.role.Role.TheVariants.{Acting, Watching, Blank}
-use Rattle.computed_changes.specs.world_semantics.specs.Core.{Core, after_passing}
+use Rattle.computed_changes.specs.world_semantics.specs.Core.{Core, after_passing, core_at_start}
 use Rattle.computed_changes.specs.world_semantics.specs.Passes.{next_checkpoint}
-use Rattle.process_control.specs.Cores.{CoreAndDepths, core_at_start}
+use Rattle.process_control.specs.Cores.{CoreAndDepths, with_depths}
 use Rattle.computed_changes.specs.Changed.{core_as_changed}
 use Rattle.computed_changes.specs.Checkpoints.{core_as}
 
@@ -42,7 +42,8 @@ copy_of_core role it = record {
 }
 
 abbrev pub copy_at_start : Role → ProcessState → ℕ → List OpenerSpec → CopyState
-copy_at_start role state files openers = copy_of_core role (core_at_start state files openers)
+copy_at_start role state files openers =
+    copy_of_core role (with_depths openers (core_at_start state files openers))
 
 -- the copy with this core
 abbrev pub with_core : CopyState → Core → CopyState

@@ -1,7 +1,7 @@
 -- What the steps of a copy do to its core, with the depths of its openers. What each step makes of a core stands with
 -- the world of copies.
 use Rattle.std.specs.Option.{option_and_then, option_map}
-use Rattle.std.specs.Prelude.{ℕ, List, map, replicate, slice_get, Option, Some, None}
+use Rattle.std.specs.Prelude.{ℕ, List, map, slice_get, Option, Some, None}
 use Rattle.gd_words.specs.declared.message.Request.{Request}
 use Rattle.tal_tree.specs.declared.site.OpenerSpec.{OpenerSpec}
 use Rattle.process_semantics.specs.Process as process
@@ -9,7 +9,7 @@ use Rattle.checkpoint_image.specs.declared.receive.OpenerBlock.{OpenerBlock}
 use Rattle.computed_changes.specs.change_layout.specs.Changing.{made_whole}
 use Rattle.computed_changes.specs.change_layout.specs.declared.message.ChangeMessage.{ChangeMessage}
 use Rattle.computed_changes.specs.Fitting.{put_fitting}
-use Rattle.computed_changes.specs.sync_ids.specs.Tables.{last_taken, nothing_taken}
+use Rattle.computed_changes.specs.sync_ids.specs.Tables.{last_taken}
 use Rattle.computed_changes.specs.world_semantics.specs.Core.{Core, core_asked, core_replied, core_taken, next_on}
 use Rattle.process_control.specs.declared.told.Asking.{Asking}
 use Rattle.process_control.specs.declared.told.Answering.{Answering}
@@ -19,17 +19,9 @@ pub record CoreAndDepths : Type 0 where
   pub core : Core
   pub depths : List ℕ
 
--- at the start of a process in this state, with so many files and these openers: all next numbers are 1, and nothing is
--- taken, kept or in hand
-abbrev pub core_at_start : process.ProcessState → ℕ → List OpenerSpec → CoreAndDepths
-core_at_start state files openers = record {
-  core = record {
-    state = state;
-    next = replicate files 1;
-    receive = (nothing_taken (map (λ opener. opener.depth) openers)).table;
-  };
-  depths = map (λ opener. opener.depth) openers;
-}
+-- a core with the depths of these openers
+abbrev pub with_depths : List OpenerSpec → Core → CoreAndDepths
+with_depths openers core = record { core = core; depths = map (λ opener. opener.depth) openers }
 
 -- the core after a request was taken; none where its opener isn't there
 abbrev pub core_taking : Request → Core → Option Core

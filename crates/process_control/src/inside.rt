@@ -11,9 +11,9 @@ ghost use Rattle.checkpoint_image.specs.Receive.{standing};
 ghost use Rattle.checkpoint_image.specs.declared.receive.RequestStanding.TheVariants.{Next};
 ghost use Rattle.computed_changes.specs.sync_ids.specs.Tables.{IsDepth};
 ghost use Rattle.computed_changes.specs.world_semantics.specs.Core.{after_passing, carried, carried_by, carried_whole};
-ghost use Rattle.computed_changes.specs.world_semantics.specs.Core.{core_acting};
+ghost use Rattle.computed_changes.specs.world_semantics.specs.Core.{core_acting, core_at_start};
 ghost use Rattle.computed_changes.specs.world_semantics.specs.Core.{core_getting, core_going, next_on};
-ghost use Rattle.process_control.specs.Cores.{core_at_start, core_taking, asking_of, core_asking, answering_of};
+ghost use Rattle.process_control.specs.Cores.{answering_of, asking_of, core_asking, core_taking, with_depths};
 ghost use Rattle.process_control.specs.Cores.{core_answering, core_with_change};
 ghost use Rattle.computed_changes.specs.Fitting.{put_fitting};
 
@@ -66,7 +66,8 @@ impl<B: Behaviour> CopyCore<B> {
         requires few_files { files ≤ 8 }
         requires few_openers { length openers.now < 4096 }
         requires depths { All (λ opener. IsDepth opener.depth) openers.now }
-        ensures { IfOk result (λ it. it ≡ core_at_start (B.state behaviour) files openers.now) }
+        ensures { IfOk result (λ it. it
+            ≡ with_depths openers.now (core_at_start (B.state behaviour) files openers.now)) }
     {
         let receive = Receive::new(alloc, openers)?;
         Ok(CopyCore {

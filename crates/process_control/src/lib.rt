@@ -18,5 +18,5 @@ pub mod laws;
 pub mod told;
 
 pub use control::CopyControl;
-pub use laws::{a_copy_starts_as_in_the_world, a_process_at_its_beginning_can_start};
+pub use laws::a_process_at_its_beginning_can_start;
 pub use told::{Answering, Asking};

@@ -13,10 +13,8 @@ use Rattle.node_copies.specs.machine_states.specs.Drives.{states_at_boot}
 use Rattle.world_semantics.specs.declared.role.Role.{Role}
 use Rattle.world_semantics.specs.declared.role.Role.TheVariants.{Acting, Watching}
 use Rattle.world_semantics.specs.declared.which.Which.TheVariants.{First}
-use Rattle.world_semantics.specs.Core.{core_at_boot}
+use Rattle.world_semantics.specs.Core.{core_at_boot, core_at_start}
 use Rattle.world_semantics.specs.World.{Copy, copy_at_boot, device_at_boot}
-use Rattle.node_copies.specs.process_control.specs.Cores.{core_at_start}
-use Rattle.node_copies.specs.process_control.proofs.Starting.{starts}
 use Rattle.node_copies.specs.Seen.{CopyAndDepths}
 use Rattle.process_copies.specs.Seen.{Placed}
 use Rattle.process_copies.specs.Starting.{placed_at_boot}
@@ -24,7 +22,7 @@ use Rattle.process_copies.specs.Starting.{placed_at_boot}
 -- a copy at the start, with these openers
 abbrev pub Started : ProcessSpec → List OpenerSpec → Role → ℕ → CopyAndDepths
 Started spec openers role processor = record {
-  copy = copy_at_boot role processor (core_at_start (start_of spec.what) (length (files_of spec.what)) openers).core;
+  copy = copy_at_boot role processor (core_at_start (start_of spec.what) (length (files_of spec.what)) openers);
   depths = map (λ (opener : OpenerSpec). opener.depth) openers;
 }
 
@@ -35,8 +33,7 @@ copy-starts : (site : Site) (number : ℕ) (spec : ProcessSpec) (openers : List 
 copy-starts site number spec openers role processor one all is =
     ap (λ (x : CopyAndDepths). x.copy) is
     ∙ ap (λ (o : List OpenerSpec). copy_at_boot role processor
-    (core_at_start (start_of spec.what) (length (files_of spec.what)) o).core) all
-    ∙ ap (copy_at_boot role processor) (starts (start_of spec.what) (files_of spec.what) (openers_of site number))
+    (core_at_start (start_of spec.what) (length (files_of spec.what)) o)) all
 
 abbrev Put : Site → ℕ → Copy → Copy → List ImageMessage → List TakenMessage → List Stored
     → List DriveState → Placed

@@ -7,10 +7,8 @@ use Rattle.tal_tree.specs.declared.site.ProcessSpec.{ProcessSpec}
 use Rattle.process_semantics.specs.Process.{start_of}
 use Rattle.plain_semantics.specs.Openers.{files_of, openers_of}
 use Rattle.node_copies.specs.computed_changes.specs.Fitting.{depths_of}
-use Rattle.world_semantics.specs.Core.{Core}
+use Rattle.world_semantics.specs.Core.{Core, core_at_start}
 use Rattle.world_semantics.specs.Rules.{new_core, blank_copy, reloaded_by}
-use Rattle.node_copies.specs.process_control.specs.Cores.{core_at_start}
-use Rattle.node_copies.specs.process_control.proofs.Starting.{starts}
 use Rattle.node_copies.specs.Seen.{CopyAndDepths}
 use Rattle.process_copies.specs.Reloading.{blank_after, blanks_by, blanks_of, core_begun, pair_with_blanks}
 use Rattle.process_copies.specs.Reloading.{placed_reloaded}
@@ -20,7 +18,7 @@ use Rattle.process_copies.specs.declared.reloading.BlankCopies.{BlankCopies}
 -- a blank copy at the start, with these openers
 abbrev pub BlankStarted : ProcessSpec → ℕ → ℕ → List OpenerSpec → CopyAndDepths
 BlankStarted spec processor era openers = record {
-  copy = blank_copy processor era (core_at_start (start_of spec.what) (length (files_of spec.what)) openers).core;
+  copy = blank_copy processor era (core_at_start (start_of spec.what) (length (files_of spec.what)) openers);
   depths = map (λ (opener : OpenerSpec). opener.depth) openers;
 }
 
@@ -37,8 +35,7 @@ pub blank-is : (placed : Placed) (processor era : ℕ) (spec : ProcessSpec) (ope
 blank-is placed processor era spec openers one there all is =
     is ∙ ap (BlankStarted spec processor (era + 1)) all
     ∙ ap (blank_with placed processor (era + 1))
-    (starts (start_of spec.what) (files_of spec.what) (openers_of placed.site placed.number)
-    ∙ ap (λ (found : Option ProcessSpec). new_core placed.site placed.number found placed.pair.first.core) (sym there))
+    (ap (λ (found : Option ProcessSpec). new_core placed.site placed.number found placed.pair.first.core) (sym there))
 
 -- The depths of the blank copies are those of the process
 

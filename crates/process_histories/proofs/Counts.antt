@@ -3,7 +3,6 @@ use Rattle.std.proofs.Common.{◌≡◌, ◌≢◌, ◌==◌, ◌&&◌, ℕ, ◌
 use Rattle.std.proofs.Common.{Option, Some, None, is_some, slice_get, ◌++◌, refl, ap, sym, ◌∙◌, inl, inr, arith, eq-eqb}
 use Rattle.std.proofs.Common.{filter_map}
 use Rattle.std.proofs.lemmas.Bool.Decides.{eqb_tells}
-use Rattle.tal_tree.specs.declared.program.FileUse.{FileUse}
 use Rattle.tal_tree.specs.declared.site.OpenerSpec.{OpenerSpec}
 use Rattle.tal_tree.specs.declared.site.ProcessSpec.{ProcessSpec}
 use Rattle.tal_tree.specs.declared.site.Site.{Site}
@@ -19,7 +18,7 @@ use Rattle.world_semantics.specs.Core.{Core, Deed, Took, Asked, Got, Answered, g
 use Rattle.world_semantics.specs.Core.{acts, next_on}
 use Rattle.world_semantics.proofs.Hands.{Stands, start-free, start-hand, take-hand, took-stands, inner-stands}
 use Rattle.world_semantics.proofs.Hands.{asked-stands, got-stands, answered-stands, mark-stands, device-stands}
-use Rattle.world_semantics.proofs.Lists.{mapped}
+use Rattle.world_semantics.proofs.Lists.{mapped, repeated}
 use Rattle.process_histories.specs.Histories.{HasDone, nothing_done, one_more}
 use Rattle.process_histories.specs.Words.{take_from, answer_to, ask_on, get_on, taken_from, answered_to, requests_on}
 use Rattle.process_histories.specs.Words.{replies_on, is_await, awaits_on, one_if}
@@ -187,7 +186,7 @@ module _ {site : Site} {number : ℕ} {spec : ProcessSpec} where
   pub next-number : {deeds : List Deed} {core : Core} → HasDone site number spec deeds core → (file next : ℕ)
       → slice_get core.next file ≡ Some next
       → next ≡ length (requests_on file deeds) + 1
-  next-number nothing_done file next there = (mapped (λ (file : FileUse). 1) (files_of spec.what) file next there).2
+  next-number nothing_done file next there = repeated (length (files_of spec.what)) 1 file next there
   next-number (one_more done (goes at)) file next there = next-number done file next there
   next-number (one_more done (marks at)) file next there = next-number done file next there
   next-number (one_more done (takes block at known)) file next there = next-number done file next there

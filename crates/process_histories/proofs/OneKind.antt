@@ -1,6 +1,6 @@
 -- A process stays of its kind.
 use Rattle.std.proofs.Common.{◌≡◌, ℕ, ◌+◌, ℤ, List, [], length, refl, sym, ◌∙◌}
-use Rattle.std.proofs.lemmas.List.{length-map, length-set}
+use Rattle.std.proofs.lemmas.List.{length-map, length-replicate, length-set}
 use Rattle.tal_tree.specs.declared.site.Kind.{Kind}
 use Rattle.tal_tree.specs.declared.site.Kind.TheVariants as kind
 use Rattle.tal_tree.specs.declared.site.ProcessSpec.{ProcessSpec}
@@ -8,7 +8,6 @@ use Rattle.tal_tree.specs.declared.site.Site.{Site}
 use Rattle.world_semantics.specs.process_semantics.specs.Process as process
 use Rattle.world_semantics.specs.process_semantics.specs.Process.{ProcessState, Runs, Serves}
 use Rattle.world_semantics.specs.Core.{Core, Deed, goes, marks, takes, asks, gets, answers, acts, next_on}
-use Rattle.tal_tree.specs.declared.program.FileUse.{FileUse}
 use Rattle.tal_tree.specs.declared.program.Program.{Program}
 use Rattle.world_semantics.specs.World.{device_at_boot}
 use Rattle.tal_tree.specs.declared.site.OpenerSpec.{OpenerSpec}
@@ -81,7 +80,7 @@ first_block = record { taken = 0; kept = [] }
 module _ {site : Site} {number : ℕ} {spec : ProcessSpec} where
   pub files-same : {deeds : List Deed} {core : Core} → HasDone site number spec deeds core
       → length core.next ≡ length (files_of spec.what)
-  files-same nothing_done = length-map (files_of spec.what) (λ (file : FileUse). 1)
+  files-same nothing_done = length-replicate (length (files_of spec.what)) 1
   files-same (one_more done (goes at)) = files-same done
   files-same (one_more done (marks at)) = files-same done
   files-same (one_more done (takes block at there)) = files-same done

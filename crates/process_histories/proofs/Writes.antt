@@ -22,7 +22,7 @@ use Rattle.world_semantics.specs.checkpoint_image.specs.Behaving.{last_write_of}
 use Rattle.world_semantics.specs.Core.{Core, Deed, Went, Checkpointed, Took, Asked, Got, Answered, Acted, goes, marks}
 use Rattle.world_semantics.specs.Core.{takes, asks, gets, answers, acts}
 use Rattle.world_semantics.specs.World.{device_at_boot}
-use Rattle.world_semantics.proofs.Lists.{some-same}
+use Rattle.world_semantics.proofs.Lists.{repeated}
 use Rattle.process_histories.specs.Devices.{after_call, sectors_after, writes_in}
 use Rattle.process_histories.specs.Histories.{HasDone, nothing_done, one_more, kind_of, unmirrored}
 use Rattle.process_histories.proofs.Places.{set-one}
@@ -151,14 +151,9 @@ all-stored P sectors (Write at words number) old new sector stored there = by (i
     by false there = set-one (λ j z. P z) sectors at (record { words = words; number = number })
         (λ j z apart stood. old j z stood) (λ _ _. new at number words refl) sector stored there
 
-all-blank : (n sector : ℕ) (stored : Stored) → slice_get (replicate n blank) sector ≡ Some stored → stored ≡ blank
-all-blank zero sector stored there = absurd (cc)
-all-blank (suc n) zero stored there = sym (some-same there)
-all-blank (suc n) (suc sector) stored there = all-blank n sector stored there
-
 pub first-blank : (what : Kind) (sector : ℕ) (stored : Stored) → slice_get (device_at_boot what) sector ≡ Some stored
     → stored ≡ blank
-first-blank (kind.Disc sectors mirrored) sector stored there = all-blank sectors sector stored there
+first-blank (kind.Disc sectors mirrored) sector stored there = repeated sectors blank sector stored there
 first-blank (kind.Pair program) sector stored there = absurd (cc)
 
 device-length : (what : Kind) (deeds : List Deed) → length (sectors_after what deeds) ≡ length (device_at_boot what)

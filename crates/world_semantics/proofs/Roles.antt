@@ -21,7 +21,7 @@ use Rattle.world_semantics.specs.Rules.{Change, by_own, by_checkpoint, by_reques
 use Rattle.world_semantics.specs.Rules.{by_stop, by_mark, stopped_pair, takes_over, taker, pair_after_down}
 use Rattle.world_semantics.specs.Rules.{pair_at_down, new_core, by_reload, reloaded_at, reloaded_by, reloaded_from}
 use Rattle.world_semantics.proofs.Beginning.{all-begin}
-use Rattle.world_semantics.proofs.Lists.{some-same, set-all, map-all}
+use Rattle.world_semantics.proofs.Lists.{some-same, set-all, map-all, repeated}
 use Rattle.world_semantics.proofs.Growing.{stop-stays, runs-again}
 
 -- the roles of two copies in two processors: a copy is gone exactly where its processor has stopped, and at most one
@@ -41,10 +41,8 @@ AllRoles w = (number : ℕ) (pair : Pair) → slice_get w.processes number ≡ S
 
 -- Beginning
 
-false-there : (n processor : ℕ) → slice_get (replicate n false) processor ≡ Some true → ⊥
-false-there zero processor e = absurd (cc)
-false-there (suc n) zero e = absurd (cc)
-false-there (suc n) (suc processor) e = false-there n processor e
+pub false-there : (n processor : ℕ) → slice_get (replicate n false) processor ≡ Some true → ⊥
+false-there n processor e = let same = repeated n false processor true e in absurd (cc)
 
 pub roles-begin : (site : Site) → AllRoles (boot site)
 roles-begin site =

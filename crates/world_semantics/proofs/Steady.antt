@@ -13,7 +13,7 @@ use Rattle.checkpoint_image.specs.tal_tree.specs.declared.site.Site.{Site}
 use Rattle.world_semantics.proofs.Beginning.{all-begin}
 use Rattle.world_semantics.proofs.Growing.{AreStopped, runs-again}
 use Rattle.world_semantics.proofs.Lists.{map-all, set-all, some-same}
-use Rattle.world_semantics.proofs.Roles.{apart-of, both-true, reload-all, runs-now}
+use Rattle.world_semantics.proofs.Roles.{apart-of, both-true, false-there, reload-all, runs-now}
 use Rattle.world_semantics.specs.Core.{Core}
 use Rattle.world_semantics.specs.Kept.{Enters, begins, holds_on, keeps, repeats}
 use Rattle.world_semantics.specs.Messages.{Cause, Sending}
@@ -54,11 +54,6 @@ WaitsOf stopped marks pair =
 pub record IsSteady (w : World) : Type 0 where
   pub one : OneStopped w.stopped
   pub pairs : (number : ℕ) (pair : Pair) → slice_get w.processes number ≡ Some pair → WaitsOf w.stopped w.marks pair
-
-false-there : (n processor : ℕ) → slice_get (replicate n false) processor ≡ Some true → ⊥
-false-there zero processor e = absurd (cc)
-false-there (suc n) zero e = absurd (cc)
-false-there (suc n) (suc processor) e = false-there n processor e
 
 pub steady-begins : (site : Site) → IsSteady (boot site)
 steady-begins site = record {

@@ -1,7 +1,7 @@
 -- The core of a copy: what its checkpoints carry and restore, as in Bartlett's "A NonStop Kernel". Each act of a
 -- process is a step of the core.
-use Rattle.std.specs.Prelude.{◌≡◌, ℕ, ◌+◌, ℤ, List, [], ◌∷◌, map, is_some, slice_get, slice_set, Option, Some, None}
-use Rattle.std.specs.Prelude.{Bool, false, true}
+use Rattle.std.specs.Prelude.{◌≡◌, ℕ, ◌+◌, ℤ, List, [], ◌∷◌, length, map, replicate, slice_get, slice_set}
+use Rattle.std.specs.Prelude.{Bool, false, true, Option, Some, None, is_some}
 use Rattle.std.specs.Option.{option_map, unwrap_or}
 use Rattle.checkpoint_image.specs.gd_words.specs.declared.device.DeviceCall.{DeviceCall}
 use Rattle.checkpoint_image.specs.tal_tree.specs.declared.site.Site.{Site}
@@ -25,16 +25,22 @@ pub record Core : Type 0 where
   pub next : List ℕ
   pub receive : ReceiveBlock
 
--- the core of a process at its beginning: all next numbers are 1, nothing was taken, and nothing is kept or in hand
-abbrev pub core_at_boot : Site → ℕ → ProcessSpec → Core
-core_at_boot site number spec = record {
-  state = process.start_of spec.what;
-  next = map (λ file. 1) (files_of spec.what);
+-- the core of a process at its beginning, in this state and with so many files and these openers: all next numbers are
+-- 1, nothing was taken, and nothing is kept or in hand
+abbrev pub core_at_start : process.ProcessState → ℕ → List OpenerSpec → Core
+core_at_start state files openers = record {
+  state = state;
+  next = replicate files 1;
   receive = record {
-    openers = map (λ opener. record { taken = 0; kept = [] }) (openers_of site number);
+    openers = map (λ opener. record { taken = 0; kept = [] }) openers;
     in_hand = None;
   };
 }
+
+-- the core of a process of a site at its beginning
+abbrev pub core_at_boot : Site → ℕ → ProcessSpec → Core
+core_at_boot site number spec =
+    core_at_start (process.start_of spec.what) (length (files_of spec.what)) (openers_of site number)
 
 -- the number of the next request on a file
 abbrev pub next_on : Core → ℕ → ℕ
