@@ -3,9 +3,9 @@ use Rattle.std.specs.List.{list_all}
 use Rattle.std.specs.Option.{option_map, unwrap_or}
 use Rattle.std.specs.Bool.{beq}
 use Rattle.std.specs.Cmp.Lexicographic.{pointwise}
-use Rattle.std.proofs.Common.{◌≡◌, ◌≤◌, ◌<◌, ◌+◌, ◌&&◌, ◌∷◌, ◌++◌, ◌∙◌, ℕ, zero, suc, Bool, true, false, not, List, [], map}
-use Rattle.std.proofs.Common.{Option, Some, None, if◌then◌else◌, length, take, get_or, set, replicate, slice_get, slice_set}
-use Rattle.std.proofs.Common.{refl, ap, ap₂, sym, arith}
+use Rattle.std.proofs.Common.{◌≡◌, ◌≤◌, ◌<◌, ◌+◌, ◌&&◌, ◌∷◌, ◌++◌, ◌∙◌, ℕ, zero, suc, Bool, true, false, not}
+use Rattle.std.proofs.Common.{Option, Some, None, if◌then◌else◌, List, [], map, length, take, get_or, set, replicate}
+use Rattle.std.proofs.Common.{slice_get, slice_set, refl, ap, ap₂, sym, arith}
 use Rattle.std.proofs.lemmas.List.{length-map, take_all, take_more}
 use Rattle.std.proofs.lemmas.Option.{slice_get_past}
 use Rattle.alive_regroup.specs.declared.neighbour.Missed.TheVariants as missed
@@ -13,9 +13,9 @@ use Rattle.alive_regroup.specs.declared.neighbour.Neighbour.{Neighbour}
 use Rattle.alive_regroup.specs.declared.neighbour.Neighbour.TheVariants.{Absent, Up, Down}
 use Rattle.alive_regroup.specs.Sets.{nobody}
 use Rattle.alive_regroup.specs.Listening.{all_heard, is_at_rest, is_calm, neighbour_if_heard, watch_after}
-use Rattle.alive_regroup.specs.Watching.{Watching, after_check, after_tick, changed_at, does_check, is_missed, is_silent}
-use Rattle.alive_regroup.specs.Watching.{is_up, misses_none, neighbour_after_alive, neighbour_after_check, set_to_tell}
-use Rattle.alive_regroup.specs.Watching.{silent_set, told_by_tick}
+use Rattle.alive_regroup.specs.Watching.{Watching, after_check, after_tick, changed_at, does_check, is_missed}
+use Rattle.alive_regroup.specs.Watching.{is_silent, is_up, misses_none, neighbour_after_alive, neighbour_after_check}
+use Rattle.alive_regroup.specs.Watching.{set_to_tell, silent_set, told_by_tick}
 use Rattle.alive_regroup.proofs.NoneMissed.{first-of}
 
 pub none-heard : (n : ℕ) (all : List Neighbour) → all_heard (replicate n false) all ≡ all

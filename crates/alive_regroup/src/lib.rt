@@ -2,8 +2,8 @@
 //! when it pulls the hold line of one.
 //!
 //! Below stands nothing but std. The layers above use that each call of a `Watch`, and of the `Listener` that keeps
-//! one, changes what the node knows as `specs/Watching.antt` says, and that `decide` names the first processor of which
-//! all agree that it is silent.
+//! one, changes what the node knows as `specs/Watching.antt` says, and that `holds` tells whether the node pulls the
+//! line of a processor.
 #![tactic(auto)]
 
 pub mod listener;

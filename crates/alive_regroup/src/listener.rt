@@ -109,6 +109,7 @@ impl Listener {
     }
 
     /// The node's tick: the silent set to report, where a check changed it or a report is due.
+    #[inline(always)]
     pub fn tick(&mut self) -> Option<ProcessorSet>
         ensures told { result ≡ told_by_tick self.old }
         ensures after { self.new ≡ after_tick self.old }

@@ -1,11 +1,9 @@
-ghost use Rattle.std.specs.Prelude.{◌≡◌, ◌≤◌, ◌<◌, ◌+◌, ℕ, Some, take, drop, true, false, map, not, length, IfSome};
-ghost use Rattle.std.specs.Prelude.{IfNone, slice_get};
-ghost use Rattle.std.specs.Bool.{OnTrue};
+ghost use Rattle.std.specs.Prelude.{◌≡◌, ◌<◌, ◌+◌, Some, take, drop, true, false, map, not, slice_get};
 ghost use Rattle.std.specs.List.{list_all};
 ghost use Rattle.alive_regroup.specs.Sets.{has};
-ghost use Rattle.alive_regroup.specs.Watching.{Watching, neighbour_after_alive, neighbour_after_report};
+ghost use Rattle.alive_regroup.specs.Watching.{Watching, neighbour_after_report};
 ghost use Rattle.alive_regroup.specs.Watching.{neighbour_after_down, is_down, is_up, is_silent, changed_at};
-ghost use Rattle.alive_regroup.specs.Watching.{neighbour_after_check, is_marked, is_missed, after_tick, misses_none};
+ghost use Rattle.alive_regroup.specs.Watching.{neighbour_after_check, is_marked, after_tick};
 ghost use Rattle.alive_regroup.specs.Watching.{is_coordinator, is_held, all_but, agrees, new_watch, at_first};
 ghost use Rattle.alive_regroup.specs.Watching.{is_silent_at};
 ghost use Rattle.alive_regroup.specs.Watching.{after_up, does_check, neighbour_after_up, neighbour_after_up_of};
@@ -72,16 +70,6 @@ impl Watch {
         ensures { result ≡ self.now.me }
     {
         self.me
-    }
-
-    /// An alive packet came from a processor.
-    pub fn heard(&mut self, from: u8)
-        ensures { self.new ≡ changed_at from neighbour_after_alive self.old }
-    {
-        let place = usize::from(from);
-        if let Some(_there) = self.neighbours.get(place) {
-            self.neighbours[place].hear();
-        }
     }
 
     /// A report came from a processor.
@@ -203,42 +191,6 @@ impl Watch {
         ensures { result ≡ is_calm self.now }
     {
         !self.due && self.told == ProcessorSet::nobody() && all_at_rest(self.neighbours.as_slice())
-    }
-
-    /// Whether the last check missed no processor. Then no line is pulled after a tick made now.
-    pub fn misses_none(&self) -> bool
-        ensures missed { result ≡ misses_none self.now }
-        ensures held { OnTrue result ((processor : ℕ) → is_held processor (after_tick self.now) ≡ false) }
-    {
-        none_missed(self.neighbours.as_slice())
-    }
-
-    /// The processor whose hold line the node pulls: the first of which all agree that it is silent, where the node is
-    /// the coordinator.
-    pub fn decide(&self) -> Option<u8>
-        ensures held { IfSome result (λ processor. is_held processor self.now ≡ true) }
-        ensures first { IfSome result (λ processor. (lower : ℕ) → lower < processor → is_held lower self.now ≡ false) }
-        ensures none { IfNone result ((processor : ℕ) → processor < 16 → is_held processor self.now ≡ false) }
-    {
-        for processor in 0..16 {
-            if self.holds(processor) {
-                return Some(processor);
-            }
-        }
-        None
-    }
-
-    /// The processor that `decide` would name after a tick made now.
-    pub fn would_decide(&self) -> Option<u8>
-        ensures held { IfSome result (λ processor. is_held processor (after_tick self.now) ≡ true) }
-        ensures first { IfSome result (λ processor. (lower : ℕ) → lower < processor
-            → is_held lower (after_tick self.now) ≡ false) }
-        ensures none { IfNone result ((processor : ℕ) → processor < 16
-            → is_held processor (after_tick self.now) ≡ false) }
-    {
-        let mut later = *self;
-        later.tick();
-        later.decide()
     }
 
     /// Whether all agree that a processor is silent, and the node is the coordinator.
@@ -381,10 +333,4 @@ fn all_at_rest(neighbours: &[Neighbour]) -> bool
     ensures { result ≡ list_all is_at_rest neighbours.now }
 {
     neighbours.iter().all(|one| one.is_at_rest())
-}
-
-fn none_missed(neighbours: &[Neighbour]) -> bool
-    ensures { result ≡ list_all (λ one. not (is_missed one)) neighbours.now }
-{
-    neighbours.iter().all(|one| !one.is_missed())
 }

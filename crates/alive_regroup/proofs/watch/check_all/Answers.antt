@@ -18,7 +18,8 @@ told xs k = map silent (take k xs) ++ drop k (replicate 16 false)
 noted : (xs : List Neighbour) (k : ℕ) (before after : List Bool) (is : Bool) → k < length xs → k < 16
     → before ≡ told xs k → is ≡ silent (get_or xs k Absent) → after ≡ set before k is → after ≡ told xs (k + 1)
 noted xs k before after is within small same found now =
-    now ∙ ap₂ (λ items one. set items k one) same found ∙ mapped-more silent xs (replicate 16 false) k Absent within small
+    now ∙ ap₂ (λ items one. set items k one) same found
+    ∙ mapped-more silent xs (replicate 16 false) k Absent within small
 
 -- which changes nothing if it isn't
 unchanged : (xs : List Neighbour) (k : ℕ) (before : List Bool) → k < length xs → k < 16 → before ≡ told xs k
