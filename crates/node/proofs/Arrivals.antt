@@ -125,21 +125,3 @@ module _ (name : BusName) (k : ℕ) (r s : ℕ) (wires : Wires) where
             ∙ alive-arrived name packet alive.0 (without_packet name k wires),
         alive-completed name packet alive.0 (end_at wires.nodes packet.receiver packet.sender),
       )
-
--- where no packet stands
-remove-none : {A : Type 0} (xs : List A) (k : ℕ) → slice_get xs k ≡ None → remove xs k ≡ xs
-remove-none [] zero none = refl
-remove-none [] (suc k) none = refl
-remove-none (x ∷ xs) zero none = absurd cc
-remove-none (x ∷ xs) (suc k) none = ap (λ rest. x ∷ rest) (remove-none xs k none)
-
-bus-same : (name : BusName) (wires : Wires) → with_bus name (on_bus name wires) wires ≡ wires
-bus-same bus.X wires = refl
-bus-same bus.Y wires = refl
-
-pub delivered-none : (name : BusName) (k : ℕ) (wires : Wires) → slice_get (on_bus name wires) k ≡ None
-    → without_packet name k wires ≡ delivered name k (slice_get (on_bus name wires) k) wires
-delivered-none name k wires none =
-    ap (λ (packets : List Packet). with_bus name packets wires) (remove-none (on_bus name wires) k none)
-    ∙ bus-same name wires
-    ∙ sym (ap (λ (found : Option Packet). delivered name k found wires) none)

@@ -1,8 +1,12 @@
--- Which ends of a node may hold something. Only this crate's own code sees this.
-use Rattle.std.specs.Prelude.{◌≡◌, ℕ, Bool, true, false, List, Some, slice_get}
-use Rattle.link_control.specs.Ends.{End}
-use Rattle.event_parts.specs.packet_wires.specs.Idle.{holds_nothing}
+-- How many ends of a node hold something. Only this crate's own code sees this.
+use Rattle.std.specs.Prelude.{ℕ, ◌+◌, Bool, true, false, not, List, [], ◌∷◌}
+use Rattle.link_control.specs.Ends.{End, is_empty}
 
--- an end that isn't noted holds nothing
-abbrev pub AreNoted : List Bool → List End → Type 0
-AreNoted noted ends = (y : ℕ) → slice_get noted y ≡ Some false → holds_nothing (slice_get ends y) ≡ true
+abbrev pub one_if : Bool → ℕ
+one_if true = 1
+one_if false = 0
+
+-- how many of these ends have something outstanding or queued
+abbrev pub holding_in : List End → ℕ
+holding_in [] = 0
+holding_in (e ∷ ends) = one_if (not (is_empty e)) + holding_in ends

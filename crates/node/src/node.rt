@@ -1,4 +1,4 @@
-ghost use Rattle.std.specs.Prelude.{◌≡◌, ◌≤◌, ◌<◌, ◌==◌, ◌&&◌, ℕ, true, false, not, length, map, replicate, slice_get};
+ghost use Rattle.std.specs.Prelude.{◌≡◌, ◌≤◌, ◌<◌, ◌+◌, ◌==◌, ◌&&◌, ℕ, true, false, not, length, map, replicate, slice_get};
 ghost use Rattle.std.specs.Prelude.{slice_set, IfSome, IfNone, IfOk, OnOk, Some};
 ghost use Rattle.std.specs.Bool.{OnFalse};
 ghost use Rattle.std.specs.Option.{option_copied};
@@ -11,6 +11,7 @@ ghost use Rattle.event_parts.specs.packet_wires.specs.Idle.{holds_nothing};
 ghost use Rattle.event_parts.specs.packet_wires.specs.Lines.{first_held, line_pulled};
 ghost use Rattle.event_parts.specs.packet_wires.specs.Nodes.{node_after_reload, node_at_boot};
 ghost use Rattle.event_parts.specs.Numbers.{HasNumbersWith, NodeCanPush, NodeCanReload};
+ghost use Rattle.node.specs.Held.{holding_in, one_if};
 ghost use Rattle.node.specs.Calls.{told_at_end, with_end_changed, with_watch_changed};
 
 use alive_regroup::{Listener, ProcessorSet, Watch};
@@ -35,23 +36,20 @@ const NEVER_RELOADED: Incarnation = Incarnation {
 pub struct Node {
     ends: Vec<Channel>,
     listener: Listener,
-    /// Which ends may hold something, so that a tick looks at no other.
-    held: [bool; 17],
-    /// Whether there is one.
-    busy: bool,
+    /// How many ends have something outstanding or queued, so that a tick looks at them only if there is one.
+    holding: usize,
 }
 
 impl Model for Node {
-    ghost use Rattle.std.specs.Prelude.{◌≡◌, false, replicate};
+    ghost use Rattle.std.specs.Prelude.{◌≡◌};
     ghost use Rattle.event_parts.specs.packet_wires.specs.Nodes as nodes;
-    ghost use Rattle.node.specs.Held.{AreNoted};
+    ghost use Rattle.node.specs.Held.{holding_in};
 
     ghost Value = { nodes.Node };
 
     ghost view = { λ node. record { ends = node.ends.items; watch = node.listener } };
 
-    ghost invariant = { λ node. AreNoted node.held node.ends.items
-        × (node.busy ≡ false → node.held ≡ replicate 17 false) };
+    ghost invariant = { λ node. node.holding ≡ holding_in node.ends.items };
 }
 
 impl Node {
@@ -63,11 +61,11 @@ impl Node {
         for other in 0..NODES {
             ends.push(Channel::new(alloc, me, other, NEVER_RELOADED))?;
         }
+        let holding = count_holding(ends.as_slice());
         Ok(Node {
             ends,
             listener: Listener::new(me, processors),
-            held: [true; 17],
-            busy: true,
+            holding,
         })
     }
 
@@ -82,9 +80,10 @@ impl Node {
         if place >= self.ends.len() {
             return Ok(None);
         }
-        self.busy = true;
-        note(&mut self.held, place, true);
-        let packet = self.ends[place].push(message)?;
+        let end = &mut self.ends[place];
+        let held = !end.is_empty();
+        let packet = end.push(message)?;
+        self.holding = counted_again(self.holding, held, !end.is_empty());
         Ok(packet)
     }
 
@@ -104,9 +103,10 @@ impl Node {
                 delivered: None,
             });
         }
-        self.busy = true;
-        note(&mut self.held, place, true);
-        let arrived = self.ends[place].on_packet(packet)?;
+        let end = &mut self.ends[place];
+        let held = !end.is_empty();
+        let arrived = end.on_packet(packet)?;
+        self.holding = counted_again(self.holding, held, !end.is_empty());
         Ok(arrived)
     }
 
@@ -119,27 +119,11 @@ impl Node {
         if place >= self.ends.len() {
             return None;
         }
-        self.busy = true;
-        note(&mut self.held, place, true);
-        self.ends[place].on_tick()
-    }
-
-    /// Finds out whether the end with a node holds something. If not, the next tick passes it over.
-    pub fn settle(&mut self, to: u8)
-        ensures { self.new ≡ self.old }
-    {
-        if self.holds_nothing(to) {
-            self.pass(usize::from(to));
-        }
-    }
-
-    /// The end at a place is empty.
-    fn pass(&mut self, place: usize)
-        requires { holds_nothing (slice_get self.old.ends place) ≡ true }
-        ensures { self.new ≡ self.old }
-    {
-        note(&mut self.held, place, false);
-        self.busy = any(&self.held);
+        let end = &mut self.ends[place];
+        let held = !end.is_empty();
+        let resent = end.on_tick();
+        self.holding = counted_again(self.holding, held, !end.is_empty());
+        resent
     }
 
     /// The node throws its end with a processor away.
@@ -148,9 +132,10 @@ impl Node {
     {
         let place = usize::from(processor);
         if place < self.ends.len() {
-            self.busy = true;
-            note(&mut self.held, place, true);
-            self.ends[place].down();
+            let end = &mut self.ends[place];
+            let held = !end.is_empty();
+            end.down();
+            self.holding = counted_again(self.holding, held, !end.is_empty());
         }
     }
 
@@ -189,7 +174,15 @@ impl Node {
         self.listener.watch()
     }
 
-    /// The first node from a number on, the end with which may have something outstanding or queued.
+    /// Whether an end has something outstanding or queued.
+    #[inline(always)]
+    pub(crate) fn holds_any(&self) -> bool
+        ensures { OnFalse result ((other : ℕ) → holds_nothing (slice_get self.now.ends other) ≡ true) }
+    {
+        0 < self.holding
+    }
+
+    /// The first node from a number on, the end with which has something outstanding or queued.
     pub fn held_from(&self, first: u8) -> Option<u8>
         ensures held { IfSome result (λ held. (first ≤ held) × (held < 17)) }
         ensures skipped { IfSome result (λ held. (other : ℕ) → first ≤ other → other < held
@@ -197,14 +190,16 @@ impl Node {
         ensures none { IfNone result ((other : ℕ) → first ≤ other → other < 17
             → holds_nothing (slice_get self.now.ends other) ≡ true) }
     {
-        if !self.busy {
-            return None;
+        for other in first..NODES {
+            if !self.holds_nothing(other) {
+                return Some(other);
+            }
         }
-        let other = noted_from(&self.held, first)?;
-        Some(other)
+        None
     }
 
     /// A tick of what the node knows of the processors: the silent set to report, where a check changed it.
+    #[inline(always)]
     pub fn check(&mut self) -> Option<ProcessorSet>
         ensures told { result ≡ told_by_tick self.old.watch }
         ensures after { self.new ≡ with_watch_changed watching.after_tick self.old }
@@ -238,9 +233,8 @@ impl Node {
         requires { NodeCanReload loaded self.old }
         ensures { self.new ≡ node_after_reload processors loaded self.old }
     {
-        self.busy = true;
-        self.held = [true; 17];
         reload_all(self.ends.as_mut_slice(), alloc, loaded);
+        self.holding = count_holding(self.ends.as_slice());
         if self.listener.me() == loaded {
             self.listener = Listener::new(loaded, processors);
         } else {
@@ -256,12 +250,21 @@ impl Node {
     }
 
     /// The processor whose line it would pull after a tick made now.
+    #[inline(always)]
     pub fn line_after_tick(&self, me: u8) -> Option<u8>
         ensures { result ≡ line_pulled me (with_watch_changed watching.after_tick self.now) }
     {
         if self.listener.is_calm() {
             return None;
         }
+        self.line_looked_at(me)
+    }
+
+    /// The same, told by its watch after a tick. Out of line, as few ticks need it.
+    #[inline(never)]
+    fn line_looked_at(&self, me: u8) -> Option<u8>
+        ensures { result ≡ line_pulled me (with_watch_changed watching.after_tick self.now) }
+    {
         let mut later = self.listener.watch();
         later.tick();
         first_held(&later, me)
@@ -278,42 +281,30 @@ fn reload_all(ends: &mut [Channel], alloc: Global, loaded: u8)
     }
 }
 
-/// Whether the end at a place may hold something.
-fn note(held: &mut [bool; 17], place: usize, may_hold: bool)
-    ensures { held.new ≡ slice_set held.old place may_hold }
+/// How many ends hold something, after one that held something or didn't was changed.
+fn counted_again(holding: usize, held: bool, holds: bool) -> usize
+    requires some { one_if held ≤ holding }
+    requires room { holding + one_if holds ≤ 18446744073709551615 + one_if held }
+    ensures { result + one_if held ≡ holding + one_if holds }
 {
-    if place < held.len() {
-        held[place] = may_hold;
+    if held == holds {
+        holding
+    } else if holds {
+        holding + 1
+    } else {
+        holding - 1
     }
 }
 
-/// Whether something may be held. It looks at all places, so that the compiler takes them at once.
-fn any(held: &[bool; 17]) -> bool
-    ensures { OnFalse result (held.now ≡ replicate 17 false) }
+/// How many ends hold something.
+fn count_holding(ends: &[Channel]) -> usize
+    ensures { result ≡ holding_in ends.now }
 {
-    let mut any = false;
-    for place in 0..17 {
-        if held[place] {
-            any = true;
-        }
+    let mut holding = 0;
+    for end in ends {
+        holding = counted_again(holding, false, !end.is_empty());
     }
-    any
-}
-
-/// The first place from one on where something may be held.
-fn noted_from(held: &[bool; 17], first: u8) -> Option<u8>
-    ensures noted { IfSome result (λ noted. (first ≤ noted) × (noted < 17)) }
-    ensures skipped { IfSome result (λ noted. (other : ℕ) → first ≤ other → other < noted
-        → slice_get held.now other ≡ Some false) }
-    ensures none { IfNone result ((other : ℕ) → first ≤ other → other < 17
-        → slice_get held.now other ≡ Some false) }
-{
-    for other in first..NODES {
-        if held[usize::from(other)] {
-            return Some(other);
-        }
-    }
-    None
+    holding
 }
 
 /// The first processor but the node itself of which all agree that it is silent.

@@ -1,5 +1,6 @@
 ghost use Rattle.std.specs.Prelude.{◌≡◌, ◌<◌, ◌≤◌, ◌==◌, ◌++◌, ◌∷◌, [], ℕ, None, Some, length, slice_get};
 ghost use Rattle.std.specs.Prelude.{true, if◌then◌else◌, map, IfSome, IfNone, IfOk, OnOk};
+ghost use Rattle.std.specs.Bool.{OnFalse};
 ghost use Rattle.std.specs.Option.{option_and_then, option_copied, option_map};
 ghost use Rattle.packet_words.specs.declared.packet.Packet.{Packet};
 ghost use Rattle.alive_regroup.specs.Watching as watching;
@@ -146,7 +147,7 @@ impl PacketWires {
     }
 
     /// Whether the end to which a packet comes knows its incarnations.
-    fn knows(&self, packet: &Packet) -> bool
+    pub fn knows(&self, packet: &Packet) -> bool
         ensures { result ≡ is_current_at packet.now (end_at self.now.nodes packet.now.receiver packet.now.sender) }
     {
         match self.end_at(packet.receiver, packet.sender) {
@@ -209,27 +210,6 @@ impl PacketWires {
         Ok(())
     }
 
-    /// The packet at a position of a bus is taken off and comes at its receiver. It gives the message that is whole
-    /// with it. An alive packet is looked at where it stands.
-    pub fn deliver(&mut self, bus: BusName, position: usize) -> Result<Option<List<i16>>, NoMemory>
-        requires { (packet : Packet) → slice_get (on_bus bus self.old) position ≡ Some packet
-            → HasNumbersAt packet.receiver packet.sender self.old.nodes }
-        ensures completed { IfOk result (λ words. words
-            ≡ completed_by (slice_get (on_bus bus self.old) position) self.old.nodes) }
-        ensures after { OnOk result (self.new ≡ delivered bus position (slice_get (on_bus bus self.old) position)
-            self.old) }
-    {
-        if let Some((receiver, sender)) = self.alive_address(bus, position) {
-            self.hear_at(bus, position, receiver, sender);
-            return Ok(None);
-        }
-        let Some(packet) = self.take(bus, position) else {
-            return Ok(None);
-        };
-        let words = self.arrive(bus, &packet)?;
-        Ok(words)
-    }
-
     /// The receiver and the sender of the packet at a position of a bus, where it is an I'm-alive packet.
     pub fn alive_address(&self, bus: BusName, position: usize) -> Option<(u8, u8)>
         ensures { result ≡ alive_address (slice_get (on_bus bus self.now) position) }
@@ -251,8 +231,8 @@ impl PacketWires {
         self.hear(receiver, sender);
     }
 
-    /// A packet comes at its receiver. It gives the message that is whole with it.
-    fn arrive(&mut self, bus: BusName, packet: &Packet) -> Result<Option<List<i16>>, NoMemory>
+    /// A packet that came by a bus comes at its receiver. It gives the message that is whole with it.
+    pub fn arrive(&mut self, bus: BusName, packet: &Packet) -> Result<Option<List<i16>>, NoMemory>
         requires { HasNumbersAt packet.now.receiver packet.now.sender self.old.nodes }
         ensures completed { IfOk result (λ words. words
             ≡ completed packet.now (end_at self.old.nodes packet.now.receiver packet.now.sender)) }
@@ -316,6 +296,7 @@ impl PacketWires {
     }
 
     /// A node ticks: it tells the others that it is alive, checks and reports, and sends again what is outstanding.
+    #[inline(always)]
     pub fn tick(&mut self, from: u8, processors: u8) -> Result<(), NoMemory>
         requires { CanPush self.old.nodes }
         ensures { OnOk result (self.new ≡ carried_out (ticked processors from) self.old) }
@@ -356,6 +337,7 @@ impl PacketWires {
         self.put_both(packet);
     }
 
+    #[inline(always)]
     fn check(&mut self, from: u8, processors: u8) -> Result<(), NoMemory>
         requires { CanPush self.old.nodes }
         ensures { OnOk result (self.new ≡ carried_out (checks processors from) self.old) }
@@ -369,6 +351,7 @@ impl PacketWires {
         Ok(())
     }
 
+    #[inline(always)]
     fn report(
         &mut self,
         from: u8,
@@ -379,9 +362,19 @@ impl PacketWires {
         ensures { OnOk result (self.new ≡ carried_out (reports processors from told) self.old) }
     {
         if let Some(silent) = told {
-            let words = report_words(self.alloc, from, silent)?;
-            self.send_others(from, processors, words.as_slice())?;
+            self.report_set(from, processors, silent)?;
         }
+        Ok(())
+    }
+
+    /// A node reports this silent set to the other processors. Out of line, as few ticks need it.
+    #[inline(never)]
+    fn report_set(&mut self, from: u8, processors: u8, silent: ProcessorSet) -> Result<(), NoMemory>
+        requires { CanPush self.old.nodes }
+        ensures { OnOk result (self.new ≡ carried_out (reports processors from (Some silent)) self.old) }
+    {
+        let words = report_words(self.alloc, from, silent)?;
+        self.send_others(from, processors, words.as_slice())?;
         Ok(())
     }
 
@@ -421,18 +414,39 @@ impl PacketWires {
         Ok(())
     }
 
+    #[inline(always)]
     fn resend(&mut self, from: u8)
+        ensures { self.new ≡ carried_out (resends from) self.old }
+    {
+        if self.holds_any(from) {
+            self.resend_held(from);
+        }
+    }
+
+    /// Whether an end of a node holds something, outstanding or queued.
+    #[inline(always)]
+    fn holds_any(&self, node: u8) -> bool
+        ensures { OnFalse result ((other : ℕ) → holds_nothing (end_at self.now.nodes node other) ≡ true) }
+    {
+        match self.nodes.get(usize::from(node)) {
+            None => false,
+            Some(node) => node.holds_any(),
+        }
+    }
+
+    /// The same of a node that holds something. Out of line, so that a tick with nothing outstanding has little to do.
+    #[inline(never)]
+    fn resend_held(&mut self, from: u8)
         ensures { self.new ≡ carried_out (resends from) self.old }
     {
         let mut next = 0;
         while let Some(to) = self.held_from(from, next) {
             self.resend_to(from, to);
-            self.settle(from, to);
             next = to + 1;
         }
     }
 
-    /// The first node from a number on, the end of a node with which may hold something.
+    /// The first node from a number on, the end of a node with which holds something.
     fn held_from(&self, node: u8, first: u8) -> Option<u8>
         ensures held { IfSome result (λ held. (first ≤ held) × (held < 17)) }
         ensures skipped { IfSome result (λ held. (other : ℕ) → first ≤ other → other < held
@@ -457,15 +471,6 @@ impl PacketWires {
         self.put_again(resent);
     }
 
-    fn settle(&mut self, node: u8, to: u8)
-        ensures { self.new ≡ self.old }
-    {
-        let place = usize::from(node);
-        if place < self.nodes.len() {
-            self.nodes[place].settle(to);
-        }
-    }
-
     /// The processor whose line a node pulls now.
     pub fn line(&self, node: u8) -> Option<u8>
         ensures { result ≡ option_and_then (line_pulled node) (slice_get self.now.nodes node) }
@@ -478,6 +483,7 @@ impl PacketWires {
     }
 
     /// The processor whose line a node would pull after a tick made now.
+    #[inline(always)]
     pub fn line_after_tick(&self, node: u8) -> Option<u8>
         ensures { (processors : ℕ) → result ≡ option_and_then (line_pulled node)
             (slice_get (ticked processors node (nothing_sent self.now.nodes)).nodes node) }

@@ -1,7 +1,8 @@
 -- A packet that is delivered, by what becomes of it.
+use Rattle.std.specs.List.{remove}
 use Rattle.std.specs.Option.{option_map}
-use Rattle.std.proofs.Common.{◌≡◌, ℕ, ℤ, Bool, true, false, if◌then◌else◌, List, Option, Some, None, refl, ap, sym}
-use Rattle.std.proofs.Common.{◌&&◌, subst, ◌∙◌}
+use Rattle.std.proofs.Common.{◌≡◌, ℕ, zero, suc, ℤ, Bool, true, false, if◌then◌else◌, List, [], ◌∷◌, Option, Some, None}
+use Rattle.std.proofs.Common.{◌&&◌, slice_get, refl, ap, ap₂, sym, subst, ◌∙◌}
 use Rattle.node.specs.world_semantics.proofs.Lists.{some-same}
 use Rattle.packet_words.specs.declared.bus_name.BusName.{BusName}
 use Rattle.packet_words.specs.declared.bus_name.BusName.TheVariants as bus
@@ -12,10 +13,10 @@ use Rattle.node.specs.world_semantics.specs.World.{is_running}
 use Rattle.node.specs.Calls.{address_if_alive, alive_address}
 use Rattle.node.specs.machine_states.specs.States.{Settles}
 use Rattle.node.specs.machine_states.specs.declared.effect.Effect.TheVariants as effect
-use Rattle.node.specs.packet_wires.specs.Nodes.{end_at}
+use Rattle.node.specs.packet_wires.specs.Nodes.{Node, end_at}
 use Rattle.node.specs.packet_wires.specs.Play.{Packeted, underway, completed, deliver_acted, ended, handed_words, over}
 use Rattle.node.specs.packet_wires.specs.Play.{received}
-use Rattle.node.specs.packet_wires.specs.Wires.{Wires, arrived, nothing_sent, without_packet}
+use Rattle.node.specs.packet_wires.specs.Wires.{Wires, arrived, nothing_sent, on_bus, with_bus, without_packet}
 use Rattle.node.specs.event_parts.specs.Numbers.{CanPush}
 use Rattle.node.specs.event_parts.specs.Parts.{carried_out, completed_by, delivered, is_current_in}
 use Rattle.node.specs.event_parts.proofs.Numbers.{can-arrived}
@@ -35,6 +36,23 @@ alive-receiver : (found : Option Packet) (receiver sender : ℕ) → alive_addre
 alive-receiver None receiver sender is = absurd cc
 alive-receiver (Some packet) receiver sender is = address-receiver packet packet.kind receiver sender is
 
+-- where no packet stands
+remove-none : {A : Type 0} (xs : List A) (k : ℕ) → slice_get xs k ≡ None → remove xs k ≡ xs
+remove-none [] zero none = refl
+remove-none [] (suc k) none = refl
+remove-none (x ∷ xs) zero none = absurd cc
+remove-none (x ∷ xs) (suc k) none = ap (λ rest. x ∷ rest) (remove-none xs k none)
+
+bus-same : (name : BusName) (wires : Wires) → with_bus name (on_bus name wires) wires ≡ wires
+bus-same bus.X wires = refl
+bus-same bus.Y wires = refl
+
+none-off : (name : BusName) (k : ℕ) (wires : Wires) → slice_get (on_bus name wires) k ≡ None
+    → without_packet name k wires ≡ wires
+none-off name k wires none =
+    ap (λ (packets : List Packet). with_bus name packets wires) (remove-none (on_bus name wires) k none)
+    ∙ bus-same name wires
+
 module _ (name : BusName) (k : ℕ) (s : Packeted) where
   abbrev off : Wires
   off = without_packet name k s.wires
@@ -43,10 +61,41 @@ module _ (name : BusName) (k : ℕ) (s : Packeted) where
   abbrev comes : ℕ → Option Packet → Bool
   comes receiver found = is_running s.world.stopped receiver && is_current_in found s.wires.nodes
 
-  pub none-delivered : (found : Option Packet) → None ≡ option_map (λ (packet : Packet). packet.receiver) found
-      → Settles (ended off (deliver_acted name (underway s) found)) s effect.Skipped s
-  none-delivered None is = (refl, refl)
-  none-delivered (Some packet) is = absurd cc
+  pub none-delivered : (after : Packeted) → None ≡ slice_get (on_bus name s.wires) k → after ≡ record s { wires = off }
+      → Settles (ended off (deliver_acted name (underway s) (slice_get (on_bus name s.wires) k))) s effect.Skipped after
+  none-delivered after is same =
+      subst (λ (found : Option Packet). Settles (ended off (deliver_acted name (underway s) found)) s effect.Skipped
+      after) is
+      (refl, same ∙ ap (λ (wires : Wires). record s { wires = wires }) (none-off name k s.wires (sym is)))
+
+  -- a packet that was taken off
+  nodes-off : (of : BusName) → (without_packet of k s.wires).nodes ≡ s.wires.nodes
+  nodes-off bus.X = refl
+  nodes-off bus.Y = refl
+
+  module _ (packet : Packet) (mid : Packeted) (took : mid ≡ record s { wires = off }) where
+    mid-nodes : mid.wires.nodes ≡ s.wires.nodes
+    mid-nodes = ap (λ (m : Packeted). m.wires.nodes) took ∙ nodes-off name
+
+    pub comes-off : (is_running mid.world.stopped packet.receiver && is_current_in (Some packet) mid.wires.nodes)
+        ≡ comes packet.receiver (Some packet)
+    comes-off =
+        ap₂ (λ (stopped : List Bool) (nodes : List Node). is_running stopped packet.receiver
+        && is_current_in (Some packet) nodes) (ap (λ (m : Packeted). m.world.stopped) took) mid-nodes
+
+    pub left-off : HaveNumbersLeft s.wires.nodes → HaveNumbersLeft mid.wires.nodes
+    left-off left = subst HaveNumbersLeft (sym mid-nodes) left
+
+    pub arrived-off : (later : Packeted) → later ≡ record mid { wires = carried_out (arrived name packet) mid.wires }
+        → later ≡ record s { wires = delivered name k (Some packet) s.wires }
+    arrived-off later came =
+        came ∙ ap (λ (m : Packeted). record m { wires = carried_out (arrived name packet) m.wires }) took
+
+    pub whole-off : (words : Option (List ℤ))
+        → words ≡ completed packet (end_at mid.wires.nodes packet.receiver packet.sender)
+        → words ≡ completed_by (Some packet) s.wires.nodes
+    whole-off words whole =
+        whole ∙ ap (λ (nodes : List Node). completed packet (end_at nodes packet.receiver packet.sender)) mid-nodes
 
   dropped : (of : BusName) → record s { wires = without_packet of k s.wires }
       ≡ over (without_packet of k s.wires) (underway s)

@@ -1,20 +1,20 @@
 ghost use Rattle.std.specs.Prelude.{◌≡◌, ◌&&◌, is_some, slice_get, IfOk, OnOk, Some};
 ghost use Rattle.std.specs.Bool.{OnFalse, OnTrue};
-ghost use Rattle.std.specs.Option.{option_map};
 ghost use Rattle.schedule.specs.declared.event.Event.TheVariants as event;
 ghost use Rattle.node.specs.machine_states.specs.States.{Settles};
 ghost use Rattle.node.specs.machine_states.specs.declared.effect.Effect.TheVariants as effects;
 ghost use Rattle.node.specs.Calls.{alive_address};
-ghost use Rattle.node.specs.packet_wires.specs.Play.{underway, deliver_acted, ended, play};
-ghost use Rattle.node.specs.packet_wires.specs.Wires.{bus_named, on_bus, without_packet};
+ghost use Rattle.node.specs.packet_wires.specs.Nodes.{end_at};
+ghost use Rattle.node.specs.packet_wires.specs.Play.{completed, deliver_acted, ended, play, underway};
+ghost use Rattle.node.specs.packet_wires.specs.Wires.{arrived, bus_named, on_bus, without_packet};
 ghost use Rattle.node.specs.world_semantics.specs.World.{is_running};
-ghost use Rattle.node.specs.event_parts.specs.Parts.{completed_by, delivered, is_current_in};
+ghost use Rattle.node.specs.event_parts.specs.Parts.{carried_out, completed_by, delivered, is_current_in};
 ghost use Rattle.site_machine.specs.Needs.{HaveNumbersLeft, IsReady};
 
 use crate::whole::MachineParts;
 use gd_words::{List, NoMemory};
 use node::Effect;
-use packet_words::BusName;
+use packet_words::{BusName, Packet};
 
 /// The bus that events name so.
 pub(crate) fn bus_named(y: bool) -> BusName
@@ -29,43 +29,15 @@ impl MachineParts {
         requires { IsReady self.old }
         ensures { IfOk result (λ effect. Settles (play self.old (event.Deliver y k)) self.old effect self.new) }
     {
-        if k == 0 {
-            self.deliver_front(y)
-        } else {
-            self.deliver_any(y, k)
-        }
-    }
-
-    /// The same of the first packet. An I'm-alive packet is delivered at once.
-    fn deliver_front(&mut self, y: bool) -> Result<Effect, NoMemory>
-        requires { IsReady self.old }
-        ensures { IfOk result (λ effect. Settles (play self.old (event.Deliver y 0)) self.old effect self.new) }
-    {
-        if self.deliver_at_once(y) {
-            return Ok(Effect::Done);
-        }
-        self.deliver_any(y, 0)
-    }
-
-    /// The same of a packet of any kind.
-    fn deliver_any(&mut self, y: bool, k: u32) -> Result<Effect, NoMemory>
-        requires { IsReady self.old }
-        ensures { IfOk result (λ effect. Settles (play self.old (event.Deliver y k)) self.old effect self.new) }
-    {
         let bus = bus_named(y);
-        let place = k as usize;
-        match self.receiver_at(bus, place) {
-            None => Ok(Effect::Skipped),
-            Some(receiver) => {
-                if !self.comes_in(bus, place, receiver) {
-                    self.drop_packet(bus, place);
-                    return Ok(Effect::Done);
-                }
-                let words = self.arrive(bus, place)?;
-                self.hand_words(receiver, words)?;
-                Ok(Effect::Done)
-            }
+        let Some(packet) = self.take_off(bus, k as usize) else {
+            return Ok(Effect::Skipped);
+        };
+        if self.comes_in(&packet) {
+            let words = self.arrive(bus, &packet)?;
+            self.hand_words(packet.receiver, words)?;
         }
+        Ok(Effect::Done)
     }
 
     /// The first packet of a bus is delivered, if it is an I'm-alive packet. Answers whether it was.
@@ -107,14 +79,23 @@ impl MachineParts {
         self.wires.alive_address(bus, 0)
     }
 
-    /// Whether the packet at a position of a bus, which comes to this receiver, comes in there: the receiver runs, and
-    /// the packet was sent since it and its sender were loaded last.
+    /// Whether a packet comes in at its receiver: that one runs, and the packet was sent since it and its sender were
+    /// loaded last.
     #[inline(always)]
-    fn comes_in(&self, bus: BusName, place: usize, receiver: u8) -> bool
-        ensures { result ≡ (is_running self.now.world.stopped receiver
-            && is_current_in (slice_get (on_bus bus self.now.wires) place) self.now.wires.nodes) }
+    fn comes_in(&self, packet: &Packet) -> bool
+        ensures { result ≡ (is_running self.now.world.stopped packet.now.receiver
+            && is_current_in (Some packet.now) self.now.wires.nodes) }
     {
-        self.world.is_running(receiver) && self.wires.is_current(bus, place)
+        self.world.is_running(packet.receiver) && self.wires.knows(packet)
+    }
+
+    /// Whether the first packet of a bus, which comes to this receiver, comes in there.
+    #[inline(always)]
+    fn first_comes_in(&self, bus: BusName, receiver: u8) -> bool
+        ensures { result ≡ (is_running self.now.world.stopped receiver
+            && is_current_in (slice_get (on_bus bus self.now.wires) 0) self.now.wires.nodes) }
+    {
+        self.world.is_running(receiver) && self.wires.is_current(bus, 0)
     }
 
     /// The first packet of a bus, an I'm-alive packet from this sender, comes at its receiver, where it comes in there.
@@ -125,10 +106,10 @@ impl MachineParts {
             (deliver_acted bus (underway self.old) (slice_get (on_bus bus self.old.wires) 0))) self.old effects.Done
             self.new }
     {
-        if self.comes_in(bus, 0, receiver) {
+        if self.first_comes_in(bus, receiver) {
             self.hear_first(bus, receiver, sender);
         } else {
-            self.drop_packet(bus, 0);
+            let _lost = self.take_off(bus, 0);
         }
     }
 
@@ -142,31 +123,24 @@ impl MachineParts {
         self.wires.hear_at(bus, 0, receiver, sender);
     }
 
-    /// The packet at a position of a bus is taken off, and comes to nobody.
-    fn drop_packet(&mut self, bus: BusName, place: usize)
-        ensures { self.new ≡ record self.old { wires = without_packet bus place self.old.wires } }
+    /// Takes the packet at a position off its bus.
+    #[inline(always)]
+    fn take_off(&mut self, bus: BusName, place: usize) -> Option<Packet>
+        ensures packet { result ≡ slice_get (on_bus bus self.old.wires) place }
+        ensures after { self.new ≡ record self.old { wires = without_packet bus place self.old.wires } }
     {
-        let _lost = self.wires.take(bus, place);
+        self.wires.take(bus, place)
     }
 
-    /// The receiver of the packet at a position of a bus.
-    fn receiver_at(&self, bus: BusName, place: usize) -> Option<u8>
-        ensures { result ≡ option_map (λ packet. packet.receiver) (slice_get (on_bus bus self.now.wires) place) }
-    {
-        let packet = self.wires.packet_at(bus, place)?;
-        Some(packet.receiver)
-    }
-
-    /// The packet at a position of a bus is taken off, and comes at its receiver. It gives the message that is whole
-    /// with it.
-    fn arrive(&mut self, bus: BusName, place: usize) -> Result<Option<List<i16>>, NoMemory>
+    /// A packet that came by a bus comes at its receiver. It gives the message that is whole with it.
+    fn arrive(&mut self, bus: BusName, packet: &Packet) -> Result<Option<List<i16>>, NoMemory>
         requires { HaveNumbersLeft self.old.wires.nodes }
         ensures completed { IfOk result (λ words. words
-            ≡ completed_by (slice_get (on_bus bus self.old.wires) place) self.old.wires.nodes) }
+            ≡ completed packet.now (end_at self.old.wires.nodes packet.now.receiver packet.now.sender)) }
         ensures after { OnOk result (self.new ≡ record self.old
-            { wires = delivered bus place (slice_get (on_bus bus self.old.wires) place) self.old.wires }) }
+            { wires = carried_out (arrived bus packet.now) self.old.wires }) }
     {
-        let words = self.wires.deliver(bus, place)?;
+        let words = self.wires.arrive(bus, packet)?;
         Ok(words)
     }
 

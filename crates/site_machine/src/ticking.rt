@@ -16,6 +16,7 @@ use node::Effect;
 impl MachineParts {
     /// The tick of a node: it sends what a tick sends, and pulls the line of a processor of which all agree that it is
     /// silent, if there is one.
+    #[inline(always)]
     pub(crate) fn tick(&mut self, node: u8) -> Result<Effect, NoMemory>
         requires { IsReady self.old }
         ensures { IfOk result (λ effect. Settles (play self.old (event.Tick node)) self.old effect self.new) }
@@ -84,6 +85,7 @@ impl MachineParts {
     }
 
     /// A node sends what its tick sends.
+    #[inline(always)]
     fn tick_wires(&mut self, node: u8) -> Result<(), NoMemory>
         requires { CanPush self.old.wires.nodes }
         ensures { OnOk result (self.new ≡ record self.old

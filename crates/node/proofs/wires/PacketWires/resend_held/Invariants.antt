@@ -2,7 +2,7 @@ use Rattle.std.proofs.Common.{◌≡◌, ◌-◌, ◌≤◌}
 use Rattle.event_parts.specs.packet_wires.specs.Nodes.{numbers}
 use Rattle.event_parts.specs.packet_wires.specs.Wires.{at_end, for_each, resends, tick_at}
 use Rattle.event_parts.specs.Parts.{carried_out}
-use Rattle.node.proofs.wires.PacketWires.resend.Given as goal
+use Rattle.node.proofs.wires.PacketWires.resend_held.Given as goal
 
 abbrev pub invariant-loop-to : goal.invariant-loop-to
 invariant-loop-to l =
