@@ -62,7 +62,7 @@ impl ScheduleMachine for PlayedPackets {
         self.machine.deliver_at_once(y)
     }
 
-    #[inline(never)]
+    #[inline(always)]
     fn counts(&self, player: &Player, idle: bool) -> Counts {
         let x = self.machine.count(BusName::X) as u32;
         let y = self.machine.count(BusName::Y) as u32;

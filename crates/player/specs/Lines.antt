@@ -81,6 +81,11 @@ abbrev pub has_reached : LinePlace → Counts → Bool
 has_reached (standing.Rounds rule left place) counts = is_reached rule counts
 has_reached _ counts = false
 
+-- whether a line is one of mixed rounds
+abbrev pub is_mixed : LinePlace → Bool
+is_mixed (standing.Mixed left place draws) = true
+is_mixed _ = false
+
 -- whether a line ends early
 abbrev pub is_over : LinePlace → Counts → Bool
 is_over standing counts = has_reached standing counts || (asks_idle standing && counts.idle)

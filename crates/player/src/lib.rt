@@ -15,5 +15,6 @@ mod step;
 pub mod stop;
 
 pub use player::Player;
+pub use rule::spared;
 pub use standing::{LinePlace, MixedPlace, Place, Rule, Sizes};
 pub use stop::ProcessorStop;

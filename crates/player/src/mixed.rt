@@ -36,6 +36,7 @@ fn draw_word(draws: u64) -> Draw
 }
 
 /// The next event of a mixed round at a place, where `x` and `y` packets are on the buses.
+#[inline(always)]
 pub fn next_mixed(sizes: Sizes, x: u32, y: u32, place: MixedPlace, draws: u64) -> MixedTurn
     ensures { result ≡ next_mixed sizes x y place draws }
 {

@@ -5,7 +5,7 @@ ghost use Rattle.player.specs.declared.standing.Place.TheVariants as place;
 ghost use Rattle.player.specs.declared.standing.Rule.TheVariants as rule;
 ghost use Rattle.player.specs.Lines.{begun, proposed, asks_idle, next_event, stands_after, event_of, packet_of, on_bus};
 ghost use Rattle.player.specs.Lines.{aimed};
-ghost use Rattle.player.specs.Lines.{draining, rounds_to_drain, with_packets_left};
+ghost use Rattle.player.specs.Lines.{draining, is_mixed, rounds_to_drain, with_packets_left};
 
 use crate::mixed::{first_draws, next_mixed};
 use crate::round::next_turn;
@@ -77,6 +77,13 @@ impl Player {
             ≡ next_event self.now.sizes self.now.standing counts }
     {
         asks_idle(self.standing)
+    }
+
+    /// Whether it stands on a line of mixed rounds.
+    pub fn is_mixed(&self) -> bool
+        ensures { result ≡ is_mixed self.now.standing }
+    {
+        matches!(self.standing, LinePlace::Mixed { .. })
     }
 
     /// Whether a drain delivers the packets of bus Y, or else of bus X, next, whatever is counted, and how many of them

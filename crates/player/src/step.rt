@@ -1,6 +1,6 @@
 ghost use Rattle.std.specs.Prelude.{◌≡◌, IfSome};
 ghost use Rattle.player.specs.declared.standing.LinePlace.TheVariants as standing;
-ghost use Rattle.player.specs.Lines.{event_of, is_before, is_before_mixed, next_event, stands_after};
+ghost use Rattle.player.specs.Lines.{event_of, is_before, is_before_mixed, next_event, proposed, stands_after};
 
 use crate::mixed::next_mixed;
 use crate::round::next_turn;
@@ -22,7 +22,8 @@ impl LinePlace {
             }
             LinePlace::Rounds { rule, left, place } => turn(sizes, *rule, left, place, counts),
             LinePlace::Mixed { left, place, draws } => {
-                mixed_turn(sizes, left, place, draws, *counts)
+                let event = mixed_turn(sizes, left, place, draws, counts.x, counts.y)?;
+                Some(spared(counts, event))
             }
         }
     }
@@ -52,26 +53,28 @@ fn turn(
     Some(rule.decided(counts, next.event))
 }
 
-/// The next event of a line of mixed rounds, and where its round stands then.
+/// The next event of a line of mixed rounds if its packet isn't an alive one, where `x` and `y` packets are on the
+/// buses; and where its round stands then.
 #[inline(never)]
 fn mixed_turn(
     sizes: Sizes,
     left: &mut u32,
     place: &mut MixedPlace,
     draws: &mut u64,
-    counts: Counts,
+    x: u32,
+    y: u32,
 ) -> Option<Event>
-    ensures event { result ≡ event_of (next_event sizes (standing.Mixed left.old place.old draws.old) counts) }
+    ensures event { result ≡ event_of (proposed sizes x y (standing.Mixed left.old place.old draws.old)) }
     ensures standing { IfSome result (λ event. standing.Mixed left.new place.new draws.new
-        ≡ stands_after (next_event sizes (standing.Mixed left.old place.old draws.old) counts)) }
+        ≡ stands_after (proposed sizes x y (standing.Mixed left.old place.old draws.old))) }
 {
     if is_before_mixed(*place) {
         *left = left.checked_sub(1)?;
     }
-    let next = next_mixed(sizes, counts.x, counts.y, *place, *draws);
+    let next = next_mixed(sizes, x, y, *place, *draws);
     *place = next.place;
     *draws = next.draws;
-    Some(spared(&counts, next.event))
+    Some(next.event)
 }
 
 /// Whether a round is to begin.

@@ -1,17 +1,20 @@
 -- Lines whose next event doesn't depend on which packet it concerns.
-use Rattle.std.proofs.Common.{◌≡◌, ℕ, ◌-◌, Bool, true, false, nat_lt, if◌then◌else◌, Some, None, refl}
+use Rattle.std.proofs.Common.{◌≡◌, ℕ, ◌-◌, Bool, true, false, nat_lt, if◌then◌else◌, Option, Some, None, refl, ap}
 use Rattle.std.specs.Option.{option_map}
 use Rattle.schedule.specs.declared.event.Counts.{Counts}
 use Rattle.schedule.specs.declared.event.Event.{Event}
+use Rattle.schedule.specs.declared.event.Event.TheVariants as event
 use Rattle.player.specs.declared.standing.LinePlace.{LinePlace}
+use Rattle.player.specs.declared.standing.Move.{Move}
 use Rattle.player.specs.declared.standing.LinePlace.TheVariants as standing
 use Rattle.player.specs.declared.standing.Place.{Place}
 use Rattle.player.specs.declared.standing.Rule.{Rule}
 use Rattle.player.specs.declared.standing.Rule.TheVariants as rule
 use Rattle.player.specs.declared.standing.Sizes.{Sizes}
-use Rattle.player.specs.Lines.{decided_move, is_before, is_over, moved, next_event, stands_after}
+use Rattle.player.specs.Lines.{decided_move, event_of, is_before, is_mixed, is_over, moved, next_event, proposed}
+use Rattle.player.specs.Lines.{spared, stands_after}
 use Rattle.player.specs.Rounds.{next_turn}
-use Rattle.schedule_loop.specs.Looks.{asks_packet}
+use Rattle.schedule_loop.specs.Looks.{asks_packet, loses}
 
 -- it is the same if no packet is looked at
 pub same-unlooked : (sizes : Sizes) (at : LinePlace) → asks_packet at ≡ false → (counts : Counts)
@@ -56,3 +59,49 @@ module _ (sizes : Sizes) (counts : Counts) where
       (is_over (standing.Rounds (rule.Until writes count) left place) counts) (is_before place) (nat_lt 0 left)
   stays-unlooked (standing.Rounds (rule.Mute node) left place) none = absurd (cc)
   stays-unlooked (standing.Mixed left place draws) none = absurd (cc)
+
+-- A line of mixed rounds: which packet its next event concerns is looked at only if it would lose that
+
+abbrev loses_any : Option Event → Bool
+loses_any None = false
+loses_any (Some one) = loses one
+
+-- an event that it doesn't lose is the next one, whatever is counted of its packet
+module _ (told seen : Counts) (unseen : told.alive ≡ false) where
+  kept : (one found : Event) → loses one ≡ false → Some one ≡ Some (spared told found)
+      → Some one ≡ Some (spared seen found)
+  kept one (event.Lose y k) none is =
+      let same : loses one ≡ loses (spared told (event.Lose y k)) = ap (λ (found : Option Event). loses_any found) is in
+      let lost : loses (spared told (event.Lose y k)) ≡ true =
+      ap (λ (alive : Bool). loses (if alive then event.Deliver y k else event.Lose y k)) unseen in
+      absurd (cc)
+  kept one (event.Deliver y k) none is = is
+  kept one (event.Repeat y k) none is = is
+  kept one (event.Run process) none is = is
+  kept one (event.Enter terminal) none is = is
+  kept one (event.Tick node) none is = is
+  kept one (event.Fail processor) none is = is
+  kept one (event.Reload processor) none is = is
+  kept one (event.Drive turn) none is = is
+
+pub kept-mixed : (sizes : Sizes) (at : LinePlace) (counts : Counts) (idle : Bool) (one : Event)
+    → is_mixed at ≡ true → loses one ≡ false
+    → Some one ≡ event_of (next_event sizes at (record counts { alive = false; sender = 0; idle = false }))
+    → Some one ≡ event_of (next_event sizes at (record counts { idle = idle }))
+kept-mixed sizes standing.Ended counts idle one mixes none is = absurd (cc)
+kept-mixed sizes (standing.Event event left) counts idle one mixes none is = absurd (cc)
+kept-mixed sizes (standing.Rounds rule left place) counts idle one mixes none is = absurd (cc)
+kept-mixed sizes (standing.Mixed left place draws) counts idle one mixes none is =
+    by (proposed sizes counts.x counts.y (standing.Mixed left place draws)) is
+  where
+    told : Counts
+    told = record counts { alive = false; sender = 0; idle = false }
+
+    seen : Counts
+    seen = record counts { idle = idle }
+
+    by : (found : Option Move)
+        → Some one ≡ event_of (option_map (decided_move (standing.Mixed left place draws) told) found)
+        → Some one ≡ event_of (option_map (decided_move (standing.Mixed left place draws) seen) found)
+    by None same = absurd (cc)
+    by (Some move) same = kept told seen refl one move.event none same

@@ -1,11 +1,11 @@
-ghost use Rattle.std.specs.Prelude.{◌≡◌, ◌≤◌, ◌<◌, ◌+◌, ◌-◌, ℕ, IfOk, None, Some, false};
+ghost use Rattle.std.specs.Prelude.{◌≡◌, ◌≤◌, ◌<◌, ◌+◌, ◌-◌, ℕ, IfOk, None, Some, false, true};
 ghost use Rattle.std.specs.Option.{IfSome, option_map};
-ghost use Rattle.player.specs.Lines.{begun, event_of, next_event, stands_after};
+ghost use Rattle.player.specs.Lines.{begun, event_of, is_mixed, next_event, stands_after};
 ghost use Rattle.player.specs.declared.standing.Place.TheVariants as place;
 ghost use Rattle.agendas.specs.Agendas.{agenda_of, coming, stopped_by};
 ghost use Rattle.schedule_loop.specs.Drained.{GoesOn, IsFree, scheduled};
 ghost use Rattle.schedule_loop.specs.Ends.{Course};
-ghost use Rattle.schedule_loop.specs.Looks.{asks_packet};
+ghost use Rattle.schedule_loop.specs.Looks.{asks_packet, loses};
 ghost use Rattle.schedule_loop.specs.Plans.{next_seen, planned_seen, upcoming_seen};
 ghost use Rattle.schedule_loop.specs.Playing.{IsPlaying};
 ghost use Rattle.schedule_loop.specs.Rules.{sight_of};
@@ -14,7 +14,7 @@ ghost use Rattle.schedule_loop.specs.Seen.{IsBegun, IsDraining, event_in, player
 use crate::drain::Drain;
 use crate::machine::ScheduleMachine;
 use machine_states::NoMemory;
-use player::{Place, Player, ProcessorStop, Sizes};
+use player::{Place, Player, ProcessorStop, Sizes, spared};
 use schedule::{Counts, Event, Line};
 use std::marker::Model;
 
@@ -308,8 +308,35 @@ impl<'a> Schedule<'a> {
           };
         } }
     {
+        if self.looks && self.player.is_mixed() {
+            return self.next_mixed(machine);
+        }
         let counts = self.counted(machine);
         self.player.next(&counts)
+    }
+
+    /// The same of a line of mixed rounds. A packet is looked at only if the line would lose it.
+    #[inline(always)]
+    fn next_mixed<M: ScheduleMachine>(&mut self, machine: &M) -> Option<Event>
+        requires { is_mixed self.old.agenda.standing ≡ true }
+        ensures event { result ≡ event_of (next_seen self.old.sizes (sight_of M.rules (M.state machine.now))
+            self.old.agenda.standing) }
+        ensures agenda { self.new ≡ record self.old {
+          agenda = record self.old.agenda {
+            standing =
+                stands_after (next_seen self.old.sizes (sight_of M.rules (M.state machine.now))
+                self.old.agenda.standing);
+          };
+        } }
+    {
+        let before = self.player;
+        let counts = machine.tally(false);
+        let event = self.player.next(&counts)?;
+        if loses(event) {
+            let counts = machine.counts(&before, false);
+            return Some(spared(&counts, event));
+        }
+        Some(event)
     }
 
     /// What is counted before the next event of the line. The packet that the event concerns is looked at only where
@@ -350,6 +377,12 @@ impl<'a> Schedule<'a> {
             machine.tally(false)
         }
     }
+}
+
+fn loses(event: Event) -> bool
+    ensures { result ≡ loses event }
+{
+    matches!(event, Event::Lose { .. })
 }
 
 fn asks_packet(line: Line) -> bool
