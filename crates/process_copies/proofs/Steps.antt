@@ -4,18 +4,21 @@ use Rattle.tal_tree.specs.declared.site.Site.{Site}
 use Rattle.process_semantics.specs.declared.point.Point.{Point}
 use Rattle.process_semantics.specs.declared.point.Point.TheVariants as point
 use Rattle.disc_device.specs.Sectors.{Stored}
+use Rattle.disc_device.specs.mirror.specs.declared.state.DriveState.{DriveState}
 use Rattle.world_semantics.specs.declared.which.Which.{Which}
 use Rattle.world_semantics.specs.declared.which.Which.TheVariants.{First, Second}
 use Rattle.world_semantics.specs.Messages.{Sending}
 use Rattle.world_semantics.specs.World.{Down, Pair, copy_of, has_noted, other_of}
-use Rattle.node_copies.specs.Acting.{HasActed, Scene}
+use Rattle.node_copies.specs.Acting.{HasActed, Scene, own_in}
 use Rattle.world_semantics.specs.Records.{Records}
 use Rattle.node_copies.specs.Seen.{CopyAndDepths, step_sendings}
 use Rattle.node_copies.specs.declared.step.StepOutcome.{StepOutcome}
 use Rattle.node_copies.specs.declared.step.StepOutcome.TheVariants.{Impossible}
 use Rattle.process_copies.specs.Acting.{HasStepped, step_by_act}
+use Rattle.process_copies.specs.Lending.{one_of, with_one}
 use Rattle.process_copies.specs.Seen.{Placed, sent_by}
-use Rattle.world_semantics.specs.Running.{Own, Stepped, first_step, free_step, renewing_step, sending_step}
+use Rattle.process_copies.specs.declared.two.TwoCopies.{TwoCopies}
+use Rattle.world_semantics.specs.Running.{Own, Stepped, first_step, free_step, own_of, renewing_step, sending_step}
 use Rattle.world_semantics.specs.Running.{step_at, step_if}
 
 -- One copy, else the other one
@@ -83,50 +86,76 @@ renews-other number k pair marks records point.Ended other = refl
 
 -- Acts
 
-abbrev pub with-first : Placed → Scene → Placed
-with-first before after =
-    record before { pair = record before.pair { first = after.one.copy; sectors = after.sectors } }
+-- a process with these copies
+abbrev pub placed_of : Placed → TwoCopies → Placed
+placed_of process copies =
+    record process { pair = record process.pair { first = copies.first.copy; second = copies.second.copy } }
 
-abbrev pub with-second : Placed → Scene → Placed
-with-second before after =
-    record before { pair = record before.pair { second = after.one.copy; sectors = after.sectors } }
+-- and with this of its device
+abbrev pub with-device : Placed → List Stored → List DriveState → Placed
+with-device process sectors drives =
+    record process { pair = record process.pair { sectors = sectors }; drives = drives }
 
-pub first-acts : (before : Placed) (depths : List ℕ) (records : Records) (own : Option Own) (step : StepOutcome)
-    (after : Scene)
-    → HasActed before.number own step (record
-    { one = record { copy = before.pair.first; depths = depths }; sectors = before.pair.sectors; records = records })
-    after
-    → HasStepped (step_by_act before.number First before.pair records own) step before (with-first before after)
-    records after.records
-first-acts before depths records None step after h =
-    (h.0, (ap (λ (s : Scene). with-first before s) h.1, ap (λ (s : Scene). s.records) h.1))
-first-acts before depths records (Some own) step after h =
-    let rest = h.1 in
-    let more = rest.1 in (
-      h.0,
-      (
-        ap₂ (λ (one : CopyAndDepths) (sectors : List Stored). with-first before
-            (record { one = one; sectors = sectors; records = records })) rest.0 more.0,
-        more.1,
-      ),
-    )
+pub copy-of : (k : Which) (process : Placed) (copies : TwoCopies)
+    → (one_of k copies).copy ≡ copy_of k (placed_of process copies).pair
+copy-of First process copies = refl
+copy-of Second process copies = refl
 
-pub second-acts : (before : Placed) (depths : List ℕ) (records : Records) (own : Option Own) (step : StepOutcome)
-    (after : Scene)
-    → HasActed before.number own step (record
-    { one = record { copy = before.pair.second; depths = depths }; sectors = before.pair.sectors; records = records })
-    after
-    → HasStepped (step_by_act before.number Second before.pair records own) step before (with-second before after)
-    records after.records
-second-acts before depths records None step after h =
-    (h.0, (ap (λ (s : Scene). with-second before s) h.1, ap (λ (s : Scene). s.records) h.1))
-second-acts before depths records (Some own) step after h =
-    let rest = h.1 in
-    let more = rest.1 in (
-      h.0,
-      (
-        ap₂ (λ (one : CopyAndDepths) (sectors : List Stored). with-second before
-            (record { one = one; sectors = sectors; records = records })) rest.0 more.0,
-        more.1,
-      ),
-    )
+pub depths-of : (k : Which) (copies : TwoCopies) (depths : List ℕ) → copies.first.depths ≡ depths
+    → copies.second.depths ≡ depths → (one_of k copies).depths ≡ depths
+depths-of First copies depths one other = one
+depths-of Second copies depths one other = other
+
+module _ (process : Placed) (copies : TwoCopies) (records : Records) where
+  abbrev before : Placed
+  before = placed_of process copies
+
+  abbrev scene : CopyAndDepths → Scene
+  scene one = record { one = one; sectors = process.pair.sectors; records = records }
+
+  by-own : (k : Which) (own : Option Own) (step : StepOutcome) (after : Scene)
+      → HasActed process.number own step (scene (one_of k copies)) after
+      → HasStepped (step_by_act process.number k before.pair records own) step before
+      (with-device (placed_of process (with_one k copies after.one)) after.sectors process.drives) records after.records
+  by-own First None step after h = (
+    h.0,
+    (
+      ap (λ (s : Scene). with-device (placed_of process (with_one First copies s.one)) s.sectors process.drives) h.1,
+      ap (λ (s : Scene). s.records) h.1,
+    ),
+  )
+  by-own Second None step after h = (
+    h.0,
+    (
+      ap (λ (s : Scene). with-device (placed_of process (with_one Second copies s.one)) s.sectors process.drives) h.1,
+      ap (λ (s : Scene). s.records) h.1,
+    ),
+  )
+  by-own First (Some own) step after h = (
+    h.0,
+    (
+      ap₂ (λ (one : CopyAndDepths) (sectors : List Stored). with-device
+          (placed_of process (with_one First copies one)) sectors process.drives) h.1.0 h.1.1.0,
+      h.1.1.1,
+    ),
+  )
+  by-own Second (Some own) step after h = (
+    h.0,
+    (
+      ap₂ (λ (one : CopyAndDepths) (sectors : List Stored). with-device
+          (placed_of process (with_one Second copies one)) sectors process.drives) h.1.0 h.1.1.0,
+      h.1.1.1,
+    ),
+  )
+
+  -- an act of one of its copies is the step of the process
+  pub copy-acts : (k : Which) (stands : Point) (step : StepOutcome) (after : Scene)
+      → HasActed process.number (own_in process.site process.number (scene (one_of k copies)) stands) step
+      (scene (one_of k copies)) after
+      → HasStepped (step_by_act process.number k before.pair records
+      (own_of process.site process.number k before.pair records stands)) step before
+      (with-device (placed_of process (with_one k copies after.one)) after.sectors process.drives) records after.records
+  copy-acts First stands step after h =
+      by-own First (own_of process.site process.number First before.pair records stands) step after h
+  copy-acts Second stands step after h =
+      by-own Second (own_of process.site process.number Second before.pair records stands) step after h

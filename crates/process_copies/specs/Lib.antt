@@ -1,4 +1,5 @@
 pub mod Acting
+pub mod Lending
 pub mod Receiving
 pub mod Reloading
 pub mod Seen

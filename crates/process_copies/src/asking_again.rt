@@ -48,18 +48,15 @@ impl ProcessCopies {
         ensures sound { IfOk result (λ block. IsSound
             (record { table = block; depths = depths_of self.now.site self.now.number })) }
     {
-        match which {
-            Which::First => self.first.kept_table(alloc),
-            Which::Second => self.second.kept_table(alloc),
-        }
+        self.copies.of(which).kept_table(alloc)
     }
 
     /// Whether a copy acts and waits at a checkpoint, its checkpoint sent.
     pub fn awaits_taking(&self) -> bool
         ensures { result ≡ (awaits_taking self.now.pair.first || awaits_taking self.now.pair.second) }
     {
-        awaits_taking_as(self.first.role(), self.first.sent())
-            || awaits_taking_as(self.second.role(), self.second.sent())
+        awaits_taking_as(self.copies.first.role(), self.copies.first.sent())
+            || awaits_taking_as(self.copies.second.role(), self.copies.second.sent())
     }
 
     /// The request that the process of a copy asked last.
@@ -80,29 +77,20 @@ impl ProcessCopies {
     pub(crate) fn asked_file(&self, which: Which) -> u8
         ensures { result ≡ process.asked_file (copy_of which self.now.pair).core.state }
     {
-        match which {
-            Which::First => self.first.asked_file(),
-            Which::Second => self.second.asked_file(),
-        }
+        self.copies.of(which).asked_file()
     }
 
     fn asked_words(&self, which: Which) -> Words
         ensures { result ≡ process.asked_words (copy_of which self.now.pair).core.state }
     {
-        match which {
-            Which::First => self.first.asked_words(),
-            Which::Second => self.second.asked_words(),
-        }
+        self.copies.of(which).asked_words()
     }
 
     /// The number of the next request on a file, at a copy.
     pub(crate) fn next_on(&self, which: Which, file: u8) -> u32
         ensures { result ≡ next_on (copy_of which self.now.pair).core file }
     {
-        match which {
-            Which::First => self.first.next_on(file),
-            Which::Second => self.second.next_on(file),
-        }
+        self.copies.of(which).next_on(file)
     }
 
     /// Where a file of the process stands.

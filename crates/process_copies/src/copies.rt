@@ -4,12 +4,13 @@ ghost use Rattle.disc_device.specs.mirror.specs.States.{standing};
 ghost use Rattle.node_copies.specs.Seen.{drives_on, sectors_on};
 ghost use Rattle.process_semantics.specs.Process.{point};
 ghost use Rattle.plain_semantics.specs.Openers.{openers_of};
-ghost use Rattle.world_semantics.specs.World.{copy_of, is_acting, is_pair_of, is_watching};
+ghost use Rattle.world_semantics.specs.World.{copy_of, is_acting, is_pair_of, is_watching, other_of};
 ghost use Rattle.node_copies.specs.sendings.specs.letters.specs.Routes.{other_end};
 ghost use Rattle.node_copies.specs.computed_changes.specs.Changed.{one_before};
 ghost use Rattle.node_copies.specs.computed_changes.specs.Handed.{copy_in};
 
 use crate::sent::SentCheckpoints;
+use crate::two::TwoCopies;
 use disc_device::{Disc, DriveState, Stored};
 use gd_words::List;
 use ghost_logs::GhostLog;
@@ -29,8 +30,7 @@ pub struct ProcessCopies {
     pub(crate) number: u8,
     pub(crate) openers: List<OpenerSpec>,
     pub(crate) files: List<Option<Address>>,
-    pub(crate) first: NodeCopy,
-    pub(crate) second: NodeCopy,
+    pub(crate) copies: TwoCopies,
     pub(crate) led: Which,
     pub(crate) base: u64,
     pub(crate) checkpoints: SentCheckpoints,
@@ -55,8 +55,8 @@ impl Model for ProcessCopies {
       site = process.site.value;
       number = process.number;
       pair = record {
-        first = process.first.copy;
-        second = process.second.copy;
+        first = process.copies.first.copy;
+        second = process.copies.second.copy;
         base = process.base;
         checkpoints = process.checkpoints;
         takens = process.takens;
@@ -68,8 +68,8 @@ impl Model for ProcessCopies {
 
     ghost invariant = { λ process. (process.openers ≡ openers_of process.site.value process.number)
         × (process.files ≡ openers_on process.site.value process.number)
-        × (process.first.depths ≡ depths_of process.site.value process.number)
-        × (process.second.depths ≡ depths_of process.site.value process.number) };
+        × (process.copies.first.depths ≡ depths_of process.site.value process.number)
+        × (process.copies.second.depths ≡ depths_of process.site.value process.number) };
 }
 
 impl ProcessCopies {
@@ -90,10 +90,7 @@ impl ProcessCopies {
     pub fn copy(&self, which: Which) -> &NodeCopy
         ensures { result.now.copy ≡ copy_of which self.now.pair }
     {
-        match which {
-            Which::First => &self.first,
-            Which::Second => &self.second,
-        }
+        self.copies.of(which)
     }
 
     /// The copy that leads.
@@ -107,9 +104,9 @@ impl ProcessCopies {
     pub fn is_pair(&self) -> bool
         ensures { result ≡ is_pair_of self.now.pair.first.role self.now.pair.second.role }
     {
-        match self.first.role() {
-            Role::Acting => is_watching(self.second.role()),
-            Role::Watching => is_acting(self.second.role()),
+        match self.copies.first.role() {
+            Role::Acting => is_watching(self.copies.second.role()),
+            Role::Watching => is_acting(self.copies.second.role()),
             Role::Blank | Role::Gone => false,
         }
     }
@@ -162,39 +159,30 @@ impl ProcessCopies {
     pub fn processor(&self, which: Which) -> u8
         ensures { result ≡ (copy_of which self.now.pair).processor }
     {
-        match which {
-            Which::First => self.first.processor(),
-            Which::Second => self.second.processor(),
-        }
+        self.copies.of(which).processor()
     }
 
     pub fn role(&self, which: Which) -> Role
         ensures { result ≡ (copy_of which self.now.pair).role }
     {
-        match which {
-            Which::First => self.first.role(),
-            Which::Second => self.second.role(),
-        }
+        self.copies.of(which).role()
     }
 
     /// Where a copy stands.
     pub fn point(&self, which: Which) -> Point
         ensures { result ≡ point (copy_of which self.now.pair).core.state }
     {
-        match which {
-            Which::First => self.first.point(),
-            Which::Second => self.second.point(),
-        }
+        self.copies.of(which).point()
     }
 
     /// Which copy is in a processor.
     pub fn copy_in(&self, node: u8) -> Option<Which>
         ensures { result ≡ copy_in node self.now.pair }
     {
-        if self.first.processor() == node {
+        if self.copies.first.processor() == node {
             return Some(Which::First);
         }
-        if self.second.processor() == node {
+        if self.copies.second.processor() == node {
             return Some(Which::Second);
         }
         None
@@ -204,11 +192,21 @@ impl ProcessCopies {
     pub fn other_end(&self, node: u8) -> u8
         ensures { result ≡ other_end node self.now.pair }
     {
-        if self.first.processor() == node {
-            self.second.processor()
+        if self.copies.first.processor() == node {
+            self.copies.second.processor()
         } else {
-            self.first.processor()
+            self.copies.first.processor()
         }
+    }
+}
+
+/// The other copy.
+pub(crate) fn other_of(which: Which) -> Which
+    ensures { result ≡ other_of which }
+{
+    match which {
+        Which::First => Which::Second,
+        Which::Second => Which::First,
     }
 }
 

@@ -25,7 +25,7 @@ ghost use Rattle.process_copies.specs.Receiving.{Settles, core_by, core_changed_
 ghost use Rattle.process_copies.specs.Receiving.{pair_covering, placed_with, taken_by_change};
 ghost use Rattle.process_copies.specs.Seen.{placed_after, records_after, sent_by};
 
-use crate::copies::ProcessCopies;
+use crate::copies::{ProcessCopies, other_of};
 use gd_words::{NoMemory, Reply, Request};
 use node_copies::{Arrival, ChangeMessage, Message, Records, Sending, StepOutcome};
 use process_semantics::Point;
@@ -123,20 +123,14 @@ impl ProcessCopies {
         ensures again { sent_again result ≡ repeated (copy_of which self.old.pair).core.receive request }
         ensures process { self.new ≡ placed_with which (after_request (copy_of which self.old.pair) request) self.old }
     {
-        match which {
-            Which::First => self.first.arrive(request),
-            Which::Second => self.second.arrive(request),
-        }
+        self.copies.of_mut(which).arrive(request)
     }
 
     fn arrive_watching(&mut self, which: Which, request: Request)
         requires { request.opener < length (openers_of self.old.site self.old.number) }
         ensures { self.new ≡ placed_with which (after_early_request (copy_of which self.old.pair) request) self.old }
     {
-        match which {
-            Which::First => self.first.arrive_watching(request),
-            Which::Second => self.second.arrive_watching(request),
-        }
+        self.copies.of_mut(which).arrive_watching(request)
     }
 
     fn reply_to(
@@ -221,10 +215,9 @@ impl ProcessCopies {
         ensures number { self.new.number ≡ self.old.number }
     {
         let number = self.number;
-        match which {
-            Which::First => self.first.get_reply(number, &reply.words, records)?,
-            Which::Second => self.second.get_reply(number, &reply.words, records)?,
-        }
+        self.copies
+            .of_mut(which)
+            .get_reply(number, &reply.words, records)?;
         Ok(())
     }
 
@@ -255,10 +248,7 @@ impl ProcessCopies {
             ≡ placed_with which (copy_applying (copy_of which self.old.pair) message.now
             (core_by which self.old message.now)) self.old }
     {
-        match which {
-            Which::First => self.first.apply(message),
-            Which::Second => self.second.apply(message),
-        }
+        self.copies.of_mut(which).apply(message)
     }
 
     /// A copy applied a checkpoint, and says that it was taken.
@@ -301,10 +291,7 @@ impl ProcessCopies {
         ensures number { self.new.number ≡ self.old.number }
     {
         let number = self.number;
-        let base = match which {
-            Which::First => self.second.cover(number, records)?,
-            Which::Second => self.first.cover(number, records)?,
-        };
+        let base = self.copies.of_mut(other_of(which)).cover(number, records)?;
         Ok(base)
     }
 
@@ -362,10 +349,7 @@ impl ProcessCopies {
             ≡ placed_with which (copy_changing (copy_of which self.old.pair) change.now
             (core_changed_by which self.old change.now)) self.old }
     {
-        match which {
-            Which::First => self.first.apply_change(change),
-            Which::Second => self.second.apply_change(change),
-        }
+        self.copies.of_mut(which).apply_change(change)
     }
 
     fn taken_to(&mut self, which: Which, taken: TakenMessage) -> StepOutcome
@@ -400,19 +384,13 @@ impl ProcessCopies {
         ensures { result ≡ is_of_last (copy_of which self.now.pair).sent (copy_of which self.now.pair).era
             (copy_of which self.now.pair).number taken }
     {
-        match which {
-            Which::First => self.first.is_of_last(taken),
-            Which::Second => self.second.is_of_last(taken),
-        }
+        self.copies.of(which).is_of_last(taken)
     }
 
     fn acked(&mut self, which: Which)
         ensures { self.new ≡ placed_with which (after_told (copy_of which self.old.pair)) self.old }
     {
-        match which {
-            Which::First => self.first.acked(),
-            Which::Second => self.second.acked(),
-        }
+        self.copies.of_mut(which).acked()
     }
 }
 

@@ -8,7 +8,7 @@ ghost use Rattle.node_copies.specs.number_ranges.specs.HasRoom.{CopyHasRoom};
 ghost use Rattle.process_copies.specs.Receiving.{placed_with};
 ghost use Rattle.world_semantics.specs.Shares.{let_go};
 
-use crate::copies::{ProcessCopies, is_watching};
+use crate::copies::{ProcessCopies, is_watching, other_of};
 use gd_words::{List, NoMemory};
 use node_copies::{Records, Sending};
 use world_semantics::Which;
@@ -63,10 +63,10 @@ impl ProcessCopies {
     fn end_renewals(&mut self, node: u8, processor: u8)
         ensures { self.new ≡ record self.old { pair = renewals_ended node processor self.old.pair } }
     {
-        let first = self.first.processor();
-        let second = self.second.processor();
-        self.first.end_renewal(node, processor, second);
-        self.second.end_renewal(node, processor, first);
+        let first = self.copies.first.processor();
+        let second = self.copies.second.processor();
+        self.copies.first.end_renewal(node, processor, second);
+        self.copies.second.end_renewal(node, processor, first);
     }
 
     /// Which copy takes over where a node marks a processor.
@@ -85,18 +85,9 @@ impl ProcessCopies {
     fn takes_over(&self, node: u8, processor: u8, which: Which) -> bool
         ensures { result ≡ takes_over node processor which self.now.pair }
     {
-        match which {
-            Which::First => {
-                is_watching(self.first.role())
-                    && self.first.processor() == node
-                    && self.second.processor() == processor
-            }
-            Which::Second => {
-                is_watching(self.second.role())
-                    && self.second.processor() == node
-                    && self.first.processor() == processor
-            }
-        }
+        is_watching(self.role(which))
+            && self.processor(which) == node
+            && self.processor(other_of(which)) == processor
     }
 
     /// A copy that watches takes over.
@@ -109,16 +100,8 @@ impl ProcessCopies {
         ensures number { self.new.number ≡ self.old.number }
     {
         let base = self.base;
-        match which {
-            Which::First => {
-                self.first.take_over(base, told)?;
-                self.second.let_go();
-            }
-            Which::Second => {
-                self.second.take_over(base, told)?;
-                self.first.let_go();
-            }
-        }
+        self.copies.of_mut(which).take_over(base, told)?;
+        self.copies.of_mut(other_of(which)).let_go();
         Ok(())
     }
 
@@ -126,8 +109,8 @@ impl ProcessCopies {
     pub fn stop(&mut self, processor: u8)
         ensures { self.new ≡ record self.old { pair = stopped_pair processor self.old.pair } }
     {
-        self.first.stop(processor);
-        self.second.stop(processor);
+        self.copies.first.stop(processor);
+        self.copies.second.stop(processor);
     }
 
     /// The run is closed: what its copies still hold is kept.
@@ -138,8 +121,8 @@ impl ProcessCopies {
         ensures site { self.new.site ≡ self.old.site }
         ensures number { self.new.number ≡ self.old.number }
     {
-        self.first.close(records)?;
-        self.second.close(records)?;
+        self.copies.first.close(records)?;
+        self.copies.second.close(records)?;
         Ok(())
     }
 }

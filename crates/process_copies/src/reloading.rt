@@ -31,8 +31,8 @@ impl ProcessCopies {
         requires room { PairHasRoom self.now.pair }
         ensures { IfOk result (λ blanks. blanks ≡ blanks_of processor self.now) }
     {
-        let first = self.first.processor() == processor;
-        let second = self.second.processor() == processor;
+        let first = self.copies.first.processor() == processor;
+        let second = self.copies.second.processor() == processor;
         let blanks = self.blanks_by(alloc, site, first, second)?;
         Ok(blanks)
     }
@@ -57,26 +57,26 @@ impl ProcessCopies {
                 second: None,
             }),
             (true, false) => {
-                let era = self.second.era();
-                let first = self.blank_after(alloc, site, self.first.processor(), era)?;
+                let era = self.copies.second.era();
+                let first = self.blank_after(alloc, site, self.copies.first.processor(), era)?;
                 Ok(BlankCopies {
                     first: Some(first),
                     second: None,
                 })
             }
             (false, true) => {
-                let era = self.first.era();
-                let second = self.blank_after(alloc, site, self.second.processor(), era)?;
+                let era = self.copies.first.era();
+                let second = self.blank_after(alloc, site, self.copies.second.processor(), era)?;
                 Ok(BlankCopies {
                     first: None,
                     second: Some(second),
                 })
             }
             (true, true) => {
-                let era = self.first.era();
-                let first = self.blank_after(alloc, site, self.first.processor(), era)?;
-                let era = self.second.era();
-                let second = self.blank_after(alloc, site, self.second.processor(), era)?;
+                let era = self.copies.first.era();
+                let first = self.blank_after(alloc, site, self.copies.first.processor(), era)?;
+                let era = self.copies.second.era();
+                let second = self.blank_after(alloc, site, self.copies.second.processor(), era)?;
                 Ok(BlankCopies {
                     first: Some(first),
                     second: Some(second),
@@ -126,13 +126,13 @@ impl ProcessCopies {
         requires room { PairHasRoom self.old.pair }
         ensures { self.new ≡ record self.old { pair = pair_with_blanks (Some first) second self.old.pair } }
     {
-        self.first = first;
+        self.copies.first = first;
         match second {
             None => {
-                self.second.renew();
+                self.copies.second.renew();
                 self.led = Which::Second;
             }
-            Some(second) => self.second = second,
+            Some(second) => self.copies.second = second,
         }
     }
 
@@ -143,8 +143,8 @@ impl ProcessCopies {
         ensures { self.new ≡ record self.old { pair = pair_with_blanks None second self.old.pair } }
     {
         if let Some(second) = second {
-            self.first.renew();
-            self.second = second;
+            self.copies.first.renew();
+            self.copies.second = second;
             self.led = Which::First;
         }
     }

@@ -105,11 +105,7 @@ impl ProcessCopies {
         match role {
             Role::Acting => {
                 let stands = self.point(which);
-                // a call for each, so that a copy which doesn't act costs no more than a look at its role
-                let step = match which {
-                    Which::First => self.run_at(alloc, Which::First, marks, records, stands)?,
-                    Which::Second => self.run_at(alloc, Which::Second, marks, records, stands)?,
-                };
+                let step = self.run_at(alloc, which, marks, records, stands)?;
                 Ok(step)
             }
             Role::Watching | Role::Blank | Role::Gone => Ok(StepOutcome::Impossible),
@@ -195,10 +191,7 @@ impl ProcessCopies {
         if !free {
             return StepOutcome::Impossible;
         }
-        match which {
-            Which::First => self.first.end(),
-            Which::Second => self.second.end(),
-        }
+        self.copies.of_mut(which).end();
         StepOutcome::Quiet
     }
 
@@ -249,53 +242,10 @@ impl ProcessCopies {
         ensures site { self.new.site ≡ self.old.site }
         ensures number { self.new.number ≡ self.old.number }
     {
-        match which {
-            Which::First => {
-                let step = self.act_first(records, stands)?;
-                Ok(step)
-            }
-            Which::Second => {
-                let step = self.act_second(records, stands)?;
-                Ok(step)
-            }
-        }
-    }
-
-    fn act_first(&mut self, records: &mut Records, stands: Point) -> Result<StepOutcome, NoMemory>
-        requires point { point self.old.pair.first.core.state ≡ stands }
-        requires room { CopyHasRoom self.old.pair.first }
-        requires shown { HasNext (length records.old.shown) }
-        ensures stepped { IfOk result (λ step. HasStepped
-            (step_by_act self.old.number Which.First self.old.pair records.old
-            (own_of self.old.site self.old.number Which.First self.old.pair records.old stands)) step self.old self.new
-            records.old records.new) }
-        ensures site { self.new.site ≡ self.old.site }
-        ensures number { self.new.number ≡ self.old.number }
-    {
         let number = self.number;
         let files = self.files.as_slice();
-        let step = self
-            .first
-            .act(number, files, &mut self.device, records, stands)?;
-        Ok(step)
-    }
-
-    fn act_second(&mut self, records: &mut Records, stands: Point) -> Result<StepOutcome, NoMemory>
-        requires point { point self.old.pair.second.core.state ≡ stands }
-        requires room { CopyHasRoom self.old.pair.second }
-        requires shown { HasNext (length records.old.shown) }
-        ensures stepped { IfOk result (λ step. HasStepped
-            (step_by_act self.old.number Which.Second self.old.pair records.old
-            (own_of self.old.site self.old.number Which.Second self.old.pair records.old stands)) step self.old
-            self.new records.old records.new) }
-        ensures site { self.new.site ≡ self.old.site }
-        ensures number { self.new.number ≡ self.old.number }
-    {
-        let number = self.number;
-        let files = self.files.as_slice();
-        let step = self
-            .second
-            .act(number, files, &mut self.device, records, stands)?;
+        let copy = self.copies.of_mut(which);
+        let step = copy.act(number, files, &mut self.device, records, stands)?;
         Ok(step)
     }
 
@@ -337,10 +287,7 @@ impl ProcessCopies {
         ensures number { self.new.number ≡ self.old.number }
     {
         let number = self.number;
-        match which {
-            Which::First => self.first.pass(number, records)?,
-            Which::Second => self.second.pass(number, records)?,
-        }
+        self.copies.of_mut(which).pass(number, records)?;
         Ok(StepOutcome::Quiet)
     }
 
@@ -357,10 +304,7 @@ impl ProcessCopies {
     {
         let number = self.number;
         let node = self.processor(which);
-        let message = match which {
-            Which::First => self.first.send(alloc, number)?,
-            Which::Second => self.second.send(alloc, number)?,
-        };
+        let message = self.copies.of_mut(which).send(alloc, number)?;
         let message = Shared::new(alloc, message)?;
         let sent = message.share()?;
         self.checkpoints.add(sent)?;

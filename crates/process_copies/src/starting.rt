@@ -14,6 +14,7 @@ ghost use Rattle.gd_words.specs.declared.limits.TheConstants.{MOST_SECTORS};
 
 use crate::copies::ProcessCopies;
 use crate::sent::SentCheckpoints;
+use crate::two::TwoCopies;
 use disc_device::Disc;
 use gd_words::{List, NoMemory};
 use ghost_logs::GhostLog;
@@ -68,8 +69,7 @@ fn start_in(
         number,
         openers,
         files,
-        first,
-        second,
+        copies: TwoCopies { first, second },
         led: Which::First,
         base: 0,
         checkpoints: SentCheckpoints::new(alloc),

@@ -5,7 +5,7 @@ ghost use Rattle.world_semantics.specs.Running.{Stepped, free_step, mark_step, o
 ghost use Rattle.world_semantics.specs.Running.{step_if, step_of};
 ghost use Rattle.world_semantics.specs.Running.{step_of_copy};
 
-use crate::copies::ProcessCopies;
+use crate::copies::{ProcessCopies, other_of};
 use node_copies::Downs;
 use process_semantics::Point;
 use world_semantics::{Role, Which};
@@ -15,20 +15,14 @@ impl ProcessCopies {
     pub(crate) fn sent(&self, which: Which) -> bool
         ensures { result ≡ (copy_of which self.now.pair).sent }
     {
-        match which {
-            Which::First => self.first.sent(),
-            Which::Second => self.second.sent(),
-        }
+        self.copies.of(which).sent()
     }
 
     /// Whether a copy has to send everything that it has.
     pub(crate) fn renewal(&self, which: Which) -> bool
         ensures { result ≡ (copy_of which self.now.pair).renewal }
     {
-        match which {
-            Which::First => self.first.renewal(),
-            Which::Second => self.second.renewal(),
-        }
+        self.copies.of(which).renewal()
     }
 
     /// Whether a copy's node has marked the other copy's processor.
@@ -36,26 +30,14 @@ impl ProcessCopies {
         ensures { result ≡ has_noted marks.now (copy_of which self.now.pair).processor
             (copy_of (other_of which) self.now.pair).processor }
     {
-        match which {
-            Which::First => marks.has(self.first.processor(), self.second.processor()),
-            Which::Second => marks.has(self.second.processor(), self.first.processor()),
-        }
+        marks.has(self.processor(which), self.processor(other_of(which)))
     }
 
     /// Whether a copy may go on after its checkpoint.
     pub(crate) fn may_pass(&self, which: Which, marks: &Downs) -> bool
         ensures { result ≡ may_pass marks.now which self.now.pair }
     {
-        match which {
-            Which::First => {
-                self.first.acknowledged()
-                    || marks.has(self.first.processor(), self.second.processor())
-            }
-            Which::Second => {
-                self.second.acknowledged()
-                    || marks.has(self.second.processor(), self.first.processor())
-            }
-        }
+        self.copies.of(which).acknowledged() || self.has_noted_other(which, marks)
     }
 }
 
@@ -149,10 +131,7 @@ impl ProcessCopies {
         ensures { (records : happened.Records) → result
             ≡ is_some (own_of self.now.site self.now.number which self.now.pair records stands) }
     {
-        match which {
-            Which::First => self.first.can_act(stands),
-            Which::Second => self.second.can_act(stands),
-        }
+        self.copies.of(which).can_act(stands)
     }
 }
 
