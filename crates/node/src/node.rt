@@ -1,5 +1,5 @@
-ghost use Rattle.std.specs.Prelude.{◌≡◌, ◌≤◌, ◌<◌, ◌+◌, ◌==◌, ◌&&◌, ℕ, true, false, not, length, map, replicate, slice_get};
-ghost use Rattle.std.specs.Prelude.{slice_set, IfSome, IfNone, IfOk, OnOk, Some};
+ghost use Rattle.std.specs.Prelude.{◌≡◌, ◌≤◌, ◌<◌, ◌+◌, ◌==◌, ◌&&◌, ℕ, true, not, length, map, slice_get};
+ghost use Rattle.std.specs.Prelude.{IfSome, IfNone, IfOk, OnOk, Some};
 ghost use Rattle.std.specs.Bool.{OnFalse};
 ghost use Rattle.std.specs.Option.{option_copied};
 ghost use Rattle.alive_regroup.specs.Watching as watching;

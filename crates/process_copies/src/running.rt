@@ -38,24 +38,6 @@ impl ProcessCopies {
         ensures site { self.new.site ≡ self.old.site }
         ensures number { self.new.number ≡ self.old.number }
     {
-        let step = self.run_either(alloc, marks, records)?;
-        Ok(step)
-    }
-
-    fn run_either(
-        &mut self,
-        alloc: Global,
-        marks: &Downs,
-        records: &mut Records,
-    ) -> Result<StepOutcome, NoMemory>
-        requires room { PairHasRoom self.old.pair }
-        requires shown { HasNext (length records.old.shown) }
-        ensures stepped { IfOk result (λ step. HasStepped
-            (step_of self.old.site self.old.number self.old.pair marks.now records.old)
-            step self.old self.new records.old records.new) }
-        ensures site { self.new.site ≡ self.old.site }
-        ensures number { self.new.number ≡ self.old.number }
-    {
         match self.run_copy(alloc, Which::First, marks, records)? {
             StepOutcome::Impossible => {
                 let step = self.run_copy(alloc, Which::Second, marks, records)?;
@@ -81,28 +63,7 @@ impl ProcessCopies {
         ensures site { self.new.site ≡ self.old.site }
         ensures number { self.new.number ≡ self.old.number }
     {
-        let role = self.role(which);
-        let step = self.run_as(alloc, which, marks, records, role)?;
-        Ok(step)
-    }
-
-    fn run_as(
-        &mut self,
-        alloc: Global,
-        which: Which,
-        marks: &Downs,
-        records: &mut Records,
-        role: Role,
-    ) -> Result<StepOutcome, NoMemory>
-        requires room { CopyHasRoom (copy_of which self.old.pair) }
-        requires shown { HasNext (length records.old.shown) }
-        ensures stepped { IfOk result (λ step. HasStepped
-            (step_as self.old.site self.old.number which self.old.pair marks.now records.old role)
-            step self.old self.new records.old records.new) }
-        ensures site { self.new.site ≡ self.old.site }
-        ensures number { self.new.number ≡ self.old.number }
-    {
-        match role {
+        match self.role(which) {
             Role::Acting => {
                 let stands = self.point(which);
                 let step = self.run_at(alloc, which, marks, records, stands)?;
@@ -133,7 +94,7 @@ impl ProcessCopies {
             Point::AtCheckpoint => {
                 let free = self.may_pass(which, marks);
                 let sent = self.sent(which);
-                let step = self.run_mark(alloc, which, records, free, sent)?;
+                let step = self.run_at_checkpoint(alloc, which, records, free, sent)?;
                 Ok(step)
             }
             _ => {
@@ -250,7 +211,7 @@ impl ProcessCopies {
     }
 
     /// At a checkpoint, which a copy may pass or not, and whose checkpoint it has sent or not.
-    fn run_mark(
+    fn run_at_checkpoint(
         &mut self,
         alloc: Global,
         which: Which,

@@ -57,15 +57,7 @@ impl ProcessCopies {
         ensures { (records : happened.Records) → result
             ≡ is_some (step_of_copy self.now.site self.now.number self.now.pair marks.now records which) }
     {
-        let role = self.role(which);
-        self.can_run_as(which, marks, role)
-    }
-
-    fn can_run_as(&self, which: Which, marks: &Downs, role: Role) -> bool
-        ensures { (records : happened.Records) → result
-            ≡ is_some (step_as self.now.site self.now.number which self.now.pair marks.now records role) }
-    {
-        match role {
+        match self.role(which) {
             Role::Acting => {
                 let stands = self.point(which);
                 self.can_run_at(which, marks, stands)

@@ -30,7 +30,8 @@ returns-clause-stepped c =
     λ one. record { one = one; sectors = before.pair.sectors; records = c.args.records.now } in
     let after : Scene =
     record { one = c.act.new.self; sectors = sectors_on c.act.new.device; records = c.act.new.records } in
-    let now : List DriveState → Placed = with-device (placed_of before (with_one k inside.copies c.act.new.self)) (sectors_on c.act.new.device) in
+    let now : List DriveState → Placed =
+    with-device (placed_of before (with_one k inside.copies c.act.new.self)) (sectors_on c.act.new.device) in
     let acted = subst (λ (one : CopyAndDepths). HasActed before.number
     (own_in before.site before.number (scene one) c.args.stands) c.in_ok-step.step (scene one) after)
     c.of_mut-copy.ensures.value
