@@ -1,6 +1,7 @@
-ghost use Rattle.std.specs.Prelude.{◌≡◌, true, false, Some, None};
-ghost use Rattle.alive_regroup.specs.Watching.{new_watch, told_by_tick, changed_at, neighbour_after_alive};
-ghost use Rattle.alive_regroup.specs.Watching.{after_up, is_held, is_marked, neighbour_after_down};
+ghost use Rattle.std.specs.Prelude.{◌≡◌, ℕ, true, false, Some, None};
+ghost use Rattle.alive_regroup.specs.Watching.{Watching, after_tick, changed_at, misses_none, new_watch, told_by_tick};
+ghost use Rattle.alive_regroup.specs.Watching.{after_up, is_held, is_marked, neighbour_after_alive};
+ghost use Rattle.alive_regroup.specs.Watching.{neighbour_after_down};
 ghost use Rattle.node_guards.specs.Watches.{after_ticks, heard_and_marked, only, watch_of_report};
 
 /// A processor of which nothing is heard is silent at the second check that misses it, the fourth tick, and the silent
@@ -78,4 +79,10 @@ pub fn a_reload_is_reported()
     ensures marked { is_marked 2 (after_up 2 (changed_at 2 neighbour_after_down (new_watch 0 3))) ≡ false }
     ensures held { is_held 2 (after_up 2 (watch_of_report 1 (only false false true) 4 0)) ≡ false }
     ensures forgotten { is_held 2 (after_ticks 4 (after_up 2 (watch_of_report 1 (only false false true) 4 0))) ≡ false }
+{}
+
+/// If the last check missed no processor, no hold line is pulled after the next tick.
+pub fn no_line_is_pulled_if_none_was_missed()
+    ensures { (watch : Watching) → misses_none watch ≡ true → (processor : ℕ)
+        → is_held processor (after_tick watch) ≡ false }
 {}
