@@ -25,12 +25,12 @@ use Rattle.advice.specs.Due.{is_checkpoint, IsItemDue, IsFileDue}
 abbrev pub statements_of : Program → List Statement
 statements_of program = flat_map (λ procedure. all_of procedure.body) program.procedures
 
-abbrev pub marks : Statement → Bool
-marks statement = is_checkpoint (out-What statement.what)
+abbrev pub is_a_checkpoint : Statement → Bool
+is_a_checkpoint statement = is_checkpoint (out-What statement.what)
 
 -- those of them that are CHECKPOINTs
 abbrev pub checkpoints_of : Program → List Statement
-checkpoints_of program = filter marks (statements_of program)
+checkpoints_of program = filter is_a_checkpoint (statements_of program)
 
 abbrev pub items_among : List Advised → ℕ → List ℕ
 items_among [] number = []

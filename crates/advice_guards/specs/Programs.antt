@@ -60,8 +60,8 @@ sets item = Assign (spot.Simple item) one
 abbrev pub sets_element : ℕ → What
 sets_element place = Assign (spot.Element 2 (Number (pos place))) one
 
-abbrev pub marks : What
-marks = Checkpoint [] []
+abbrev pub checkpoints : What
+checkpoints = Checkpoint [] []
 
 abbrev pub asks : What
 asks = WriteRead 1 6 one one (variable.Simple 5)
@@ -74,31 +74,32 @@ answers = Reply 6 one
 
 -- x := 1; CHECKPOINT; CHECKPOINT; y := 1; CHECKPOINT
 abbrev pub two_lists : Program
-two_lists = main_alone (at 1 (sets 0) ∷ at 2 marks ∷ at 3 marks ∷ at 4 (sets 1) ∷ at 5 marks ∷ [])
+two_lists = main_alone (at 1 (sets 0) ∷ at 2 checkpoints ∷ at 3 checkpoints ∷ at 4 (sets 1) ∷ at 5 checkpoints ∷ [])
 
 -- x := 1; IF .. THEN BEGIN STOP; y := 1 END; CHECKPOINT; STOP; CHECKPOINT
 abbrev pub stopping : List Statement
 stopping = at 3 Stop ∷ at 4 (sets 1) ∷ []
 
 abbrev pub unreached : Program
-unreached = main_alone (at 1 (sets 0) ∷ at 2 (If' always (places stopping) (rows stopping) [] (rows [])) ∷ at 5 marks
-    ∷ at 6 Stop ∷ at 7 marks ∷ [])
+unreached = main_alone (at 1 (sets 0) ∷ at 2 (If' always (places stopping) (rows stopping) [] (rows [])) ∷ at 5
+    checkpoints
+    ∷ at 6 Stop ∷ at 7 checkpoints ∷ [])
 
 -- F is y := 1, and MAIN is x := 1; F; CHECKPOINT
 abbrev pub calling : Program
-calling = with_called (at 1 (sets 1) ∷ []) (at 2 (sets 0) ∷ at 3 (Call 0 []) ∷ at 4 marks ∷ [])
+calling = with_called (at 1 (sets 1) ∷ []) (at 2 (sets 0) ∷ at 3 (Call 0 []) ∷ at 4 checkpoints ∷ [])
 
 -- F is CHECKPOINT, and MAIN is x := F; CHECKPOINT
 abbrev pub targeting : Program
-targeting = with_called (at 1 marks ∷ []) (at 2 (AssignCall (spot.Simple 0) 0 []) ∷ at 3 marks ∷ [])
+targeting = with_called (at 1 checkpoints ∷ []) (at 2 (AssignCall (spot.Simple 0) 0 []) ∷ at 3 checkpoints ∷ [])
 
 -- F is CHECKPOINT, and MAIN is x := 1; F; y := 1; F
 abbrev pub shared : Program
-shared = with_called (at 1 marks ∷ []) (at 2 (sets 0) ∷ at 3 (Call 0 []) ∷ at 4 (sets 1) ∷ at 5 (Call 0 []) ∷ [])
+shared = with_called (at 1 checkpoints ∷ []) (at 2 (sets 0) ∷ at 3 (Call 0 []) ∷ at 4 (sets 1) ∷ at 5 (Call 0 []) ∷ [])
 
 -- a[0] := 1; a[1] := 1; CHECKPOINT
 abbrev pub elements : Program
-elements = main_alone (at 1 (sets_element 0) ∷ at 2 (sets_element 1) ∷ at 3 marks ∷ [])
+elements = main_alone (at 1 (sets_element 0) ∷ at 2 (sets_element 1) ∷ at 3 checkpoints ∷ [])
 
 -- IF .. THEN x := 1 ELSE y := 1; CHECKPOINT
 abbrev pub first_branch : List Statement
@@ -109,29 +110,30 @@ second_branch = at 3 (sets 1) ∷ []
 
 abbrev pub branching : Program
 branching = main_alone (at 1 (If' always (places first_branch) (rows first_branch) (places second_branch)
-    (rows second_branch)) ∷ at 4 marks ∷ [])
+    (rows second_branch)) ∷ at 4 checkpoints ∷ [])
 
 -- WHILE .. DO BEGIN CHECKPOINT; x := 1 END
 abbrev pub round : List Statement
-round = at 2 marks ∷ at 3 (sets 0) ∷ []
+round = at 2 checkpoints ∷ at 3 (sets 0) ∷ []
 
 abbrev pub again : Program
 again = main_alone (at 1 (While' always (places round) (rows round)) ∷ [])
 
 -- x := 1; DO BEGIN CHECKPOINT; y := 1 END UNTIL ..; CHECKPOINT
 abbrev pub first_round : List Statement
-first_round = at 2 marks ∷ at 3 (sets 1) ∷ []
+first_round = at 2 checkpoints ∷ at 3 (sets 1) ∷ []
 
 abbrev pub until : Program
-until = main_alone (at 1 (sets 0) ∷ at 4 (DoUntil' (places first_round) (rows first_round) always) ∷ at 5 marks ∷ [])
+until = main_alone (at 1 (sets 0) ∷ at 4 (DoUntil' (places first_round) (rows first_round) always) ∷ at 5 checkpoints
+    ∷ [])
 
 -- WRITEREAD; CHECKPOINT; WRITEREAD
 abbrev pub asking_once : Program
-asking_once = main_alone (at 1 asks ∷ at 2 marks ∷ at 3 asks ∷ [])
+asking_once = main_alone (at 1 asks ∷ at 2 checkpoints ∷ at 3 asks ∷ [])
 
 -- WRITEREAD; WRITEREAD; CHECKPOINT
 abbrev pub asking_twice : Program
-asking_twice = main_alone (at 1 asks ∷ at 2 asks ∷ at 3 marks ∷ [])
+asking_twice = main_alone (at 1 asks ∷ at 2 asks ∷ at 3 checkpoints ∷ [])
 
 -- four WRITEREADs, and five
 abbrev pub asking_four : Program
@@ -146,7 +148,7 @@ hasty = main_alone (at 1 takes ∷ at 2 answers ∷ [])
 
 -- a server's turn: READUPDATE; x := 1; CHECKPOINT; WRITEREAD; REPLY
 abbrev pub turn : List Statement
-turn = at 2 takes ∷ at 3 (sets 0) ∷ at 4 marks ∷ at 5 asks ∷ at 6 answers ∷ []
+turn = at 2 takes ∷ at 3 (sets 0) ∷ at 4 checkpoints ∷ at 5 asks ∷ at 6 answers ∷ []
 
 abbrev pub serving : Program
 serving = main_alone (at 1 (While' always (places turn) (rows turn)) ∷ [])

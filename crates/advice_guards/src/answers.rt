@@ -1,12 +1,12 @@
 ghost use Rattle.std.specs.Prelude.{◌≡◌, [], ◌∷◌};
 ghost use Rattle.path_semantics.specs.declared.reason.Reason.TheVariants.{Input, Depth};
 ghost use Rattle.advice.specs.Answer.{checkpoints_of, IsAnswer, IsUnmendable};
-ghost use Rattle.advice_guards.specs.Programs.{serving, two_lists, hasty, asking_five, at, marks};
+ghost use Rattle.advice_guards.specs.Programs.{serving, two_lists, hasty, asking_five, at, checkpoints};
 
 /// The CHECKPOINTs of a program in the order of its text.
 pub fn checkpoints_are_all_in_order()
-    ensures nested { checkpoints_of serving ≡ at 4 marks ∷ [] }
-    ensures several { checkpoints_of two_lists ≡ at 2 marks ∷ at 3 marks ∷ at 5 marks ∷ [] }
+    ensures nested { checkpoints_of serving ≡ at 4 checkpoints ∷ [] }
+    ensures several { checkpoints_of two_lists ≡ at 2 checkpoints ∷ at 3 checkpoints ∷ at 5 checkpoints ∷ [] }
 {}
 
 /// The answers to a server, and to a program with three CHECKPOINTs of which one has an empty list.

@@ -23,7 +23,8 @@ use Rattle.path_semantics.proofs.Kept.{one-mapped, kept-led}
 use Rattle.advice.specs.declared.answer.Advice.{Advice}
 use Rattle.advice.specs.declared.answer.Advised.{Advised}
 use Rattle.advice.specs.Advice.{IsLeastDepth, IsAdvice}
-use Rattle.advice.specs.Answer.{statements_of, marks, checkpoints_of, items_among, files_among, choice_of, IsAnswer}
+use Rattle.advice.specs.Answer.{statements_of, is_a_checkpoint, checkpoints_of, items_among, files_among, choice_of}
+use Rattle.advice.specs.Answer.{IsAnswer}
 use Rattle.advice.specs.Choice.{IsChoice}
 use Rattle.advice.specs.Due.{is_checkpoint, is_checkpoint_next, IsItemDue, IsFileDue, IsAskedAfter}
 use Rattle.advice_laws.proofs.Accepting.{within}
@@ -119,7 +120,7 @@ module _ (program : Program) where
       let told = each (statement.number == number) (is_checkpoint (out-What statement.what)) is in (
         statement,
         same-number statement.number number told.0,
-        among-filtered marks statement (statements_of program) (holds.0.0 statement (inl refl)) told.1,
+        among-filtered is_a_checkpoint statement (statements_of program) (holds.0.0 statement (inl refl)) told.1,
       )
 
   -- a path leads only to CHECKPOINTs of the program

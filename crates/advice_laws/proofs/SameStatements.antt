@@ -11,7 +11,7 @@ use Rattle.tal_tree.specs.declared.statement.What.{What, What-F, out-What, If', 
 use Rattle.tal_tree.specs.declared.statement.What.{AssignCall, Call, Return, ReadUpdate, Reply, WriteRead, Checkpoint}
 use Rattle.tal_tree.specs.declared.statement.What.{CheckMonitor, Open, Stop, Row_of-Statement, end_of-Statement}
 use Rattle.tal_tree.specs.declared.statement.What.{more_of-Statement}
-use Rattle.advice.specs.Answer.{statements_of, marks, checkpoints_of}
+use Rattle.advice.specs.Answer.{statements_of, is_a_checkpoint, checkpoints_of}
 use Rattle.advice.specs.Choice.{Choice, what_with, row_with, statement_with, body_with, procedure_with, with_choice}
 use Rattle.advice.specs.Due.{is_checkpoint}
 use Rattle.advice_laws.proofs.Layers.{layer_with, layer-is}
@@ -85,16 +85,18 @@ module _ (choice : Choice) where
   map-passed true statement rest = refl
   map-passed false statement rest = refl
 
-  filter-kept : (statements : List Statement) → filter marks (all_with statements) ≡ all_with (filter marks statements)
+  filter-kept : (statements : List Statement) → filter is_a_checkpoint (all_with statements) ≡ all_with
+      (filter is_a_checkpoint statements)
   filter-kept [] = refl
   filter-kept (statement ∷ rest) =
       ap₂ (λ (passes : Bool) (later : List Statement). cond passes (statement_with choice statement ∷ later) later)
       (checkpoint-kept statement.number statement.what) (filter-kept rest)
-      ∙ map-passed (marks statement) statement (filter marks rest)
+      ∙ map-passed (is_a_checkpoint statement) statement (filter is_a_checkpoint rest)
 
   pub checkpoints-kept : (program : Program)
       → checkpoints_of (with_choice program choice) ≡ all_with (checkpoints_of program)
-  checkpoints-kept program = ap (filter marks) (program-kept program.procedures) ∙ filter-kept (statements_of program)
+  checkpoints-kept program = ap (filter is_a_checkpoint) (program-kept program.procedures) ∙ filter-kept
+      (statements_of program)
 
   numbers-same : (statements : List Statement)
       → map (λ (one : Statement). one.number) (all_with statements) ≡ map (λ (one : Statement). one.number) statements

@@ -20,7 +20,7 @@ use Rattle.tal_tree.specs.declared.statement.What.TheViews.{out-roll-What, rolls
 use Rattle.tal_tree.specs.declared.statement.What.TheViews.{rolls-DoUntil}
 use Rattle.tal_tree.proofs.Numbers.{numbers_inside, numbers_by, numbers-by}
 use Rattle.tal_tree.proofs.Within.{within_of, within-is}
-use Rattle.advice.specs.Answer.{checkpoints_of, marks, statements_of}
+use Rattle.advice.specs.Answer.{checkpoints_of, is_a_checkpoint, statements_of}
 use Rattle.advice.specs.Due.{is_checkpoint}
 use Rattle.advise.specs.declared.checkpoints.Checkpoint.{Checkpoint}
 use Rattle.advise.specs.Lists.{place_of, places_of}
@@ -29,8 +29,8 @@ abbrev own_place : Statement → Bool → List Checkpoint
 own_place statement is = if is then place_of statement ∷ [] else []
 
 places-own : (statement : Statement) (rest : List Statement) (is : Bool)
-    → map place_of (if is then statement ∷ filter marks rest else filter marks rest)
-    ≡ own_place statement is ++ map place_of (filter marks rest)
+    → map place_of (if is then statement ∷ filter is_a_checkpoint rest else filter is_a_checkpoint rest)
+    ≡ own_place statement is ++ map place_of (filter is_a_checkpoint rest)
 places-own statement rest true = refl
 places-own statement rest false = refl
 
@@ -44,13 +44,13 @@ places_by statement (What-F.For variable from to down step body last) = places_o
 places_by statement _ = []
 
 places-both : (first second : List Statement)
-    → map place_of (filter marks (first ++ second))
-    ≡ map place_of (filter marks first) ++ map place_of (filter marks second)
-places-both first second = ap (map place_of) (filter-append marks first second)
-    ∙ map-append place_of (filter marks first) (filter marks second)
+    → map place_of (filter is_a_checkpoint (first ++ second))
+    ≡ map place_of (filter is_a_checkpoint first) ++ map place_of (filter is_a_checkpoint second)
+places-both first second = ap (map place_of) (filter-append is_a_checkpoint first second)
+    ∙ map-append place_of (filter is_a_checkpoint first) (filter is_a_checkpoint second)
 
 by-layer : (statement : Statement) (layer : What-F What Statement)
-    → own_place statement (is_checkpoint layer) ++ map place_of (filter marks (within_of layer))
+    → own_place statement (is_checkpoint layer) ++ map place_of (filter is_a_checkpoint (within_of layer))
     ≡ places_by statement layer
 by-layer statement (What-F.Checkpoint items files) = refl
 by-layer statement (What-F.If test first second) = places-both (all_of first) (all_of second)
@@ -70,8 +70,9 @@ by-layer statement What-F.Stop = refl
 
 statement-is : (statement : Statement) → places_of (statement ∷ []) ≡ places_by statement (out-What statement.what)
 statement-is statement =
-    places-own statement (within statement.what ++ []) (marks statement)
-    ∙ ap (λ (inner : List Statement). own_place statement (marks statement) ++ map place_of (filter marks inner))
+    places-own statement (within statement.what ++ []) (is_a_checkpoint statement)
+    ∙ ap (λ (inner : List Statement). own_place statement (is_a_checkpoint statement) ++ map place_of
+    (filter is_a_checkpoint inner))
     (append-nil (within statement.what) ∙ within-is statement.what)
     ∙ by-layer statement (out-What statement.what)
 
@@ -113,13 +114,13 @@ pub one-more : (statements : List Statement) (k : ℕ) (statement : Statement)
 one-more statements k statement is inside =
     ap places_of (take_more statements k statement inside
     ∙ ap (λ (x : Statement). take k statements ++ x ∷ []) (sym is))
-    ∙ ap (λ (all : List Statement). map place_of (filter marks all))
+    ∙ ap (λ (all : List Statement). map place_of (filter is_a_checkpoint all))
     (flat_map-append all_in (take k statements) (statement ∷ []))
     ∙ places-both (all_of (take k statements)) (all_of (statement ∷ []))
 
 -- those of all procedures
 pub all-places : (procedures : List Procedure) → flat_map (λ procedure. places_of procedure.body) procedures
-    ≡ map place_of (filter marks (flat_map (λ procedure. all_of procedure.body) procedures))
+    ≡ map place_of (filter is_a_checkpoint (flat_map (λ procedure. all_of procedure.body) procedures))
 all-places [] = refl
 all-places (procedure ∷ rest) =
     ap (λ (later : List Checkpoint). places_of procedure.body ++ later) (all-places rest)
@@ -179,13 +180,14 @@ more-numbered first rest inside later statement among =
 numbered : (statements : List Statement) → AreNumbered statements
 numbered = by-statements AreNumbered (record { none = λ statement among. absurd among; more = more-numbered })
 
-among-filtered : (statement : Statement) (statements : List Statement) → IsAmong statement (filter marks statements)
+among-filtered : (statement : Statement) (statements : List Statement) → IsAmong statement
+    (filter is_a_checkpoint statements)
     → IsAmong statement statements
 among-filtered statement [] among = absurd among
-among-filtered statement (first ∷ rest) among = by_test (among-filtered statement rest) (marks first) among
+among-filtered statement (first ∷ rest) among = by_test (among-filtered statement rest) (is_a_checkpoint first) among
   where
-    by_test : (IsAmong statement (filter marks rest) → IsAmong statement rest) → (b : Bool)
-        → IsAmong statement (if b then first ∷ filter marks rest else filter marks rest)
+    by_test : (IsAmong statement (filter is_a_checkpoint rest) → IsAmong statement rest) → (b : Bool)
+        → IsAmong statement (if b then first ∷ filter is_a_checkpoint rest else filter is_a_checkpoint rest)
         → IsAmong statement (first ∷ rest)
     by_test behind true (inl same) = inl same
     by_test behind true (inr later) = inr (behind later)

@@ -4,7 +4,7 @@ use Rattle.tal_tree.specs.Statements.{all_of}
 use Rattle.tal_tree.specs.declared.program.Program.{Program}
 use Rattle.tal_tree.specs.declared.statement.Statement.{Statement}
 use Rattle.advice.specs.reason_dues.specs.declared.number_set.Numbers.{Numbers}
-use Rattle.advice.specs.Answer.{marks}
+use Rattle.advice.specs.Answer.{is_a_checkpoint}
 use Rattle.advice.specs.declared.answer.Advised.{Advised}
 use Rattle.advise.specs.Gathered.{has_in}
 use Rattle.advise.specs.declared.checkpoints.Checkpoint.{Checkpoint}
@@ -14,7 +14,7 @@ place_of statement = record { statement = statement.number; line = statement.lin
 
 -- the CHECKPOINTs among statements, at any level, in the order of the text
 abbrev pub places_of : List Statement → List Checkpoint
-places_of statements = map place_of (filter marks (all_of statements))
+places_of statements = map place_of (filter is_a_checkpoint (all_of statements))
 
 -- those of the first numbers for which this is true, ascending
 abbrev pub numbers_below : (ℕ → Bool) → ℕ → List ℕ

@@ -11,7 +11,8 @@ use Rattle.takeover_laws.specs.process_semantics.specs.declared.point.Point.TheV
 use Rattle.takeover_laws.specs.process_semantics.specs.Process as process
 use Rattle.world_semantics.specs.plain_semantics.specs.declared.slot.Opener.{Opener}
 use Rattle.world_semantics.specs.plain_semantics.specs.Openers.{files_of, openers_of, opener_of}
-use Rattle.world_semantics.specs.Core.{Core, Deed, Went, Checkpointed, Took, Asked, Got, Answered, Acted, goes, marks}
+use Rattle.world_semantics.specs.Core.{Core, Deed, Went, Checkpointed, Took, Asked, Got, Answered, Acted, goes}
+use Rattle.world_semantics.specs.Core.{checkpoints}
 use Rattle.world_semantics.specs.Core.{takes, asks, gets, answers, acts, next_on}
 use Rattle.world_semantics.specs.World.{Copy, World, copy_of}
 use Rattle.world_semantics.proofs.Lists.{some-same}
@@ -20,7 +21,7 @@ use Rattle.takeover_laws.specs.process_histories.specs.Words.{ask_on, get_on, re
 use Rattle.takeover_laws.specs.process_histories.specs.Words.{one_if}
 use Rattle.takeover_laws.specs.process_histories.proofs.Counts.{asked-count, none-awaited, one-awaited}
 use Rattle.takeover_laws.specs.process_histories.proofs.Deeds.{done-last, stands-there}
-use Rattle.takeover_laws.specs.process_histories.proofs.Steady.{calm-away, marked-calm, done-steady}
+use Rattle.takeover_laws.specs.process_histories.proofs.Steady.{calm-away, checkpointed-calm, done-steady}
 use Rattle.takeover_laws.specs.discipline_laws.specs.Disciplined.{AreUncheckpointed}
 use Rattle.takeover_laws.specs.plain_histories.specs.Agreeing.{StandsFor}
 use Rattle.takeover_laws.specs.plain_histories.specs.Booking.{AreBooked, AreHeld, none_held, take_held, step_held}
@@ -45,15 +46,15 @@ pub record IsNear (site : Site) (ledger : Ledger) (one : Who) (opener : Opener) 
 module _ (site : Site) (fit : IsFit site) (number : ℕ) (spec : ProcessSpec)
     (there : slice_get site.processes number ≡ Some spec) where
   -- deeds since the last checkpoint, at which no reply on a file was awaited
-  record SinceMark (file : ℕ) (deeds : List Deed) : Type 0 where
+  record SinceCheckpoint (file : ℕ) (deeds : List Deed) : Type 0 where
     since : List Deed
     before : List Deed
     split : deeds ≡ since ++ before
     unmarked : AreUncheckpointed since
     even : length (requests_on file before) ≡ length (replies_on file before)
 
-  one-later : (file : ℕ) (deed : Deed) {deeds : List Deed} → deed ≢ Checkpointed → SinceMark file deeds
-      → SinceMark file (deed ∷ deeds)
+  one-later : (file : ℕ) (deed : Deed) {deeds : List Deed} → deed ≢ Checkpointed → SinceCheckpoint file deeds
+      → SinceCheckpoint file (deed ∷ deeds)
   one-later file deed other s = record {
     since = deed ∷ s.since;
     before = s.before;
@@ -62,12 +63,13 @@ module _ (site : Site) (fit : IsFit site) (number : ℕ) (spec : ProcessSpec)
     even = s.even;
   }
 
-  since-mark : (file : ℕ) {deeds : List Deed} {core : Core} → HasDone site number spec deeds core → SinceMark file deeds
-  since-mark file nothing_done = record { since = []; before = []; split = refl; unmarked = tt; even = refl }
-  since-mark file (one_more {deeds = deeds} {before = core} done (marks at)) =
+  since-checkpoint : (file : ℕ) {deeds : List Deed} {core : Core} → HasDone site number spec deeds core →
+      SinceCheckpoint file deeds
+  since-checkpoint file nothing_done = record { since = []; before = []; split = refl; unmarked = tt; even = refl }
+  since-checkpoint file (one_more {deeds = deeds} {before = core} done (checkpoints at)) =
       let none = none-awaited (process.after_checkpoint core.state) file
-      (calm-away _ (marked-calm core.state (done-steady (fit.regular number spec there) done) at)) in
-      let count = asked-count (fit.regular number spec there) (one_more done (marks at)) file in
+      (calm-away _ (checkpointed-calm core.state (done-steady (fit.regular number spec there) done) at)) in
+      let count = asked-count (fit.regular number spec there) (one_more done (checkpoints at)) file in
       record {
         since = [];
         before = Checkpointed ∷ deeds;
@@ -75,17 +77,18 @@ module _ (site : Site) (fit : IsFit site) (number : ℕ) (spec : ProcessSpec)
         unmarked = tt;
         even = omega (arith, count, none);
       }
-  since-mark file (one_more done (goes at)) = one-later file Went (λ e. absurd (cc)) (since-mark file done)
-  since-mark file (one_more done (takes {place = place} {words = words} block at known)) =
-      one-later file (Took place words) (λ e. absurd (cc)) (since-mark file done)
-  since-mark file (one_more done (asks {file = on} {words = words} at named said)) =
-      one-later file (Asked on words) (λ e. absurd (cc)) (since-mark file done)
-  since-mark file (one_more done (gets {file = on} {words = words} at named)) =
-      one-later file (Got on words) (λ e. absurd (cc)) (since-mark file done)
-  since-mark file (one_more done (answers {place = place} {words = words} opener block at hand known stood said)) =
-      one-later file (Answered place words) (λ e. absurd (cc)) (since-mark file done)
-  since-mark file (one_more done (acts {call = call} {found = found} at is)) =
-      one-later file (Acted call found) (λ e. absurd (cc)) (since-mark file done)
+  since-checkpoint file (one_more done (goes at)) = one-later file Went (λ e. absurd (cc)) (since-checkpoint file done)
+  since-checkpoint file (one_more done (takes {place = place} {words = words} block at known)) =
+      one-later file (Took place words) (λ e. absurd (cc)) (since-checkpoint file done)
+  since-checkpoint file (one_more done (asks {file = on} {words = words} at named said)) =
+      one-later file (Asked on words) (λ e. absurd (cc)) (since-checkpoint file done)
+  since-checkpoint file (one_more done (gets {file = on} {words = words} at named)) =
+      one-later file (Got on words) (λ e. absurd (cc)) (since-checkpoint file done)
+  since-checkpoint file (one_more done (answers {place = place} {words = words} opener block at hand known stood
+      said)) =
+      one-later file (Answered place words) (λ e. absurd (cc)) (since-checkpoint file done)
+  since-checkpoint file (one_more done (acts {call = call} {found = found} at is)) =
+      one-later file (Acted call found) (λ e. absurd (cc)) (since-checkpoint file done)
 
   -- a process awaits a reply, or did before deeds without a checkpoint: the depth covers all that it asked since the
   -- checkpoint before
@@ -98,7 +101,7 @@ module _ (site : Site) (fit : IsFit site) (number : ℕ) (spec : ProcessSpec)
       × ((of : OpenerSpec) → slice_get (openers_of site opener.server) opener.place ≡ Some of
       → length (requests_on file deeds) < n + of.depth)
   near-file file n opener deeds more past {core = core} {after = after} opens split unmarked whole done at named next =
-      let mark = since-mark file done in
+      let mark = since-checkpoint file done in
       let all : deeds ≡ (more ++ mark.since) ++ mark.before =
       split ∙ ap (λ rest. more ++ rest) mark.split ∙ sym (append_assoc more mark.since mark.before) in
       let one : one_if (awaits_on core.state file) ≡ 1 =

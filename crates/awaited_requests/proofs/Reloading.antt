@@ -20,13 +20,13 @@ use Rattle.takeover_laws.proofs.Checkpoints.{marked-down}
 use Rattle.tal_tree.specs.declared.site.Site.{Site}
 use Rattle.tal_tree.specs.declared.site.Who.{Who}
 use Rattle.tal_tree.specs.declared.site.Who.TheVariants as who
-use Rattle.world_semantics.proofs.Growing.{AreStopped, change-marks}
+use Rattle.world_semantics.proofs.Growing.{AreStopped, change-downs}
 use Rattle.world_semantics.proofs.Roles.{AllRoles, reload-all}
 use Rattle.world_semantics.proofs.Steady.{IsSeated, IsSteady, now-none, there-is}
 use Rattle.world_semantics.specs.Core.{Core, next_on}
 use Rattle.world_semantics.specs.Messages.{Asking, Reloading, Replying}
 use Rattle.world_semantics.specs.Rules.{most_reloads, new_core, by_reload, reloaded_at, reloaded_by, reloaded_from}
-use Rattle.world_semantics.specs.Rules.{without_marks}
+use Rattle.world_semantics.specs.Rules.{without_downs}
 use Rattle.world_semantics.specs.World.{Copy, Pair, Terminal, World, copy_of, has_noted, is_running}
 use Rattle.world_semantics.specs.World.{receives, terminal_node}
 use Rattle.world_semantics.specs.declared.role.Role.TheVariants.{Acting}
@@ -67,7 +67,7 @@ within (y ∷ xs) (suc k) x at = let rest = within xs k x at in omega (arith, re
 module _ (site : Site) (out : IsLaidOut site) (w : World) (x times : ℕ) (roles : AllRoles w) (down : AreStopped w)
     (steady : IsSteady w) (seated : IsSeated site w)
     (stopped : slice_get w.stopped x ≡ Some true)
-    (all : (node : ℕ) → is_running w.stopped node ≡ true → has_noted w.marks node x ≡ true)
+    (all : (node : ℕ) → is_running w.stopped node ≡ true → has_noted w.downs node x ≡ true)
     (counted : slice_get w.reloads x ≡ Some times) (less : times < most_reloads) where
   abbrev reloaded : ℕ → Pair → Pair
   reloaded number pair = reloaded_at site x number (slice_get site.processes number) pair
@@ -76,7 +76,7 @@ module _ (site : Site) (out : IsLaidOut site) (w : World) (x times : ℕ) (roles
   next = record w {
     stopped = slice_set w.stopped x false;
     reloads = slice_set w.reloads x (times + 1);
-    marks = without_marks x w.marks;
+    downs = without_downs x w.downs;
     processes = reloaded_from site x 0 w.processes;
   }
 
@@ -114,21 +114,21 @@ module _ (site : Site) (out : IsLaidOut site) (w : World) (x times : ℕ) (roles
       by (true, at) = absurd (apart (steady.one y x at stopped))
       by (false, at) = rw at refl
 
-  none-marked : (node p : ℕ) → has_noted next.marks node p ≡ false
+  none-marked : (node p : ℕ) → has_noted next.downs node p ≡ false
   none-marked node p =
-      is-false (has_noted next.marks node p) (λ e. now-none w.stopped x steady.one stopped p
-      (marked-down next.stopped next.marks node p
-      (change-marks {site = site} w next (Reloading x) [] (by_reload x stopped all counted less) down) e))
+      is-false (has_noted next.downs node p) (λ e. now-none w.stopped x steady.one stopped p
+      (marked-down next.stopped next.downs node p
+      (change-downs {site = site} w next (Reloading x) [] (by_reload x stopped all counted less) down) e))
 
-  unmarked : (node p : ℕ) → p ≢ x → has_noted w.marks node p ≡ false
-  unmarked node p apart = is-false (has_noted w.marks node p)
-      (λ e. apart (steady.one p x (marked-down w.stopped w.marks node p down e) stopped))
+  unmarked : (node p : ℕ) → p ≢ x → has_noted w.downs node p ≡ false
+  unmarked node p apart = is-false (has_noted w.downs node p)
+      (λ e. apart (steady.one p x (marked-down w.stopped w.downs node p down e) stopped))
 
   -- the route of a node that runs stays, and leads elsewhere
   record Stays (number node : ℕ) (pair : Pair) : Type 0 where
-    same : route_of next.marks node (reloaded number pair) ≡ route_of w.marks node pair
-    off : route_of w.marks node pair ≢ x
-    inside : route_of w.marks node pair < length w.stopped
+    same : route_of next.downs node (reloaded number pair) ≡ route_of w.downs node pair
+    off : route_of w.downs node pair ≢ x
+    inside : route_of w.downs node pair < length w.stopped
 
   stays : (number node : ℕ) (pair : Pair) → is_running w.stopped node ≡ true → Sits pair → Stays number node pair
   stays number node pair running sit =
@@ -157,7 +157,7 @@ module _ (site : Site) (out : IsLaidOut site) (w : World) (x times : ℕ) (roles
             inside = rw (led, m) sit.two;
           }
       by true one false two First led =
-          let m : has_noted w.marks node pair.first.processor ≡ true =
+          let m : has_noted w.downs node pair.first.processor ≡ true =
           rw (eqb-true pair.first.processor x one) (all node running) in
           record {
             same = rw (one, two, led, none-marked node pair.second.processor, m) refl;
@@ -179,7 +179,7 @@ module _ (site : Site) (out : IsLaidOut site) (w : World) (x times : ℕ) (roles
             inside = rw (led, m) sit.one;
           }
       by false one true two Second led =
-          let m : has_noted w.marks node pair.second.processor ≡ true =
+          let m : has_noted w.downs node pair.second.processor ≡ true =
           rw (eqb-true pair.second.processor x two) (all node running) in
           record {
             same = rw (one, two, led, none-marked node pair.first.processor, m) refl;
@@ -288,12 +288,12 @@ module _ (site : Site) (out : IsLaidOut site) (w : World) (x times : ℕ) (roles
   home node asker (who.File number file) running found = by (slice_get next.processes number) refl found
     where
       by : (now : Option Pair) → slice_get next.processes number ≡ now
-          → option_map (λ pair. route_of next.marks node pair) now ≡ Some asker → route_to w node number ≡ Some asker
+          → option_map (λ pair. route_of next.downs node pair) now ≡ Some asker → route_to w node number ≡ Some asker
       by None at found = absurd (cc)
       by (Some now) at found =
           let old = was number now at in
           let same = stays number node old.pair running (sits number old.pair old.there) in
-          rw old.there (ap Some (sym same.same ∙ sym (ap (route_of next.marks node) old.is)) ∙ found)
+          rw old.there (ap Some (sym same.same ∙ sym (ap (route_of next.downs node) old.is)) ∙ found)
 
   not-of : (letter : Letter) → letter.sender ≢ x → letter.receiver ≢ x → not (is_from_or_to x letter) ≡ true
   not-of letter from to = rw (apart-test letter.sender x from, apart-test letter.receiver x to) refl
@@ -326,15 +326,15 @@ module _ (site : Site) (out : IsLaidOut site) (w : World) (x times : ℕ) (roles
         → IsServed site (after_reloading x next post) asker one n opener now
     turned asker one n opener now old b (route_stopped rests) =
         let stay = stays opener.server asker old.pair b.running (sits opener.server old.pair old.there) in
-        absurd (let runs : is_running w.stopped (route_of w.marks asker old.pair)
-        ≡ true = runs (route_of w.marks asker old.pair) stay.off stay.inside in cc)
+        absurd (let runs : is_running w.stopped (route_of w.downs asker old.pair)
+        ≡ true = runs (route_of w.downs asker old.pair) stay.off stay.inside in cc)
     turned asker one n opener now old b (is_owed words among) =
         let stay = stays opener.server asker old.pair b.running (sits opener.server old.pair old.there) in
-        let route : route_of next.marks asker now ≡ route_of w.marks asker old.pair =
-        ap (route_of next.marks asker) old.is ∙ stay.same in
+        let route : route_of next.downs asker now ≡ route_of w.downs asker old.pair =
+        ap (route_of next.downs asker) old.is ∙ stay.same in
         let letter : Letter = record {
           sender = asker;
-          receiver = route_of w.marks asker old.pair;
+          receiver = route_of w.downs asker old.pair;
           message = Asking (request_of opener n words);
         } in
         is_owed words (subst (λ r. IsAmong (record
@@ -344,8 +344,8 @@ module _ (site : Site) (out : IsLaidOut site) (w : World) (x times : ℕ) (roles
     turned asker one n opener now old b (is_seen k seat seen) =
         let sit = sits opener.server old.pair old.there in
         let stay = stays opener.server asker old.pair b.running sit in
-        let route : route_of next.marks asker now ≡ route_of w.marks asker old.pair =
-        ap (route_of next.marks asker) old.is ∙ stay.same in
+        let route : route_of next.downs asker now ≡ route_of w.downs asker old.pair =
+        ap (route_of next.downs asker) old.is ∙ stay.same in
         let off : (copy_of k old.pair).processor ≢ x = λ e. stay.off (sym seat ∙ e) in
         let same = alike opener.server old.pair k off in
         let processor : (copy_of k now).processor ≡ (copy_of k old.pair).processor =

@@ -150,9 +150,9 @@ watching-free Second pair next r same ok = record { free = free; one_holds = hol
     holds First acts = same.held ∙ ok.free Second r
     holds Second acts = absurd (let e : Watching ≡ Acting = sym same.role ∙ acts in cc)
 
-passes-free : (stopped : List Bool) {number : ℕ} {marks : List _} {kept after : List Act} {pair next : Pair}
+passes-free : (stopped : List Bool) {number : ℕ} {downs : List _} {kept after : List Act} {pair next : Pair}
     {cause : Cause} {sendings : List Sending}
-    → Passes number marks kept pair cause sendings next after
+    → Passes number downs kept pair cause sendings next after
     → RolesOf stopped pair → HoldsApart pair → HoldsApart next
 passes-free stopped {pair = pair} {next = next} (by_send First role at sent unmarked) =
     acting-free stopped First pair next role (record { role = refl; other = refl })
@@ -314,9 +314,9 @@ copy-led : (k : Which) (copy : Copy) (pair : Pair) → (with_copy k copy pair).l
 copy-led First copy pair = refl
 copy-led Second copy pair = refl
 
-passes-led : {number : ℕ} {marks : List _} {kept after : List Act} {pair next : Pair} {cause : Cause}
+passes-led : {number : ℕ} {downs : List _} {kept after : List Act} {pair next : Pair} {cause : Cause}
     {sendings : List Sending}
-    → Passes number marks kept pair cause sendings next after → next.led ≡ pair.led
+    → Passes number downs kept pair cause sendings next after → next.led ≡ pair.led
 passes-led (by_send k role at sent unmarked) = copy-led k _ _
 passes-led (by_pass_again k role at may less) = copy-led k _ _
 passes-led (by_pass k role at may most) = copy-led k _ _
@@ -438,14 +438,14 @@ run-leads site events w placed run =
 -- Marks
 
 -- the node of a copy that watches or is blank hasn't marked the other one's processor
-unmarked-yet : (w : World) (role : Role) (here there : ℕ) → AreStopped w → Waits w.stopped w.marks role here there
-    → receives role ≡ true → has_noted w.marks here there ≡ false
-unmarked-yet w role here there down waits r = by (has_noted w.marks here there) refl role refl r
+unmarked-yet : (w : World) (role : Role) (here there : ℕ) → AreStopped w → Waits w.stopped w.downs role here there
+    → receives role ≡ true → has_noted w.downs here there ≡ false
+unmarked-yet w role here there down waits r = by (has_noted w.downs here there) refl role refl r
   where
-    by : (b : Bool) → has_noted w.marks here there ≡ b → (one : Role) → role ≡ one → receives one ≡ true → b ≡ false
+    by : (b : Bool) → has_noted w.downs here there ≡ b → (one : Role) → role ≡ one → receives one ≡ true → b ≡ false
     by false e one same r = refl
     by true e Watching same r = absurd (waits.unmarked same e)
-    by true e Blank same r = absurd (waits.blank same there (marked-down w.stopped w.marks here there down e))
+    by true e Blank same r = absurd (waits.blank same there (marked-down w.stopped w.downs here there down e))
     by true e Acting same r = absurd (cc)
     by true e Gone same r = absurd (cc)
 
@@ -491,7 +491,7 @@ run-there site events w run = holds-on (AreThere site) change-there run (record 
 -- All of it
 
 seated : (site : Site) (w : World) (number : ℕ) (pair : Pair) → IsPlaced site → AllKept site w
-    → slice_get w.processes number ≡ Some pair → HoldsApart pair → Leads pair → IsSeated w.stopped w.marks pair
+    → slice_get w.processes number ≡ Some pair → HoldsApart pair → Leads pair → IsSeated w.stopped w.downs pair
 seated site w number pair placed kept there ok leads =
     let seat = kept.seated.pairs number pair there in
     let places = placed number seat.0 seat.1 in
@@ -506,14 +506,14 @@ seated site w number pair placed kept there ok leads =
       one_holds = ok.one_holds;
     }
   where
-    unmarked : Waits w.stopped w.marks pair.first.role pair.first.processor pair.second.processor
-        → Waits w.stopped w.marks pair.second.role pair.second.processor pair.first.processor
+    unmarked : Waits w.stopped w.downs pair.first.role pair.first.processor pair.second.processor
+        → Waits w.stopped w.downs pair.second.role pair.second.processor pair.first.processor
         → (k : Which) → receives (copy_of k pair).role ≡ true
-        → has_noted w.marks (copy_of k pair).processor (copy_of (other_of k) pair).processor ≡ false
+        → has_noted w.downs (copy_of k pair).processor (copy_of (other_of k) pair).processor ≡ false
     unmarked one two First r =
-        unmarked-yet w pair.first.role pair.first.processor pair.second.processor kept.marks one r
+        unmarked-yet w pair.first.role pair.first.processor pair.second.processor kept.downs one r
     unmarked one two Second r =
-        unmarked-yet w pair.second.role pair.second.processor pair.first.processor kept.marks two r
+        unmarked-yet w pair.second.role pair.second.processor pair.first.processor kept.downs two r
 
 pub placed-seats : (site : Site) (events : List Event) (w : World) → IsPlaced site → IsRun site events w
     → AreSeated site w

@@ -44,16 +44,16 @@ pub record HasSeen (post : Post) (asker : ℕ) (one : Who) (copy : Copy) (opener
 -- it; or the copy there has seen to it
 pub data IsServed (site : Site) (post : Post) (asker : ℕ) (one : Who) (n : ℕ) (opener : Opener) (pair : Pair) :
     Type 0 where
-  route_stopped : is_running post.world.stopped (route_of post.world.marks asker pair) ≡ false
+  route_stopped : is_running post.world.stopped (route_of post.world.downs asker pair) ≡ false
       → IsServed site post asker one n opener pair
   is_owed : (words : List ℤ)
       → IsAmong (record {
         sender = asker;
-        receiver = route_of post.world.marks asker pair;
+        receiver = route_of post.world.downs asker pair;
         message = Asking (request_of opener n words);
       }) post.owed
       → IsServed site post asker one n opener pair
-  is_seen : (k : Which) → (copy_of k pair).processor ≡ route_of post.world.marks asker pair
+  is_seen : (k : Which) → (copy_of k pair).processor ≡ route_of post.world.downs asker pair
       → HasSeen post asker one (copy_of k pair) opener n
       → IsServed site post asker one n opener pair
 

@@ -30,7 +30,7 @@ use Rattle.world_semantics.specs.Passes.{checkpoint_of}
 use Rattle.world_semantics.specs.Rules.{Change, by_checkpoint, by_early_request, by_enter, by_mark, by_own, by_print}
 use Rattle.world_semantics.specs.Rules.{by_reload, by_request, by_stop, pair_after_down, pair_at_down, stopped_pair}
 use Rattle.world_semantics.specs.Rules.{taker}
-use Rattle.world_semantics.specs.Rules.{new_core, reloaded_by, renewals_ended, without_marks}
+use Rattle.world_semantics.specs.Rules.{new_core, reloaded_by, renewals_ended, without_downs}
 use Rattle.world_semantics.specs.Laws.{IsPlaced}
 use Rattle.world_semantics.specs.World.{Copy, Down, Pair, World, boot, copy_of, has_noted, pair_at_boot}
 use Rattle.world_semantics.specs.World.{other_of, with_copy}
@@ -136,8 +136,8 @@ applied-table core applied image is =
 
 -- One process
 
-module _ (site : Site) (number : ℕ) (marks : List Down) (pair : Pair)
-    (ok : IsChained (depths_of site number) marks pair)
+module _ (site : Site) (number : ℕ) (downs : List Down) (pair : Pair)
+    (ok : IsChained (depths_of site number) downs pair)
     (one : pair.first.role ≡ Acting → pair.second.role ≡ Acting → ⊥)
     (stands : (k : Which) → Stands (copy_of k pair).core.state (is_some (copy_of k pair).core.receive.in_hand)) where
   abbrev depths : List ℕ
@@ -151,7 +151,7 @@ module _ (site : Site) (number : ℕ) (marks : List Down) (pair : Pair)
   own-first : (entered : Copy) (core : Core) (waiting : List Request) (sectors : List Stored) (deed : Deed) {act : Act}
       {kept after : List Act} → pair.first.role ≡ Acting
       → Advances (openers_of site number) pair.first.core deed core → Enters number act kept pair.first entered after
-      → IsChained depths marks (with_copy First (record entered { core = core; waiting = waiting })
+      → IsChained depths downs (with_copy First (record entered { core = core; waiting = waiting })
       (record pair { sectors = sectors }))
   own-first entered core waiting sectors deed acting advances (holds_on e) = (
     ok.0,
@@ -185,7 +185,7 @@ module _ (site : Site) (number : ℕ) (marks : List Down) (pair : Pair)
   own-second : (entered : Copy) (core : Core) (waiting : List Request) (sectors : List Stored) (deed : Deed) {act : Act}
       {kept after : List Act} → pair.second.role ≡ Acting
       → Advances (openers_of site number) pair.second.core deed core → Enters number act kept pair.second entered after
-      → IsChained depths marks (with_copy Second (record entered { core = core; waiting = waiting })
+      → IsChained depths downs (with_copy Second (record entered { core = core; waiting = waiting })
       (record pair { sectors = sectors }))
   own-second entered core waiting sectors deed acting advances (holds_on e) = (
     ok.0,
@@ -224,7 +224,7 @@ module _ (site : Site) (number : ℕ) (marks : List Down) (pair : Pair)
       (deed : Deed) {act : Act} {kept after : List Act} → (copy_of k pair).role ≡ Acting
       → Advances (openers_of site number) (copy_of k pair).core deed core
       → Enters number act kept (copy_of k pair) entered after
-      → IsChained depths marks (with_copy k (record entered { core = core; waiting = waiting })
+      → IsChained depths downs (with_copy k (record entered { core = core; waiting = waiting })
       (record pair { sectors = sectors }))
   own-chained First entered core waiting sectors deed acting advances enters =
       own-first entered core waiting sectors deed acting advances enters
@@ -232,7 +232,7 @@ module _ (site : Site) (number : ℕ) (marks : List Down) (pair : Pair)
       own-second entered core waiting sectors deed acting advances enters
 
   passes-chained : {kept after : List Act} {next : Pair} {cause : Cause} {sendings : List Sending}
-      → Passes number marks kept pair cause sendings next after → IsChained depths marks next
+      → Passes number downs kept pair cause sendings next after → IsChained depths downs next
   passes-chained (by_send First acting at unsent unmarked) =
       let message : ImageMessage = checkpoint_of number pair.first in (
         link-more depths pair.checkpoints pair.first.era pair.first.number pair.first.core.receive message ok.0
@@ -297,11 +297,11 @@ module _ (site : Site) (number : ℕ) (marks : List Down) (pair : Pair)
   passes-chained (by_acknowledge Second taken acting sent among era same) = ok
 
   waiting-chained : (k : Which) (waiting : List Request)
-      → IsChained depths marks (with_copy k (record (copy_of k pair) { waiting = waiting }) pair)
+      → IsChained depths downs (with_copy k (record (copy_of k pair) { waiting = waiting }) pair)
   waiting-chained First waiting = ok
   waiting-chained Second waiting = ok
 
-  stop-chained : (processor : ℕ) → IsChained depths marks (stopped_pair processor pair)
+  stop-chained : (processor : ℕ) → IsChained depths downs (stopped_pair processor pair)
   stop-chained processor = (
     ok.0,
     (
@@ -315,10 +315,10 @@ module _ (site : Site) (number : ℕ) (marks : List Down) (pair : Pair)
   right-none false b is = is
 
   abbrev marked : ℕ → ℕ → List Down
-  marked node processor = record { node = node; down = processor } ∷ marks
+  marked node processor = record { node = node; down = processor } ∷ downs
 
-  less : (node processor a b : ℕ) → has_noted (marked node processor) a b ≡ false → has_noted marks a b ≡ false
-  less node processor a b = right-none (node == a && processor == b) (has_noted marks a b)
+  less : (node processor a b : ℕ) → has_noted (marked node processor) a b ≡ false → has_noted downs a b ≡ false
+  less node processor a b = right-none (node == a && processor == b) (has_noted downs a b)
 
   -- after the mark all stand as before
   marked-first : (node processor : ℕ) → StandsTo depths pair.checkpoints
@@ -365,20 +365,20 @@ module _ (site : Site) (number : ℕ) (marks : List Down) (pair : Pair)
   -- where a processor x is loaded again: at most one has stopped, so only x was marked; and each message is of no later
   -- era than a copy that acts
   module _ (x : ℕ) (core : Core) (after : List Down)
-      (only : (node down : ℕ) → has_noted marks node down ≡ true → down ≡ x)
+      (only : (node down : ℕ) → has_noted downs node down ≡ true → down ≡ x)
       (dated : (k : Which) → (copy_of k pair).role ≡ Acting → (message : ImageMessage)
       → IsAmong message pair.checkpoints → message.era ≤ (copy_of k pair).era) where
-    elsewhere : (node down : ℕ) → (down == x) ≡ false → has_noted marks node down ≡ false
-    elsewhere node down other = by (has_noted marks node down) refl
+    elsewhere : (node down : ℕ) → (down == x) ≡ false → has_noted downs node down ≡ false
+    elsewhere node down other = by (has_noted downs node down) refl
       where
-        by : (b : Bool) → has_noted marks node down ≡ b → b ≡ false
+        by : (b : Bool) → has_noted downs node down ≡ b → b ≡ false
         by true is = absurd (let same = eq-eqb down x (only node down is) in cc)
         by false is = refl
 
     -- a copy whose other one isn't in x stands as before
     still-stands : (k : Which) → ((copy_of (other_of k) pair).processor == x) ≡ false
         → StandsTo depths pair.checkpoints
-        (has_noted marks (copy_of k pair).processor (copy_of (other_of k) pair).processor)
+        (has_noted downs (copy_of k pair).processor (copy_of (other_of k) pair).processor)
         (copy_of k pair).role (copy_of k pair).era (copy_of k pair).number (copy_of k pair).core.receive
         → StandsTo depths pair.checkpoints
         (has_noted after (copy_of k pair).processor (copy_of (other_of k) pair).processor)
@@ -414,7 +414,7 @@ module _ (site : Site) (number : ℕ) (marks : List Down) (pair : Pair)
 
 module _ (site : Site) (placed : IsPlaced site) (w : World) (reached : IsReached site w) (all : AllChained site w) where
   abbrev Of : List Down → ℕ → Pair → Type 0
-  Of marks number pair = IsChained (depths_of site number) marks pair
+  Of downs number pair = IsChained (depths_of site number) downs pair
 
   one-of : (number : ℕ) (pair : Pair) → slice_get w.processes number ≡ Some pair
       → pair.first.role ≡ Acting → pair.second.role ≡ Acting → ⊥
@@ -437,40 +437,40 @@ module _ (site : Site) (placed : IsPlaced site) (w : World) (reached : IsReached
       → AllChained site next
   chained-after next cause sendings (by_own {deed = deed} {core = core} {entered = entered} number k pair there acting
       causes advances enters fr) =
-      set-all (Of w.marks) w.processes number _ all
-      (own-chained site number w.marks pair (all number pair there) (one-of number pair there)
+      set-all (Of w.downs) w.processes number _ all
+      (own-chained site number w.downs pair (all number pair there) (one-of number pair there)
       (stands-of number pair there) k entered core _ _ deed acting advances enters)
   chained-after next cause sendings (by_checkpoint number pair there passes) =
-      set-all (Of w.marks) w.processes number _ all
-      (passes-chained site number w.marks pair (all number pair there) (one-of number pair there)
+      set-all (Of w.downs) w.processes number _ all
+      (passes-chained site number w.downs pair (all number pair there) (one-of number pair there)
       (stands-of number pair there) passes)
   chained-after next cause sendings (by_request request k pair sent there acting) =
-      set-all (Of w.marks) w.processes request.process _ all
-      (waiting-chained site request.process w.marks pair (all request.process pair there)
+      set-all (Of w.downs) w.processes request.process _ all
+      (waiting-chained site request.process w.downs pair (all request.process pair there)
       (one-of request.process pair there) (stands-of request.process pair there) k _)
   chained-after next cause sendings (by_early_request request k pair sent there watching) =
-      set-all (Of w.marks) w.processes request.process _ all
-      (waiting-chained site request.process w.marks pair (all request.process pair there)
+      set-all (Of w.downs) w.processes request.process _ all
+      (waiting-chained site request.process w.downs pair (all request.process pair there)
       (one-of request.process pair there) (stands-of request.process pair there) k _)
   chained-after next cause sendings (by_enter number terminal opener there even is opens) = all
   chained-after next cause sendings (by_print number terminal reply there odd sent opens is) = all
   chained-after next cause sendings (by_stop processor alive whole) =
-      map-all (Of w.marks) (stopped_pair processor) w.processes
-      (λ number pair there. stop-chained site number w.marks pair (all number pair there) (one-of number pair there)
+      map-all (Of w.downs) (stopped_pair processor) w.processes
+      (λ number pair there. stop-chained site number w.downs pair (all number pair there) (one-of number pair there)
       (stands-of number pair there) processor)
   chained-after next cause sendings (by_mark node processor down alive unmarked) =
-      map-all (Of (record { node = node; down = processor } ∷ w.marks)) (pair_at_down node processor) w.processes
-      (λ number pair there. mark-chained site number w.marks pair (all number pair there) (one-of number pair there)
+      map-all (Of (record { node = node; down = processor } ∷ w.downs)) (pair_at_down node processor) w.processes
+      (λ number pair there. mark-chained site number w.downs pair (all number pair there) (one-of number pair there)
       (stands-of number pair there) node processor (taker node processor pair) refl)
   chained-after next cause sendings (by_reload {times = times} x down noted times_is few) =
       let kept = run-kept placed reached.1 in
-      reload-all (λ number pair. IsChained (depths_of site number) (without_marks x w.marks) pair) site x w.processes
+      reload-all (λ number pair. IsChained (depths_of site number) (without_downs x w.downs) pair) site x w.processes
       (λ number pair there.
       (let both = survives site placed w kept x (record { down = down; all = noted }) number pair there in
-      reload-chained site number w.marks pair (all number pair there) (one-of number pair there)
+      reload-chained site number w.downs pair (all number pair there) (one-of number pair there)
       (stands-of number pair there) x (new_core site number (slice_get site.processes number) pair.first.core)
-      (without_marks x w.marks)
-      (λ node other is. kept.steady.one other x (marked-down w.stopped w.marks node other kept.marks is) down)
+      (without_downs x w.downs)
+      (λ node other is. kept.steady.one other x (marked-down w.stopped w.downs node other kept.downs is) down)
       (dated-of number pair there) (pair.first.processor == x) (pair.second.processor == x) refl refl both.0 both.1))
 
 -- Runs

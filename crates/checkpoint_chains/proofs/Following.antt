@@ -6,7 +6,7 @@ use Rattle.tal_tree.specs.declared.site.OpenerSpec.{OpenerSpec}
 use Rattle.checkpoint_image.specs.declared.message.ImageMessage.{ImageMessage}
 use Rattle.checkpoint_image.specs.declared.receive.ReceiveBlock.{ReceiveBlock}
 use Rattle.receive_changes.specs.Later.{ComesTo, Taken, Answered}
-use Rattle.world_semantics.specs.Core.{Advances, Core, Deed, acts, answers, asks, gets, goes, marks, takes}
+use Rattle.world_semantics.specs.Core.{Advances, Core, Deed, acts, answers, asks, gets, goes, checkpoints, takes}
 use Rattle.world_semantics.proofs.Hands.{Stands, take-hand}
 use Rattle.checkpoint_chains.specs.Chains.{GoesOnFrom}
 
@@ -20,7 +20,7 @@ pub deed-comes : (openers : List OpenerSpec) (core next : Core) (deed : Deed) �
     → ComesTo (map (λ (opener : OpenerSpec). opener.depth) openers) base core.receive
     → ComesTo (map (λ (opener : OpenerSpec). opener.depth) openers) base next.receive
 deed-comes openers core next deed (goes at) stands base came = came
-deed-comes openers core next deed (marks at) stands base came = came
+deed-comes openers core next deed (checkpoints at) stands base came = came
 deed-comes openers core next deed (takes {place = place} block at there) stands base came =
     Taken core.receive place block came
     (none-is core.receive.in_hand (sym stands.hand ∙ take-hand core.state stands.free at)) there

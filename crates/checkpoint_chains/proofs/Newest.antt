@@ -75,9 +75,9 @@ sent-new w node message newest sending (inl same) =
     (λ one is. let it : message ≡ one = cc in subst (IsNewest w) it newest)
 sent-new w node message newest sending (inr among) = absurd among
 
-passes-new : {number : ℕ} {marks : List Down} {kept after : List Act} {pair next : Pair} {cause : Cause}
+passes-new : {number : ℕ} {downs : List Down} {kept after : List Act} {pair next : Pair} {cause : Cause}
     {sendings : List Sending} (w : World)
-    → slice_get w.processes number ≡ Some next → Passes number marks kept pair cause sendings next after
+    → slice_get w.processes number ≡ Some next → Passes number downs kept pair cause sendings next after
     → (sending : Sending) → IsAmong sending sendings → IsNewestIfOne w sending.message
 passes-new {number = number} {pair = pair} w there (by_send First acting at unsent unmarked) sending among =
     sent-new w pair.first.processor (checkpoint_of number pair.first)

@@ -136,11 +136,11 @@ module _ (site : Site) (number : ℕ) (pair : Pair) (records : Records) (before 
 
 -- At a node
 
-copies-stand : (each : List ℕ) (marks : List Down) (pair : Pair) → IsChained each marks pair → (k : Which)
+copies-stand : (each : List ℕ) (downs : List Down) (pair : Pair) → IsChained each downs pair → (k : Which)
     → (noted : Bool) × StandsTo each pair.checkpoints noted (copy_of k pair).role (copy_of k pair).era
     (copy_of k pair).number (copy_of k pair).core.receive
-copies-stand each marks pair chained First = (_, chained.1.0)
-copies-stand each marks pair chained Second = (_, chained.1.1)
+copies-stand each downs pair chained First = (_, chained.1.0)
+copies-stand each downs pair chained Second = (_, chained.1.1)
 
 -- a checkpoint that was sent fits
 sent-table : (site : Site) → IsFit site → (events : List Event) (post : Post) → length events < 4294967296
@@ -173,7 +173,7 @@ comes-whole site fit events post few played before message node (old, at_old, ol
     was : IsAmong before pair.checkpoints
     was = subst (λ (p : Pair). IsAmong before p.checkpoints) (some-same (sym at_old ∙ here)) old_among
 
-    chained : IsChained (depths_of site message.process) post.world.marks pair
+    chained : IsChained (depths_of site message.process) post.world.downs pair
     chained = run-chained site fit.seats events post.world (played-run played) message.process pair there
 
     fits_before : Fits (depths_of site message.process) before.image.receive
@@ -189,4 +189,4 @@ comes-whole site fit events post few played before message node (old, at_old, ol
         step-same site message.process pair (records_of post.world) before message chained.0 was among next.era
         next.number
         fits_before (sent-table site fit events post few played message pair there among) k
-        (copies-stand (depths_of site message.process) post.world.marks pair chained k)
+        (copies-stand (depths_of site message.process) post.world.downs pair chained k)

@@ -54,21 +54,21 @@ pub record StandsTo (depths : List ℕ) (sent : List ImageMessage) (noted : Bool
   pub watches : receives role ≡ true → (number ≡ 0) ⊎ IsOfOne sent era number table
 
 abbrev pub CopyStandsTo : List ℕ → List ImageMessage → List Down → Copy → Copy → Type 0
-CopyStandsTo depths sent marks copy other =
-    StandsTo depths sent (has_noted marks copy.processor other.processor) copy.role copy.era copy.number
+CopyStandsTo depths sent downs copy other =
+    StandsTo depths sent (has_noted downs copy.processor other.processor) copy.role copy.era copy.number
     copy.core.receive
 
 -- the checkpoints of a process are a chain, and both copies stand to them
 abbrev pub IsChained : List ℕ → List Down → Pair → Type 0
-IsChained depths marks pair =
+IsChained depths downs pair =
     IsChain depths pair.checkpoints
-    × (CopyStandsTo depths pair.checkpoints marks pair.first pair.second
-    × CopyStandsTo depths pair.checkpoints marks pair.second pair.first)
+    × (CopyStandsTo depths pair.checkpoints downs pair.first pair.second
+    × CopyStandsTo depths pair.checkpoints downs pair.second pair.first)
 
 abbrev pub AllChained : Site → World → Type 0
 AllChained site w =
     (number : ℕ) (pair : Pair) → slice_get w.processes number ≡ Some pair
-    → IsChained (depths_of site number) w.marks pair
+    → IsChained (depths_of site number) w.downs pair
 
 -- a checkpoint is the last one that its process has sent
 pub record IsNewest (w : World) (message : ImageMessage) : Type 0 where

@@ -89,7 +89,7 @@ pub trait Behaviour: Drop {
         ensures files { result.now.files ≡ all_files_of (state self.now) };
 
     /// Goes on after a checkpoint.
-    fn marked(&mut self)
+    fn checkpointed(&mut self)
         requires { point (state self.old) ≡ AtCheckpoint }
         ensures { state self.new ≡ after_checkpoint (state self.old) };
 

@@ -6,7 +6,7 @@ use Rattle.world_semantics.specs.process_semantics.specs.Image.{image_of, listed
 use Rattle.world_semantics.specs.process_semantics.specs.Process.{ProcessState, point, after_checkpoint}
 use Rattle.world_semantics.specs.whole_states.specs.Processes.{IsWholeProcess}
 use Rattle.world_semantics.specs.Core.{Core, after_passing, carried, put_in, with_files, carried_whole, imaged_core}
-use Rattle.world_semantics.specs.process_images.proofs.Processes.{marked-restores, restores}
+use Rattle.world_semantics.specs.process_images.proofs.Processes.{checkpointed-restores, restores}
 use Rattle.world_semantics.specs.process_images.proofs.Everything.{everything-agrees, whole-listed}
 use Rattle.world_semantics.specs.process_images.specs.Images.{all_files_of, everything_of}
 use Rattle.checkpoint_laws.specs.Behind.{IsBehind, AgreesInHand, IsOfSame}
@@ -18,7 +18,7 @@ pub put-whole : (core stale : Core) → IsWholeProcess core.state → IsWholePro
 put-whole core stale is old at hand behind =
     ap (λ (h : Bool). option_map filled (restored stale.state h (image_of (listed_items core.state) core.state)))
     (sym hand)
-    ∙ ap (option_map filled) (marked-restores core.state stale.state is old at behind.state)
+    ∙ ap (option_map filled) (checkpointed-restores core.state stale.state is old at behind.state)
     ∙ ap (λ (next : List ℕ). Some (record { state = after_checkpoint core.state; next = next; receive = core.receive }))
     (files-restored (listed_files core.state) core stale.next behind.files behind.next)
   where

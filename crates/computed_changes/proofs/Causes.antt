@@ -30,9 +30,9 @@ own-causes (by_device n) = tt
 own-causes (by_write n) = tt
 own-causes (by_reply i o n u) = tt
 
-pub passes-causes : {number : ℕ} {marks : List Down} {kept after : List Act} {pair next : Pair} {cause : Cause}
+pub passes-causes : {number : ℕ} {downs : List Down} {kept after : List Act} {pair next : Pair} {cause : Cause}
     {sendings : List Sending}
-    → Passes number marks kept pair cause sendings next after → IsOfCopies cause
+    → Passes number downs kept pair cause sendings next after → IsOfCopies cause
 passes-causes (by_send k r p s m) = tt
 passes-causes (by_pass_again k r p m l) = tt
 passes-causes (by_pass k r p m l) = tt

@@ -14,7 +14,8 @@ use Rattle.world_semantics.specs.plain_semantics.specs.Openers.{files_of}
 use Rattle.world_semantics.specs.checkpoint_image.specs.declared.message.FileNumber.{FileNumber}
 use Rattle.world_semantics.specs.checkpoint_image.specs.declared.message.Image.{Image}
 use Rattle.world_semantics.specs.checkpoint_image.specs.declared.message.ImageMessage.{ImageMessage}
-use Rattle.world_semantics.specs.Core.{Core, Deed, Advances, goes, marks, takes, asks, gets, answers, acts, next_on}
+use Rattle.world_semantics.specs.Core.{Core, Deed, Advances, goes, checkpoints, takes, asks, gets, answers, acts}
+use Rattle.world_semantics.specs.Core.{next_on}
 use Rattle.world_semantics.specs.Core.{with_files, put_in}
 use Rattle.world_semantics.specs.declared.which.Which.{Which}
 use Rattle.world_semantics.specs.declared.which.Which.TheVariants.{First, Second}
@@ -32,7 +33,7 @@ use Rattle.computed_changes.specs.Fitting.{are_files}
 advances-length : {openers : List OpenerSpec} {core next : Core} {deed : Deed} → Advances openers core deed next
     → length next.next ≡ length core.next
 advances-length (goes p) = refl
-advances-length (marks p) = refl
+advances-length (checkpoints p) = refl
 advances-length (takes block p there) = refl
 advances-length {core = core} (asks {file = file} p f w) = length-set core.next file (next_on core file + 1)
 advances-length (gets p f) = refl

@@ -21,7 +21,8 @@ use Rattle.world_semantics.specs.checkpoint_image.specs.Receive.{after_taking, a
 use Rattle.change_layout.specs.sync_ids.specs.Tables.{is_of_depth, are_of_depths, is_unanswered, can_hold}
 use Rattle.change_layout.specs.sync_ids.proofs.Tables.{and-left, and-right, depth-at, depths-set, more-taken}
 use Rattle.change_layout.specs.sync_ids.proofs.Tables.{one-more-kept}
-use Rattle.world_semantics.specs.Core.{Core, Deed, Advances, goes, marks, takes, asks, gets, answers, acts, put_in}
+use Rattle.world_semantics.specs.Core.{Core, Deed, Advances, goes, checkpoints, takes, asks, gets, answers, acts}
+use Rattle.world_semantics.specs.Core.{put_in}
 use Rattle.world_semantics.specs.declared.which.Which.{Which}
 use Rattle.world_semantics.specs.declared.which.Which.TheVariants.{First, Second}
 use Rattle.world_semantics.specs.World.{Copy, Pair, World, copy_of, pair_at_boot, pairs_at_boot}
@@ -101,7 +102,7 @@ advances-fits : {openers : List OpenerSpec} {core next : Core} {deed : Deed} →
     → Fits (map (λ (one : OpenerSpec). one.depth) openers) core.receive
     → Fits (map (λ (one : OpenerSpec). one.depth) openers) next.receive
 advances-fits (goes p) ok = ok
-advances-fits (marks p) ok = ok
+advances-fits (checkpoints p) ok = ok
 advances-fits {core = core} (takes {place = place} block p there) ok = taking-fits _ place block core.receive there ok
 advances-fits (asks p f w) ok = ok
 advances-fits (gets p f) ok = ok

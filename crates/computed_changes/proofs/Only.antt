@@ -193,7 +193,7 @@ passes-only : (site : Site) (w : World) {number node : ℕ} {message : Message} 
     {cause : Cause} {sendings : List Sending}
     → slice_get w.processes number ≡ Some pair → AreApart pair → AreNamed number pair.checkpoints pair.takens
     → cause ≡ Handing node message → FitsWhereItComes site w node message
-    → Passes number w.marks w.kept pair cause sendings next kept
+    → Passes number w.downs w.kept pair cause sendings next kept
     → IsHanded site node message w sendings (record (with_pair number next w) { kept = kept })
 passes-only site w found apart named r fitting (by_send k role p s m) = absurd (cc)
 passes-only site w found apart named r fitting (by_pass_again k role p m l) = absurd (cc)

@@ -39,9 +39,9 @@ with-nothing : (number : ℕ) (k : Which) (copy : Copy) (pair before : Pair) →
 with-nothing number First copy pair before c t = nothing c t
 with-nothing number Second copy pair before c t = nothing c t
 
-passes-says : {number : ℕ} {marks : List Down} {kept after : List Act} {pair next : Pair} {cause : Cause}
+passes-says : {number : ℕ} {downs : List Down} {kept after : List Act} {pair next : Pair} {cause : Cause}
     {sendings : List Sending}
-    → Passes number marks kept pair cause sendings next after → Says number pair next
+    → Passes number downs kept pair cause sendings next after → Says number pair next
 passes-says (by_send k r p s m) = let same = with-same k _ _ in a_checkpoint k same.0 same.1
 passes-says {number = n} {pair = pair} (by_pass_again k r p m l) = with-nothing n k _ pair pair refl refl
 passes-says {number = n} {pair = pair} (by_pass k r p m l) = with-nothing n k _ pair pair refl refl

@@ -78,45 +78,45 @@ marked-may site node processor w s true m done e =
     (by_mark node processor s b.0 (not-true _ b.1))
 marked-may site node processor w s false m done e = absurd (cc)
 
-where-marks : (site : Site) (node processor : ℕ) (w : World) (stopped : Option Bool)
+where-downs : (site : Site) (node processor : ℕ) (w : World) (stopped : Option Bool)
     → slice_get w.stopped processor ≡ stopped → (done : Done)
     → mark_where node processor w stopped ≡ Some done
     → Change site w (NotingDown node processor) done.sendings done.world
-where-marks site node processor w (Some true) s done e = marked-may site node processor w s _ refl done e
-where-marks site node processor w (Some false) s done e = absurd (cc)
-where-marks site node processor w None s done e = absurd (cc)
+where-downs site node processor w (Some true) s done e = marked-may site node processor w s _ refl done e
+where-downs site node processor w (Some false) s done e = absurd (cc)
+where-downs site node processor w None s done e = absurd (cc)
 
 pub mark-may : (site : Site) (node processor : ℕ) (w : World) (done : Done) → down_done node processor w ≡ Some done
     → Change site w (NotingDown node processor) done.sendings done.world
-mark-may site node processor w done e = where-marks site node processor w (slice_get w.stopped processor) refl done e
+mark-may site node processor w done e = where-downs site node processor w (slice_get w.stopped processor) refl done e
 
 same-mark : {node one processor other : ℕ} → NotingDown node processor ≡ NotingDown one other
     → (node ≡ one) × (processor ≡ other)
 same-mark e = (cc, cc)
 
-change-marks : {site : Site} (node processor : ℕ) (w next : World) (cause : Cause) (sendings : List Sending)
+change-downs : {site : Site} (node processor : ℕ) (w next : World) (cause : Cause) (sendings : List Sending)
     → cause ≡ NotingDown node processor
     → Change site w cause sendings next → down_done node processor w
     ≡ Some (record { world = next; sendings = sendings })
-change-marks node processor w next cause sendings r (by_own one k pair there role c a e fr) =
+change-downs node processor w next cause sendings r (by_own one k pair there role c a e fr) =
     absurd (subst IsOfCopies r (own-causes c))
-change-marks node processor w next cause sendings r (by_checkpoint one pair there p) =
+change-downs node processor w next cause sendings r (by_checkpoint one pair there p) =
     absurd (subst IsOfCopies r (passes-causes p))
-change-marks node processor w next cause sendings r (by_request request k pair i there role) = absurd (cc)
-change-marks node processor w next cause sendings r (by_early_request request k pair i there role) = absurd (cc)
-change-marks node processor w next cause sendings r (by_enter one terminal opener t f n o) = absurd (cc)
-change-marks node processor w next cause sendings r (by_print one terminal reply t e i o n) = absurd (cc)
-change-marks node processor w next cause sendings r (by_stop x s h) = absurd (cc)
-change-marks node processor w next cause sendings r (by_mark m x s run new) =
+change-downs node processor w next cause sendings r (by_request request k pair i there role) = absurd (cc)
+change-downs node processor w next cause sendings r (by_early_request request k pair i there role) = absurd (cc)
+change-downs node processor w next cause sendings r (by_enter one terminal opener t f n o) = absurd (cc)
+change-downs node processor w next cause sendings r (by_print one terminal reply t e i o n) = absurd (cc)
+change-downs node processor w next cause sendings r (by_stop x s h) = absurd (cc)
+change-downs node processor w next cause sendings r (by_mark m x s run new) =
     let same = same-mark r in
     subst (λ n. down_done n processor w ≡ Some (record { world = next; sendings = sendings })) same.0
     (subst (λ y. down_done m y w ≡ Some (record { world = next; sendings = sendings })) same.1 (rw (s, run, new) refl))
-change-marks node processor w next cause sendings r (by_reload x s m t l) = absurd (cc)
+change-downs node processor w next cause sendings r (by_reload x s m t l) = absurd (cc)
 
 pub mark-only : {site : Site} (node processor : ℕ) (w next : World) (sendings : List Sending)
     → Change site w (NotingDown node processor) sendings next
     → down_done node processor w ≡ Some (record { world = next; sendings = sendings })
-mark-only node processor w next sendings c = change-marks node processor w next _ sendings refl c
+mark-only node processor w next sendings c = change-downs node processor w next _ sendings refl c
 
 -- Reloads
 

@@ -5,7 +5,7 @@ use Rattle.std.specs.List.{flat_map}
 use Rattle.tal_tree.specs.declared.site.Site.{Site}
 use Rattle.world_semantics.specs.World.{World, is_running, has_noted, is_noted_by_all, is_whole}
 use Rattle.world_semantics.specs.Rules.{stopped_pair, pair_at_down, told_at_down, most_reloads, reloaded_from}
-use Rattle.world_semantics.specs.Rules.{without_marks}
+use Rattle.world_semantics.specs.Rules.{without_downs}
 use Rattle.world_semantics.specs.Running.{Done}
 
 -- the world after a processor stopped
@@ -30,7 +30,7 @@ stop_done processor w = stop_where processor w (slice_get w.stopped processor)
 abbrev pub world_at_down : ℕ → ℕ → World → Done
 world_at_down node processor w = record {
   world = record w {
-    marks = record { node = node; down = processor } ∷ w.marks;
+    downs = record { node = node; down = processor } ∷ w.downs;
     processes = map (pair_at_down node processor) w.processes;
   };
   sendings = flat_map (told_at_down node processor) w.processes;
@@ -38,7 +38,7 @@ world_at_down node processor w = record {
 
 -- whether a node may mark a processor that has stopped: the node runs, and hasn't marked it
 abbrev pub may_note : ℕ → ℕ → World → Bool
-may_note node processor w = is_running w.stopped node && not (has_noted w.marks node processor)
+may_note node processor w = is_running w.stopped node && not (has_noted w.downs node processor)
 
 abbrev pub marked_where : ℕ → ℕ → World → Bool → Option Done
 marked_where node processor w true = Some (world_at_down node processor w)
@@ -59,7 +59,7 @@ abbrev pub reloaded_world : Site → ℕ → ℕ → World → World
 reloaded_world site processor times w = record w {
   stopped = slice_set w.stopped processor false;
   reloads = slice_set w.reloads processor (times + 1);
-  marks = without_marks processor w.marks;
+  downs = without_downs processor w.downs;
   processes = reloaded_from site processor 0 w.processes;
 }
 

@@ -193,7 +193,7 @@ pub fn only_what_stopped_is_marked()
         → down_done node processor w ≡ None }
     ensures node { (w : World) (node processor : ℕ) → is_running w.stopped node ≡ false
         → down_done node processor w ≡ None }
-    ensures again { (w : World) (node processor : ℕ) → has_noted w.marks node processor ≡ true
+    ensures again { (w : World) (node processor : ℕ) → has_noted w.downs node processor ≡ true
         → down_done node processor w ≡ None }
 {}
 

@@ -3,7 +3,7 @@ use Rattle.std.specs.Prelude.{ℕ, Some, None}
 use Rattle.process_semantics.specs.declared.disc.DiscState.{DiscState}
 use Rattle.process_semantics.specs.declared.point.Point.TheVariants as point
 use Rattle.disc_process.specs.declared.phase.Phase.{Phase}
-use Rattle.disc_process.specs.declared.phase.Phase.TheVariants.{Idle, Marking, Acting, Answering}
+use Rattle.disc_process.specs.declared.phase.Phase.TheVariants.{Idle, Checkpointing, Acting, Answering}
 
 -- a disc of so many sectors, and its state
 pub record Serving : Type 0 where
@@ -13,7 +13,7 @@ pub record Serving : Type 0 where
 -- the state of a disc at a phase, whose last write has this number
 abbrev pub disc_at : Phase → ℕ → DiscState
 disc_at Idle number = record { label = point.Take; request = None; reply = None; last_write = number }
-disc_at (Marking request) number =
+disc_at (Checkpointing request) number =
     record { label = point.AtCheckpoint; request = Some request; reply = None; last_write = number }
 disc_at (Acting request) number =
     record { label = point.Device; request = Some request; reply = None; last_write = number }

@@ -6,7 +6,7 @@ pub enum Phase {
     /// No request is in hand.
     Idle,
     /// The request was taken, and a checkpoint comes next.
-    Marking(Words),
+    Checkpointing(Words),
     /// The request is to be acted on.
     Acting(Words),
     /// The device has acted, and the reply comes next.

@@ -105,8 +105,8 @@ impl Behaviour for DiscProcess {
         &self.listed
     }
 
-    fn marked(&mut self) {
-        self.progress.marked();
+    fn checkpointed(&mut self) {
+        self.progress.checkpointed();
     }
 
     fn image(&self, alloc: Global, _listed: &Listed) -> Result<List<i16>, NoMemory> {

@@ -46,7 +46,7 @@ impl Progress {
     {
         match &self.phase {
             Phase::Idle => Point::Take,
-            Phase::Marking(_) => Point::AtCheckpoint,
+            Phase::Checkpointing(_) => Point::AtCheckpoint,
             Phase::Acting(_) => Point::Device,
             Phase::Answering { .. } => Point::Answer,
         }
@@ -59,7 +59,7 @@ impl Progress {
         ensures waiting { self.now.label ≢ Await }
     {
         match &self.phase {
-            Phase::Idle | Phase::Marking(_) | Phase::Acting(_) | Phase::Answering { .. } => {}
+            Phase::Idle | Phase::Checkpointing(_) | Phase::Acting(_) | Phase::Answering { .. } => {}
         }
     }
 
@@ -76,7 +76,7 @@ impl Progress {
     {
         match &self.phase {
             Phase::Idle => None,
-            Phase::Marking(request) | Phase::Acting(request) => Some(request),
+            Phase::Checkpointing(request) | Phase::Acting(request) => Some(request),
             Phase::Answering { request, .. } => Some(request),
         }
     }
@@ -86,7 +86,7 @@ impl Progress {
         ensures { option_copied result ≡ self.now.reply }
     {
         match &self.phase {
-            Phase::Idle | Phase::Marking(_) | Phase::Acting(_) => None,
+            Phase::Idle | Phase::Checkpointing(_) | Phase::Acting(_) => None,
             Phase::Answering { reply, .. } => Some(reply),
         }
     }
@@ -97,18 +97,18 @@ impl Progress {
         ensures { self.new ≡ disc_took self.old words.now }
     {
         match &self.phase {
-            Phase::Idle => self.phase = Phase::Marking(words.copy()),
+            Phase::Idle => self.phase = Phase::Checkpointing(words.copy()),
             _ => unreachable!(),
         }
     }
 
     /// The step at a checkpoint.
-    pub fn marked(&mut self)
+    pub fn checkpointed(&mut self)
         requires { self.old.label ≡ AtCheckpoint }
         ensures { self.new ≡ disc_checkpointed self.old }
     {
         match mem::replace(&mut self.phase, Phase::Idle) {
-            Phase::Marking(request) => self.phase = Phase::Acting(request),
+            Phase::Checkpointing(request) => self.phase = Phase::Acting(request),
             _ => unreachable!(),
         }
     }

@@ -16,13 +16,13 @@ pub accepted-disciplined : (site : Site) (number : ℕ) (spec : ProcessSpec) (pr
     → spec.what ≡ kind.Pair program → IsRegular program → IsAccepted program
     → IsDisciplined site number spec
 accepted-disciplined site number spec program is regular accepted = record {
-  resume = λ since before core stale done unmarked bounded at old.
-      resume site number spec program is regular accepted since before done unmarked bounded at old;
-  quiet = λ since before place words core done unmarked.
-      quiet site number spec program is regular accepted since before place words done unmarked;
-  once = λ since before call found core done unmarked.
-      once site number spec program is regular since before call found done unmarked;
-  depth = λ since before file use_of core done unmarked there.
-      depth site number spec program is regular accepted since before file use_of done unmarked
+  resume = λ since before core stale done uncheckpointed bounded at old.
+      resume site number spec program is regular accepted since before done uncheckpointed bounded at old;
+  quiet = λ since before place words core done uncheckpointed.
+      quiet site number spec program is regular accepted since before place words done uncheckpointed;
+  once = λ since before call found core done uncheckpointed.
+      once site number spec program is regular since before call found done uncheckpointed;
+  depth = λ since before file use_of core done uncheckpointed there.
+      depth site number spec program is regular accepted since before file use_of done uncheckpointed
       (sym (ap (λ (what : Kind). slice_get (files_of what) file) is) ∙ there);
 }

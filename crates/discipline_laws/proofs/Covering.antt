@@ -26,7 +26,7 @@ use Rattle.checkpoint_laws.specs.plain_semantics.specs.Openers.{openers_of}
 use Rattle.checkpoint_laws.specs.whole_states.specs.Processes.{IsRegularKind}
 use Rattle.checkpoint_laws.specs.world_semantics.specs.Core.{Core, Deed, Went, Checkpointed, Took, Asked, Got, Answered}
 use Rattle.checkpoint_laws.specs.world_semantics.specs.Core.{Advances, goes}
-use Rattle.checkpoint_laws.specs.world_semantics.specs.Core.{marks, takes, asks, gets, answers, acts}
+use Rattle.checkpoint_laws.specs.world_semantics.specs.Core.{checkpoints, takes, asks, gets, answers, acts}
 use Rattle.path_steps.specs.path_semantics.specs.Break.{asked_count}
 use Rattle.path_steps.specs.path_semantics.specs.Dues.{no_dues}
 use Rattle.path_steps.specs.path_semantics.specs.Path.{Steps, Leads}
@@ -35,7 +35,8 @@ use Rattle.path_steps.specs.path_semantics.specs.Place.{stands_after, first_stan
 use Rattle.path_steps.specs.path_semantics.specs.declared.dues.Dues.{Dues}
 use Rattle.path_steps.specs.path_semantics.proofs.Walks.{leads-more}
 use Rattle.path_steps.specs.Step.{stand_of, StaysOrGoesOn, FollowsPath, HasRoom}
-use Rattle.path_steps.proofs.Stepping.{inner-steps, took-steps, asked-steps, got-steps, answered-steps, marked-steps}
+use Rattle.path_steps.proofs.Stepping.{inner-steps, took-steps, asked-steps, got-steps, answered-steps}
+use Rattle.path_steps.proofs.Stepping.{checkpointed-steps}
 use Rattle.path_steps.proofs.Stepping.{asked-room}
 use Rattle.process_histories.specs.Histories.{HasDone, nothing_done, one_more, unmirrored}
 use Rattle.process_histories.specs.Words.{ask_on, requests_on, awaits_on, one_if}
@@ -43,7 +44,7 @@ use Rattle.process_histories.proofs.Counts.{count-more, none-awaited, one-awaite
 use Rattle.process_histories.proofs.Deeds.{point_of, stands-there, done-one}
 use Rattle.process_histories.proofs.OneKind.{done-kind}
 use Rattle.process_histories.proofs.Steady.{IsCalm, start-calm, inner-calm, took-calm, got-calm, answered-calm}
-use Rattle.process_histories.proofs.Steady.{marked-calm, device-calm, asked-awaits, done-steady}
+use Rattle.process_histories.proofs.Steady.{checkpointed-calm, device-calm, asked-awaits, done-steady}
 use Rattle.discipline_laws.specs.Covered.{IsCovered}
 use Rattle.discipline_laws.specs.Disciplined.{IsCheckpoint, AreUncheckpointed}
 use Rattle.discipline_laws.proofs.Programs.{runs-same, program-same, running, deed-alive}
@@ -127,33 +128,34 @@ module _ {site : Site} {number : ℕ} {spec : ProcessSpec} {program : Program} w
           → AreUncheckpointed since → HasDone site number spec before stale
           → stale.state ≡ Runs program old → (item : ℕ) → is_among item later.globals ≡ false
           → words_of t.globals item ≡ words_of old.globals item
-      now-globals [] before stale old split unmarked again is item e =
+      now-globals [] before stale old split uncheckpointed again is item e =
           let same : stale ≡ core = done-one (subst (λ d. HasDone site number spec d stale) (sym split) again) done in
           let states : t ≡ old = runs-same (sym at ∙ ap (λ (c : Core). c.state) (sym same) ∙ is) in
           ap (λ (u : ProgramState). words_of u.globals item) states
-      now-globals (one ∷ since) before stale old split unmarked again is item e =
+      now-globals (one ∷ since) before stale old split uncheckpointed again is item e =
           step.words item e ∙ covered.globals since before stale old (ap (λ (d : List Deed). drop 1 d) split)
-          unmarked.1 again is item (step.due item e)
+          uncheckpointed.1 again is item (step.due item e)
 
       now-asked : (since before : List Deed) (file : ℕ) → deed ∷ deeds ≡ since ++ before → AreUncheckpointed since
           → length (requests_on file since) ≤ most_asked program later t file
-      now-asked [] before file split unmarked = omega arith
-      now-asked (one ∷ since) before file split unmarked =
+      now-asked [] before file split uncheckpointed = omega arith
+      now-asked (one ∷ since) before file split uncheckpointed =
           let same : deed ≡ one = cc in
           subst (λ (d : Deed). length (requests_on file (d ∷ since)) ≤ most_asked program later t file) same
-          (asked file since (covered.asked since before file (ap (λ (d : List Deed). drop 1 d) split) unmarked.1))
+          (asked file since (covered.asked since before file (ap (λ (d : List Deed). drop 1 d) split) uncheckpointed.1))
 
       now-read : (since before : List Deed) (place : ℕ) (words : List ℤ)
           → deed ∷ deeds ≡ since ++ Took place words ∷ before → AreUncheckpointed since → later.read ≡ true
-      now-read [] before place words split unmarked = let same : deed ≡ Took place words = cc in read place words same
-      now-read (one ∷ since) before place words split unmarked =
-          step.read (covered.read since before place words (ap (λ (d : List Deed). drop 1 d) split) unmarked.1)
+      now-read [] before place words split uncheckpointed = let same : deed ≡ Took place words = cc in read place
+          words same
+      now-read (one ∷ since) before place words split uncheckpointed =
+          step.read (covered.read since before place words (ap (λ (d : List Deed). drop 1 d) split) uncheckpointed.1)
 
   -- a checkpoint leaves nothing due
-  mark-covered : {deeds : List Deed} {core : Core} (t : ProgramState) (path : List ℕ)
+  checkpoint-covered : {deeds : List Deed} {core : Core} (t : ProgramState) (path : List ℕ)
       → HasDone site number spec (Checkpointed ∷ deeds) core → core.state ≡ Runs program t
       → Leads program path (stand_of no_dues t) → IsCovered site number spec program (Checkpointed ∷ deeds) t
-  mark-covered {deeds = deeds} {core = core} t path done at leads = record {
+  checkpoint-covered {deeds = deeds} {core = core} t path done at leads = record {
     dues = no_dues;
     path = path;
     leads = leads;
@@ -166,24 +168,24 @@ module _ {site : Site} {number : ℕ} {spec : ProcessSpec} {program : Program} w
           → Checkpointed ∷ deeds ≡ since ++ before → AreUncheckpointed since → HasDone site number spec before stale
           → stale.state ≡ Runs program old → (item : ℕ) → is_among item [] ≡ false
           → words_of t.globals item ≡ words_of old.globals item
-      now-globals [] before stale old split unmarked again is item e =
+      now-globals [] before stale old split uncheckpointed again is item e =
           let same : stale ≡ core = done-one (subst (λ d. HasDone site number spec d stale) (sym split) again) done in
           let states : t ≡ old = runs-same (sym at ∙ ap (λ (c : Core). c.state) (sym same) ∙ is) in
           ap (λ (u : ProgramState). words_of u.globals item) states
-      now-globals (one ∷ since) before stale old split unmarked again is item e =
-          let same : Checkpointed ≡ one = cc in absurd (unmarked.0 (subst IsCheckpoint same tt))
+      now-globals (one ∷ since) before stale old split uncheckpointed again is item e =
+          let same : Checkpointed ≡ one = cc in absurd (uncheckpointed.0 (subst IsCheckpoint same tt))
 
       now-asked : (since before : List Deed) (file : ℕ) → Checkpointed ∷ deeds ≡ since ++ before
           → AreUncheckpointed since → length (requests_on file since) ≤ most_asked program no_dues t file
-      now-asked [] before file split unmarked = omega arith
-      now-asked (one ∷ since) before file split unmarked =
-          let same : Checkpointed ≡ one = cc in absurd (unmarked.0 (subst IsCheckpoint same tt))
+      now-asked [] before file split uncheckpointed = omega arith
+      now-asked (one ∷ since) before file split uncheckpointed =
+          let same : Checkpointed ≡ one = cc in absurd (uncheckpointed.0 (subst IsCheckpoint same tt))
 
       now-read : (since before : List Deed) (place : ℕ) (words : List ℤ)
           → Checkpointed ∷ deeds ≡ since ++ Took place words ∷ before → AreUncheckpointed since → false ≡ true
-      now-read [] before place words split unmarked = absurd (cc)
-      now-read (one ∷ since) before place words split unmarked =
-          let same : Checkpointed ≡ one = cc in absurd (unmarked.0 (subst IsCheckpoint same tt))
+      now-read [] before place words split uncheckpointed = absurd (cc)
+      now-read (one ∷ since) before place words split uncheckpointed =
+          let same : Checkpointed ≡ one = cc in absurd (uncheckpointed.0 (subst IsCheckpoint same tt))
 
   -- where a reply is awaited there is room for it
   done-room : {deeds : List Deed} {core : Core} (s : ProgramState) → IsRegularKind spec.what
@@ -191,8 +193,8 @@ module _ {site : Site} {number : ℕ} {spec : ProcessSpec} {program : Program} w
   done-room s regular nothing_done is = calm-room _ s (start-calm spec.what regular) is
   done-room s regular (one_more {before = core} done (goes at)) is =
       calm-room _ s (inner-calm core.state (done-steady regular done)) is
-  done-room s regular (one_more {before = core} done (marks at)) is =
-      calm-room _ s (marked-calm core.state (done-steady regular done) at) is
+  done-room s regular (one_more {before = core} done (checkpoints at)) is =
+      calm-room _ s (checkpointed-calm core.state (done-steady regular done) at) is
   done-room s regular (one_more {before = core} done (takes {words = words} block at there)) is =
       calm-room _ s (took-calm core.state words (done-steady regular done) at) is
   done-room s regular (one_more {before = core} done (asks at file words)) is = by core.state at is
@@ -239,14 +241,14 @@ module _ {site : Site} {number : ℕ} {spec : ProcessSpec} {program : Program} w
           (more-covered Went u (inner program u) step.0 (one_more done (goes stands)) state covered step.1
           (λ file others few. grown point.Inner (λ e. cc) stands step.1 file (length (requests_on file others)) few)
           (λ place words e. absurd (cc)))
-      by (marks stands) at =
+      by (checkpoints stands) at =
           let state : process.after_checkpoint core.state ≡ Runs program (after_checkpoint u) =
           ap process.after_checkpoint is in
           let found = path-on program covered.path (stand_of covered.dues u) (stand_of no_dues (after_checkpoint u))
-          covered.leads (marked-steps program covered.dues u (placed stands)) in
+          covered.leads (checkpointed-steps program covered.dues u (placed stands)) in
           subst (λ (t : ProgramState). IsCovered site number spec program (Checkpointed ∷ deeds) t)
           (runs-same (sym state ∙ at))
-          (mark-covered (after_checkpoint u) found.0 (one_more done (marks stands)) state found.1)
+          (checkpoint-covered (after_checkpoint u) found.0 (one_more done (checkpoints stands)) state found.1)
       by (takes {place = place} {words = words} block stands known) at =
           let state : process.after_took core.state words ≡ Runs program (after_took program u words) =
           ap (λ (c : ProcessState). process.after_took c words) is in
@@ -313,10 +315,10 @@ module _ {site : Site} {number : ℕ} {spec : ProcessSpec} {program : Program} w
     path = [];
     leads = subst (λ (t : ProgramState). Leads program [] (settled no_dues (place_of t.frames))) is
         (by (slice_get program.procedures program.main) refl);
-    globals = λ since before stale old split unmarked again there item e.
+    globals = λ since before stale old split uncheckpointed again there item e.
         first-same since before stale old split again there item;
-    asked = λ since before file split unmarked. none-asked since before file split;
-    read = λ since before place words split unmarked. absurd (none-taken since before place words split);
+    asked = λ since before file split uncheckpointed. none-asked since before file split;
+    read = λ since before place words split uncheckpointed. absurd (none-taken since before place words split);
   }
     where
       by : (main : Option Procedure) → slice_get program.procedures program.main ≡ main

@@ -15,7 +15,7 @@ use Rattle.checkpoint_laws.specs.plain_semantics.specs.Openers.{openers_of}
 use Rattle.checkpoint_laws.specs.whole_states.specs.Processes.{IsRegularKind}
 use Rattle.checkpoint_laws.specs.world_semantics.specs.Core.{Core, Deed, Went, Checkpointed, Took, Asked, Got, Answered}
 use Rattle.checkpoint_laws.specs.world_semantics.specs.Core.{Acted, Advances}
-use Rattle.checkpoint_laws.specs.world_semantics.specs.Core.{goes, marks, takes, asks, gets, answers, acts}
+use Rattle.checkpoint_laws.specs.world_semantics.specs.Core.{goes, checkpoints, takes, asks, gets, answers, acts}
 use Rattle.checkpoint_laws.specs.world_semantics.specs.Core.{after_passing, carried, put_in}
 use Rattle.process_histories.specs.Bounds.{AreBounded}
 use Rattle.process_histories.specs.Histories.{HasDone, one_more, kind_of, unmirrored}
@@ -26,14 +26,14 @@ use Rattle.process_histories.proofs.Steady.{IsSteady, done-steady}
 use Rattle.discipline_laws.specs.Disciplined.{IsCheckpoint, AreUncheckpointed, AreInner, IsCall, AreIdle, IsDisciplined}
 use Rattle.discipline_laws.proofs.Resuming.{resume-from}
 
-mark-only : (deed : Deed) → point_of deed ≡ point.AtCheckpoint → deed ≡ Checkpointed
-mark-only Went e = absurd (cc)
-mark-only Checkpointed e = refl
-mark-only (Took place words) e = absurd (cc)
-mark-only (Asked file words) e = absurd (cc)
-mark-only (Got file words) e = absurd (cc)
-mark-only (Answered place words) e = absurd (cc)
-mark-only (Acted call found) e = absurd (cc)
+checkpoint-only : (deed : Deed) → point_of deed ≡ point.AtCheckpoint → deed ≡ Checkpointed
+checkpoint-only Went e = absurd (cc)
+checkpoint-only Checkpointed e = refl
+checkpoint-only (Took place words) e = absurd (cc)
+checkpoint-only (Asked file words) e = absurd (cc)
+checkpoint-only (Got file words) e = absurd (cc)
+checkpoint-only (Answered place words) e = absurd (cc)
+checkpoint-only (Acted call found) e = absurd (cc)
 
 module _ (site : Site) (number sectors : ℕ) (mirrored : Bool) (spec : ProcessSpec)
     (is : spec.what ≡ kind.Disc sectors mirrored) where
@@ -68,7 +68,7 @@ module _ (site : Site) (number sectors : ℕ) (mirrored : Bool) (spec : ProcessS
       → AreUncheckpointed since → AreBounded (since ++ before)
       → process.point core.state ≡ point.AtCheckpoint → HasDone site number spec before stale
       → put_in stale (carried core) ≡ Some (after_passing core)
-  disc-resume since before core stale done unmarked bounded at old =
+  disc-resume since before core stale done uncheckpointed bounded at old =
       let s = serves done in
       let t = serves old in
       let agrees : Agrees (listed_items core.state) stale.state core.state = rw (s.1, t.1) refl in
@@ -78,23 +78,23 @@ module _ (site : Site) (number sectors : ℕ) (mirrored : Bool) (spec : ProcessS
   after-take : (since before : List Deed) (place : ℕ) (words : List ℤ) {core : Core}
       → HasDone site number spec (since ++ Took place words ∷ before) core → AreUncheckpointed since
       → (since ≡ []) × (process.point core.state ≡ point.AtCheckpoint)
-  after-take [] before place words (one_more {before = core} done (takes block at there)) unmarked =
+  after-take [] before place words (one_more {before = core} done (takes block at there)) uncheckpointed =
       let s = serves done in (refl, rw s.1 refl)
-  after-take (deed ∷ since) before place words (one_more done moves) unmarked =
-      let here = after-take since before place words done unmarked.1 in
-      let mark : deed ≡ Checkpointed = mark-only deed (sym (stands-there moves) ∙ here.1) in
-      absurd (unmarked.0 (subst IsCheckpoint (sym mark) tt))
+  after-take (deed ∷ since) before place words (one_more done moves) uncheckpointed =
+      let here = after-take since before place words done uncheckpointed.1 in
+      let checkpoint : deed ≡ Checkpointed = checkpoint-only deed (sym (stands-there moves) ∙ here.1) in
+      absurd (uncheckpointed.0 (subst IsCheckpoint (sym checkpoint) tt))
 
   -- after a call a disc isn't at its device until its next checkpoint
   after-call : (since before : List Deed) (call : DeviceCall) (found : List ℤ) {core : Core}
       → HasDone site number spec (since ++ Acted call found ∷ before) core → AreUncheckpointed since
       → AreIdle since × (process.point core.state ≢ point.Device)
-  after-call [] before call found (one_more {before = core} done (acts at named)) unmarked =
+  after-call [] before call found (one_more {before = core} done (acts at named)) uncheckpointed =
       let s = serves done in (tt, rw s.1 (λ e. cc))
-  after-call (deed ∷ since) before call found (one_more {before = core} done moves) unmarked =
-      let old = after-call since before call found done unmarked.1 in
+  after-call (deed ∷ since) before call found (one_more {before = core} done moves) uncheckpointed =
+      let old = after-call since before call found done uncheckpointed.1 in
       let s = serves done in
-      ((no-call deed moves old.1, old.0), later s.0 s.1 moves old.1 unmarked.0)
+      ((no-call deed moves old.1, old.0), later s.0 s.1 moves old.1 uncheckpointed.0)
     where
       no-call : (deed : Deed) {next : Core} → Advances (openers_of site number) core deed next
           → process.point core.state ≢ point.Device → IsCall deed → ⊥
@@ -109,20 +109,21 @@ module _ (site : Site) (number sectors : ℕ) (mirrored : Bool) (spec : ProcessS
       later : (s : DiscState) → core.state ≡ Serves sectors s → {deed : Deed} {next : Core}
           → Advances (openers_of site number) core deed next
           → process.point core.state ≢ point.Device → (IsCheckpoint deed → ⊥) → process.point next.state ≢ point.Device
-      later s same (goes at) away mark = rw same (λ e. away (ap process.point same ∙ e))
-      later s same (marks at) away mark = absurd (mark tt)
-      later s same (takes block at there) away mark = rw same (λ e. cc)
-      later s same (asks at named said) away mark = rw same (λ e. away (ap process.point same ∙ e))
-      later s same (gets at named) away mark = rw same (λ e. away (ap process.point same ∙ e))
-      later s same (answers opener block at hand known there said) away mark = rw same (λ e. cc)
-      later s same (acts at named) away mark = absurd (away at)
+      later s same (goes at) away checkpoint = rw same (λ e. away (ap process.point same ∙ e))
+      later s same (checkpoints at) away checkpoint = absurd (checkpoint tt)
+      later s same (takes block at there) away checkpoint = rw same (λ e. cc)
+      later s same (asks at named said) away checkpoint = rw same (λ e. away (ap process.point same ∙ e))
+      later s same (gets at named) away checkpoint = rw same (λ e. away (ap process.point same ∙ e))
+      later s same (answers opener block at hand known there said) away checkpoint = rw same (λ e. cc)
+      later s same (acts at named) away checkpoint = absurd (away at)
 
   pub disc-disciplined : IsDisciplined site number spec
   disc-disciplined = record {
     resume = disc-resume;
-    quiet = λ since before place words core done unmarked.
-        subst AreInner (sym (after-take since before place words done unmarked).0) tt;
-    once = λ since before call found core done unmarked. (after-call since before call found done unmarked).0;
-    depth = λ since before file use_of core done unmarked there. let none =
+    quiet = λ since before place words core done uncheckpointed.
+        subst AreInner (sym (after-take since before place words done uncheckpointed).0) tt;
+    once = λ since before call found core done uncheckpointed.
+        (after-call since before call found done uncheckpointed).0;
+    depth = λ since before file use_of core done uncheckpointed there. let none =
         none-asked since before done file in omega (arith, none);
   }

@@ -38,7 +38,7 @@ use Rattle.checkpoint_laws.specs.whole_states.specs.Whole.{AreFrames, IsWhole}
 use Rattle.checkpoint_laws.proofs.Putting.{put-whole, put-everything}
 use Rattle.checkpoint_laws.specs.world_semantics.specs.Core.{Core, Deed, after_passing, carried, put_in, acts, answers}
 use Rattle.checkpoint_laws.specs.world_semantics.specs.Core.{asks, carried_whole}
-use Rattle.checkpoint_laws.specs.world_semantics.specs.Core.{gets, goes, imaged_core, marks, takes}
+use Rattle.checkpoint_laws.specs.world_semantics.specs.Core.{gets, goes, imaged_core, checkpoints, takes}
 use Rattle.checkpoint_laws.specs.world_semantics.proofs.Lists.{some-same}
 use Rattle.path_steps.specs.path_semantics.specs.Accepted.{IsAccepted}
 use Rattle.path_steps.specs.path_semantics.specs.Break.{breaks_by}
@@ -185,7 +185,7 @@ module _ {site : Site} {number : ℕ} {spec : ProcessSpec} where
       → length (requests_on file deeds) ≡ 0
   none-asked regular nothing_done file apart = refl
   none-asked regular (one_more done (goes at)) file apart = none-asked regular done file apart
-  none-asked regular (one_more done (marks at)) file apart = none-asked regular done file apart
+  none-asked regular (one_more done (checkpoints at)) file apart = none-asked regular done file apart
   none-asked regular (one_more done (takes block at there)) file apart = none-asked regular done file apart
   none-asked regular (one_more done (gets at named)) file apart = none-asked regular done file apart
   none-asked regular (one_more done (answers opener block at hand known there said)) file apart =
@@ -239,7 +239,7 @@ module _ (site : Site) (number : ℕ) (spec : ProcessSpec) (program : Program) (
       → (here : IsSafe site number spec program is point.AtCheckpoint done)
       → IsCheckpointOf (out-What here.stands.statement.what) → (old : ProgramState) → stale.state ≡ Runs program old
       → put_in stale (carried core) ≡ Some (after_passing core)
-  resume-at since before {core = core} {stale = stale} done unmarked bounded at again here listed old was =
+  resume-at since before {core = core} {stale = stale} done uncheckpointed bounded at again here listed old was =
       resume-from since before (rw is regular) done bounded at again agrees none-asked
     where
       items : listed_items (Runs program here.s) ≡ listed.items
@@ -263,7 +263,7 @@ module _ (site : Site) (number : ℕ) (spec : ProcessSpec) (program : Program) (
 
       same-words : AgreeBut program (listed_items (Runs program here.s)) old.globals here.s.globals
       same-words item may apart =
-          sym (here.covered.globals since before stale old refl unmarked again was item
+          sym (here.covered.globals since before stale old refl uncheckpointed again was item
           (due-item item (not_among item listed.items (λ among. apart (subst (IsAmong item) (sym items) among)))))
 
       agrees : Agrees (listed_items core.state) stale.state core.state
@@ -273,7 +273,7 @@ module _ (site : Site) (number : ℕ) (spec : ProcessSpec) (program : Program) (
       none-asked file apart =
           let free = due-file file (not_among file listed.files
           (λ among. apart (subst (IsAmong file) (sym files) among))) in
-          let few = here.covered.asked since before file refl unmarked in
+          let few = here.covered.asked since before file refl uncheckpointed in
           let none = none-more program here.covered.dues here.s file
           (λ e. let f : point.AtCheckpoint ≡ point.Await = sym at ∙ ap process.point here.same ∙ e in cc) in
           let count = none-counted file here.covered.dues.asked free in
@@ -283,7 +283,7 @@ module _ (site : Site) (number : ℕ) (spec : ProcessSpec) (program : Program) (
       → HasDone site number spec (since ++ before) core → AreUncheckpointed since
       → AreBounded (since ++ before) → process.point core.state ≡ point.AtCheckpoint
       → HasDone site number spec before stale → put_in stale (carried core) ≡ Some (after_passing core)
-  resume accepted since before done unmarked bounded at again =
+  resume accepted since before done uncheckpointed bounded at again =
       let here = safe site number spec program is regular accepted point.AtCheckpoint done (λ e. cc) (λ e. cc) at in
       let old = runs site number spec program is again in
-      resume-at since before done unmarked bounded at again here (checkpoint-of here.stands.call) old.s old.same
+      resume-at since before done uncheckpointed bounded at again here (checkpoint-of here.stands.call) old.s old.same

@@ -39,12 +39,12 @@ use Rattle.discipline_laws.proofs.Programs.{IsRunning, running}
 pub breaks-read : {program : Program} {s : ProgramState} {what : What-F What Statement} {p : Point}
     → AtCall program s what p → p ≢ point.Inner → p ≢ point.Take
     → p ≢ point.AtCheckpoint → (dues : Dues) → (sends what && dues.read) ≡ dues.read
-breaks-read inside inner take mark dues = absurd (inner refl)
-breaks-read (at_read buffer most got free good) inner take mark dues = absurd (take refl)
-breaks-read (at_ask file buffer send room got calm good) inner take mark dues = refl
-breaks-read (at_await file buffer send room got awaits) inner take mark dues = refl
-breaks-read (at_reply buffer count held) inner take mark dues = refl
-breaks-read (at_checkpoint items files) inner take mark dues = absurd (mark refl)
+breaks-read inside inner take checkpoint dues = absurd (inner refl)
+breaks-read (at_read buffer most got free good) inner take checkpoint dues = absurd (take refl)
+breaks-read (at_ask file buffer send room got calm good) inner take checkpoint dues = refl
+breaks-read (at_await file buffer send room got awaits) inner take checkpoint dues = refl
+breaks-read (at_reply buffer count held) inner take checkpoint dues = refl
+breaks-read (at_checkpoint items files) inner take checkpoint dues = absurd (checkpoint refl)
 
 and-second : (a b : Bool) → a ≡ true → (a && b) ≡ false → b ≡ false
 and-second true b t e = e

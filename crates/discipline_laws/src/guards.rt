@@ -14,9 +14,10 @@ pub fn a_careless_program_is_not_disciplined()
 
 /// What may be done since a checkpoint, after a take, and between two calls of a device.
 pub fn deeds_are_told_apart()
-    ensures unmarked { AreUncheckpointed (Went ∷ Took 0 [] ∷ Asked 0 [] ∷ Got 0 [] ∷ Answered 0 [] ∷ Acted Nothing []
+    ensures uncheckpointed { AreUncheckpointed (Went ∷ Took 0 [] ∷ Asked 0 [] ∷ Got 0 [] ∷ Answered 0 [] ∷ Acted
+        Nothing []
         ∷ []) }
-    ensures marked { AreUncheckpointed (Went ∷ Checkpointed ∷ []) → ⊥ }
+    ensures checkpointed { AreUncheckpointed (Went ∷ Checkpointed ∷ []) → ⊥ }
     ensures inner { AreInner (Went ∷ Went ∷ []) }
     ensures not_inner { AreInner (Went ∷ Got 0 [] ∷ []) → ⊥ }
     ensures idle { AreIdle (Went ∷ Checkpointed ∷ Took 0 [] ∷ Answered 0 [] ∷ []) }

@@ -61,7 +61,7 @@ taken_in before = if before then fate.CameAgain else fate.Came
 -- of a processor that it has marked
 abbrev pub taken_fate : Packeted → Packet → Fate
 taken_fate s packet =
-    if has_noted s.world.marks packet.receiver packet.sender then fate.Refused
+    if has_noted s.world.downs packet.receiver packet.sender then fate.Refused
     else taken_in (had_come (sort_of packet.kind) (end_at s.wires.nodes packet.receiver packet.sender))
 
 abbrev pub current_fate : Packeted → Packet → Fate

@@ -158,7 +158,7 @@ fn current_fate(machine: &Machine, packet: &Packet) -> Fate
     let end = machine.end_at(packet.receiver, packet.sender);
     if !is_current_at(packet, end) {
         Fate::Old
-    } else if machine.marks().has(packet.receiver, packet.sender) {
+    } else if machine.downs().has(packet.receiver, packet.sender) {
         Fate::Refused
     } else {
         taken_in(had_come(sort_of(&packet.kind), end))

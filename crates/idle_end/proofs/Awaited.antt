@@ -59,7 +59,7 @@ module _ {site : Site} {events : ℕ} {post : Post} (end : IsEnd site events pos
       runs : is_running post.world.stopped (copy_of k pair).processor ≡ true
       runs = acts-runs end opener.server pair k there role
 
-      route : route_of post.world.marks asker pair ≡ (copy_of k pair).processor
+      route : route_of post.world.downs asker pair ≡ (copy_of k pair).processor
       route = route-acts end asker opener.server pair k here there role
 
       seen : HasSeen post asker one (copy_of k pair) opener n → StandsThere (copy_of k pair).core opener.place n

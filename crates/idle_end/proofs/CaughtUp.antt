@@ -14,7 +14,7 @@ use Rattle.process_semantics.specs.declared.point.Point.TheVariants as point
 use Rattle.process_semantics.specs.Process as process
 use Rattle.plain_semantics.specs.declared.slot.Opener.{Opener}
 use Rattle.plain_semantics.specs.Openers.{openers_of, opener_of}
-use Rattle.world_semantics.specs.Core.{Core, Deed, Advances, goes, marks, takes, asks, gets, answers, acts}
+use Rattle.world_semantics.specs.Core.{Core, Deed, Advances, goes, checkpoints, takes, asks, gets, answers, acts}
 use Rattle.world_semantics.specs.Laws.{HasGrown}
 use Rattle.world_semantics.proofs.Lists.{some-same, grown-one, grown-both}
 use Rattle.process_histories.specs.Histories.{HasDone}
@@ -113,7 +113,7 @@ module _ (site : Site) (regular : AreRegular site) (end : Ledger)
             → IsAllowed site ledger number spec deed
             → AwaitsMore number (ledger.deeds number) before → ⊥
         got (goes stands) allowed awaits = let at = awaits.0 in cc
-        got (marks stands) allowed awaits = let at = awaits.0 in cc
+        got (checkpoints stands) allowed awaits = let at = awaits.0 in cc
         got (takes block stands known) allowed awaits = let at = awaits.0 in cc
         got (asks stands named said) allowed awaits = let at = awaits.0 in cc
         got (answers opener block stands hand known placed said) allowed awaits = let at = awaits.0 in cc

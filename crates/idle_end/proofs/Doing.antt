@@ -11,7 +11,8 @@ use Rattle.process_semantics.specs.Process as process
 use Rattle.plain_semantics.specs.Openers.{openers_of}
 use Rattle.world_semantics.specs.declared.role.Role.TheVariants.{Acting}
 use Rattle.world_semantics.specs.declared.which.Which.{Which}
-use Rattle.world_semantics.specs.Core.{Core, Deed, Took, Got, Advances, goes, marks, takes, asks, gets, answers, acts}
+use Rattle.world_semantics.specs.Core.{Core, Deed, Took, Got, Advances, goes, checkpoints, takes, asks, gets}
+use Rattle.world_semantics.specs.Core.{answers, acts}
 use Rattle.world_semantics.specs.Kept.{own_acts}
 use Rattle.world_semantics.specs.Own.{by_inner, by_ask, by_answer, by_device, by_write, is_new_write}
 use Rattle.world_semantics.specs.Passes.{by_send, by_pass, by_pass_again}
@@ -43,22 +44,22 @@ module _ {site : Site} {events : ℕ} {post : Post} (end : IsEnd site events pos
           (by_send k role (inr (is, away)) (end.idle.waits number pair k there role)
           (end.renewing number pair k there is))))
 
-  marks-none : (number : ℕ) (pair : Pair) (k : Which) → slice_get post.world.processes number ≡ Some pair
+  downs-none : (number : ℕ) (pair : Pair) (k : Which) → slice_get post.world.processes number ≡ Some pair
       → (copy_of k pair).role ≡ Acting
       → process.point (copy_of k pair).core.state ≡ point.AtCheckpoint → ⊥
-  marks-none number pair k there role at =
-      by (has_noted post.world.marks (copy_of k pair).processor (copy_of (other_of k) pair).processor) refl
+  downs-none number pair k there role at =
+      by (has_noted post.world.downs (copy_of k pair).processor (copy_of (other_of k) pair).processor) refl
     where
       or-else : (one : Bool) {other : Bool} → other ≡ true → (one || other) ≡ true
       or-else true is = refl
       or-else false is = is
 
-      by : (marked : Bool) → has_noted post.world.marks (copy_of k pair).processor
+      by : (marked : Bool) → has_noted post.world.downs (copy_of k pair).processor
           (copy_of (other_of k) pair).processor ≡ marked → ⊥
       by false is = end.idle.runs number _ _ (by_checkpoint number pair there
           (by_send k role (inl at) (end.idle.waits number pair k there role) is))
       by true is =
-          let may : may_pass post.world.marks k pair ≡ true = or-else (copy_of k pair).acknowledged is in
+          let may : may_pass post.world.downs k pair ≡ true = or-else (copy_of k pair).acknowledged is in
           elim (cases_lt (copy_of k pair).position (own_acts number post.world.kept)) [
             | inl less ↦ end.idle.runs number _ _ (by_checkpoint number pair there (by_pass_again k role at may less))
             | inr most ↦ end.idle.runs number _ _ (by_checkpoint number pair there (by_pass k role at may most))
@@ -88,7 +89,7 @@ module _ {site : Site} {events : ℕ} {post : Post} (end : IsEnd site events pos
       absurd (end.idle.runs number _ _ (by_own number k pair there role by_inner (goes at)
       (enters-as number (Step number) post.world.kept (copy_of k pair))
       (free number pair k there role (λ awaits. cc))))
-  takes-in number pair k there role (marks at) = absurd (marks-none number pair k there role at)
+  takes-in number pair k there role (checkpoints at) = absurd (downs-none number pair k there role at)
   takes-in number pair k there role (takes block at known) = tt
   takes-in number pair k there role (asks at named said) =
       absurd (end.idle.runs number _ _ (by_own number k pair there role by_ask (asks at named said)

@@ -91,7 +91,7 @@ module _ {site : Site} {events : ℕ} {post : Post} (end : IsEnd site events pos
       → (copy_of (who_acts pair) pair).role ≡ Acting
   acting number pair there = by pair.first.role refl pair.second.role refl
     where
-      seat : IsSeated post.world.stopped post.world.marks pair
+      seat : IsSeated post.world.stopped post.world.downs pair
       seat = end.seated.pairs number pair there
 
       -- one leads, so they don't both receive checkpoints
@@ -141,19 +141,19 @@ module _ {site : Site} {events : ℕ} {post : Post} (end : IsEnd site events pos
   -- the route of a node that runs leads to the copy that acts
   pub route-acts : (node number : ℕ) (pair : Pair) (k : Which) → is_running post.world.stopped node ≡ true
       → slice_get post.world.processes number ≡ Some pair
-      → (copy_of k pair).role ≡ Acting → route_of post.world.marks node pair ≡ (copy_of k pair).processor
+      → (copy_of k pair).role ≡ Acting → route_of post.world.downs node pair ≡ (copy_of k pair).processor
   route-acts node number pair k runs there acts = by k pair.led refl acts
     where
       -- the processor of a copy that acts isn't marked
       acts-on : (k : Which) → (copy_of k pair).role ≡ Acting
-          → has_noted post.world.marks node (copy_of k pair).processor ≡ false
-      acts-on k acts = of (has_noted post.world.marks node (copy_of k pair).processor) refl
+          → has_noted post.world.downs node (copy_of k pair).processor ≡ false
+      acts-on k acts = of (has_noted post.world.downs node (copy_of k pair).processor) refl
         where
-          of : (marked : Bool) → has_noted post.world.marks node (copy_of k pair).processor ≡ marked → marked ≡ false
+          of : (marked : Bool) → has_noted post.world.downs node (copy_of k pair).processor ≡ marked → marked ≡ false
           of false is = refl
           of true is =
               let gone = (gone-is post.world.stopped pair (end.good.roles number pair there) k).1
-              (marked-down post.world.stopped post.world.marks node (copy_of k pair).processor end.good.stopped is) in
+              (marked-down post.world.stopped post.world.downs node (copy_of k pair).processor end.good.stopped is) in
               absurd (cc)
 
       single : (k : Which) → (copy_of k pair).role ≡ Acting → (copy_of (other_of k) pair).role ≡ Acting → ⊥
@@ -162,7 +162,7 @@ module _ {site : Site} {events : ℕ} {post : Post} (end : IsEnd site events pos
 
       -- where the other one leads that is gone, and its processor is marked
       acts-for : (k : Which) → pair.led ≡ other_of k → (copy_of k pair).role ≡ Acting
-          → has_noted post.world.marks node (copy_of (other_of k) pair).processor ≡ true
+          → has_noted post.world.downs node (copy_of (other_of k) pair).processor ≡ true
       acts-for k led acts =
           end.idle.marked node (copy_of (other_of k) pair).processor runs
           ((gone-is post.world.stopped pair (end.good.roles number pair there) (other_of k)).0
@@ -178,7 +178,7 @@ module _ {site : Site} {events : ℕ} {post : Post} (end : IsEnd site events pos
           of Blank is = absurd (let both : true ≡ false = sym (ap receives is) ∙ leads in cc)
 
       by : (k led : Which) → pair.led ≡ led → (copy_of k pair).role ≡ Acting
-          → route_of post.world.marks node pair ≡ (copy_of k pair).processor
+          → route_of post.world.downs node pair ≡ (copy_of k pair).processor
       by First First led acts = rw (led, acts-on First acts) refl
       by Second Second led acts = rw (led, acts-on Second acts) refl
       by First Second led acts = rw (led, acts-for First led acts) refl

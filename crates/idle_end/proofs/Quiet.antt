@@ -37,9 +37,9 @@ not-own (by_device old) same = cc
 not-own (by_write new) same = cc
 not-own (by_reply among opens last said) same = cc
 
-not-passes : {number terminal : ℕ} {marks : List Down} {kept after : List Act} {pair next : Pair} {cause : Cause}
+not-passes : {number terminal : ℕ} {downs : List Down} {kept after : List Act} {pair next : Pair} {cause : Cause}
     {sendings : List Sending}
-    → Passes number marks kept pair cause sendings next after → cause ≢ Entering terminal
+    → Passes number downs kept pair cause sendings next after → cause ≢ Entering terminal
 not-passes (by_send k role at unsent unmarked) same = cc
 not-passes (by_pass_again k role at may less) same = cc
 not-passes (by_pass k role at may most) same = cc

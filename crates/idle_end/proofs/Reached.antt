@@ -26,7 +26,7 @@ end-of {site = site} {events = events} {post = post} end =
       few = end.few;
       good = record {
         roles = kept.roles;
-        stopped = kept.marks;
+        stopped = kept.downs;
         steady = kept.steady;
         seated = kept.seated;
         invariant = run-keeps site end.fit events post.world end.few end.run;

@@ -20,7 +20,7 @@ use Rattle.plain_semantics.specs.Machine.{next_request, entered_at, IsStill, IsN
 use Rattle.disc_device.specs.Sectors.{Stored}
 use Rattle.world_semantics.specs.declared.role.Role.TheVariants.{Acting}
 use Rattle.world_semantics.specs.declared.which.Which.{Which}
-use Rattle.world_semantics.specs.Core.{Core, Deed, Took, Advances, goes, marks, takes, asks, gets, answers, acts}
+use Rattle.world_semantics.specs.Core.{Core, Deed, Took, Advances, goes, checkpoints, takes, asks, gets, answers, acts}
 use Rattle.world_semantics.specs.Kept.{closed}
 use Rattle.world_semantics.specs.Rules.{by_enter}
 use Rattle.world_semantics.specs.World.{Pair, copy_of}
@@ -57,7 +57,7 @@ module _ {site : Site} {events : ℕ} {post : Post} (end : IsEnd site events pos
       by (gets {file = file} {words = words} at named) takes_in (opener, opens, ready) =
           none-answered end all (who.File number file) opener words opens ready
       by (goes at) takes_in allowed = takes_in
-      by (marks at) takes_in allowed = takes_in
+      by (checkpoints at) takes_in allowed = takes_in
       by (asks at named said) takes_in allowed = takes_in
       by (answers opener block at hand known placed said) takes_in allowed = takes_in
       by (acts at call) takes_in allowed = takes_in

@@ -28,7 +28,7 @@ module _ (site : Site) (fit : IsFit site) (out : IsLaidOut site) where
       let kept = run-kept fit.seats run in
       record {
         roles = kept.roles;
-        stopped = kept.marks;
+        stopped = kept.downs;
         steady = kept.steady;
         seated = kept.seated;
         invariant = run-keeps site fit events post.world few run;

@@ -28,7 +28,7 @@ pub fn a_take_is_held_until_the_next_checkpoint()
 {}
 
 /// A checkpoint that is passed first is kept behind what was held, and one that is passed anew is not kept again.
-pub fn a_mark_is_kept_once()
+pub fn a_checkpoint_is_kept_once()
     ensures first { share_after_pass 1 (Step 1 ∷ Enter 0 ∷ []) (record { position = 1; held = Step 1 ∷ Take 1 0 ∷ [] })
         ≡ record { share = share_from 4; kept = Step 1 ∷ Step 1 ∷ Take 1 0 ∷ Step 1 ∷ Enter 0 ∷ [] } }
     ensures anew { share_after_pass 1 (Step 1 ∷ Step 1 ∷ Enter 0 ∷ []) (share_from 1)
@@ -37,7 +37,7 @@ pub fn a_mark_is_kept_once()
 
 /// After a checkpoint was applied, it and all before it are kept. The copy that sent it does the checkpoint anew when
 /// it passes it.
-pub fn a_checkpoint_keeps_its_mark()
+pub fn an_applied_checkpoint_is_kept()
     ensures held { share_after_cover 1 AtCheckpoint (Step 1 ∷ Step 2 ∷ [])
         (record { position = 1; held = Take 1 0 ∷ [] })
         ≡ record { share = share_from 2; kept = Step 1 ∷ Take 1 0 ∷ Step 1 ∷ Step 2 ∷ [] } }
@@ -52,8 +52,8 @@ pub fn a_checkpoint_keeps_its_mark()
         } }
 {}
 
-/// A checkpoint of a copy that stands elsewhere, as one that was renewed may, keeps what the copy holds and no mark.
-pub fn a_checkpoint_elsewhere_keeps_no_mark()
+/// A checkpoint of a copy that stands elsewhere, as one that was renewed may, keeps what the copy holds and no step.
+pub fn a_checkpoint_elsewhere_keeps_no_step()
     ensures held { share_after_cover 1 Ask (Step 1 ∷ Step 2 ∷ []) (record { position = 1; held = Take 1 0 ∷ [] })
         ≡ record { share = share_from 2; kept = Take 1 0 ∷ Step 1 ∷ Step 2 ∷ [] } }
     ensures base { covered_count 1 Ask (Step 1 ∷ Step 2 ∷ []) (record { position = 1; held = Take 1 0 ∷ [] }) ≡ 2 }

@@ -79,7 +79,7 @@ impl KeptActs {
 
     /// Keeps the acts that a copy of a process holds, and behind them the step at its checkpoint: all of them, or none
     /// where memory is wanting.
-    pub fn keep_with_mark(&mut self, process: u8, held: &Log<Act>) -> Result<(), NoMemory>
+    pub fn keep_with_checkpoint(&mut self, process: u8, held: &Log<Act>) -> Result<(), NoMemory>
         ensures ok { OnOk result (self.new ≡ Step process ∷ (held.now ++ self.old)) }
         ensures err { OnErr result (self.new ≡ self.old) }
     {

@@ -20,7 +20,7 @@ pub fn a_share_is_of_its_copy()
 
 /// A copy that was covered stands right before its checkpoint, where it stands at one: from its position to the base is
 /// its act at the checkpoint.
-pub fn a_covered_copy_stands_before_its_mark()
+pub fn a_covered_copy_stands_before_its_checkpoint()
     ensures { (number : ℕ) (stands : Point) (kept : List Act) (share : Share)
         → covered_count number stands kept share
         ≡ (share_after_cover number stands kept share).share.position + own_acts number (acts_at number stands) }

@@ -98,7 +98,7 @@ impl CopyShare {
             self.position += 1;
             return Ok(());
         }
-        kept.keep_with_mark(process, &self.held)?;
+        kept.keep_with_checkpoint(process, &self.held)?;
         self.held.clear();
         self.position = kept.length_of(process);
         Ok(())
@@ -131,7 +131,7 @@ impl CopyShare {
         }
         match stands {
             Point::AtCheckpoint => {
-                kept.keep_with_mark(process, &self.held)?;
+                kept.keep_with_checkpoint(process, &self.held)?;
                 self.held.clear();
                 let base = kept.length_of(process);
                 self.position = base - 1;

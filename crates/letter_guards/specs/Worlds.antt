@@ -110,7 +110,7 @@ abbrev pub world_at : ℕ → World
 world_at node = record {
   stopped = false ∷ false ∷ true ∷ false ∷ [];
   reloads = 0 ∷ 0 ∷ 0 ∷ 0 ∷ [];
-  marks = [];
+  downs = [];
   requests = [];
   replies = [];
   processes = lost (pair_at_boot site 0 disc) ∷ bank_at node ∷ lost (pair_at_boot site 2 user) ∷ [];
@@ -125,12 +125,12 @@ world = world_at 0
 
 -- the world after this node marked processor 2
 abbrev pub marked_by : ℕ → World → World
-marked_by node w = record w { marks = record { node = node; down = 2 } ∷ [] }
+marked_by node w = record w { downs = record { node = node; down = 2 } ∷ [] }
 
 -- the world in which the disc's second copy leads, and this node has marked these processors
 abbrev pub led_by_second : ℕ → List ℕ → World
 led_by_second node downs = record world {
-  marks = map (λ down. record { node = node; down = down }) downs;
+  downs = map (λ down. record { node = node; down = down }) downs;
   processes = record (pair_at_boot site 0 disc) { led = Second } ∷ bank_at 0 ∷ [];
 }
 

@@ -30,7 +30,7 @@ use Rattle.world_semantics.proofs.Becoming.{was-role}
 use Rattle.world_semantics.proofs.Growing.{causes-grow}
 use Rattle.world_semantics.proofs.Lists.{set-all, map-all, grown-none, grown-one}
 use Rattle.world_semantics.proofs.Roles.{taker-is, reload-all}
-use Rattle.awaited_requests.specs.process_histories.proofs.Steady.{calm-away, marked-calm, done-steady}
+use Rattle.awaited_requests.specs.process_histories.proofs.Steady.{calm-away, checkpointed-calm, done-steady}
 use Rattle.awaited_requests.specs.plain_histories.specs.Agreeing.{AreRegular}
 use Rattle.awaited_requests.specs.takeover_laws.proofs.Kept.{IsGood}
 use Rattle.awaited_requests.specs.letters.specs.Again.{awaited_by, entered_last, awaited_from}
@@ -98,11 +98,12 @@ module _ (site : Site) (regular : AreRegular site) (events : ℕ) (w : World) (g
       → process.point (process.after_checkpoint (copy_of k pair).core.state) ≢ point.Await
   passed-none number pair k there role at =
       let is = acting-done site events w good number pair k there role in
-      calm-away _ (marked-calm (copy_of k pair).core.state (done-steady (regular number is.spec is.there) is.done) at)
+      calm-away _ (checkpointed-calm (copy_of k pair).core.state
+      (done-steady (regular number is.spec is.there) is.done) at)
 
   passes-sent : (number : ℕ) (pair : Pair) → slice_get w.processes number ≡ Some pair
       → {next : Pair} {kept : List Act} {cause : Cause} {sendings : List Sending}
-      → Passes number w.marks w.kept pair cause sendings next kept → PairSent site w.requests number next
+      → Passes number w.downs w.kept pair cause sendings next kept → PairSent site w.requests number next
   passes-sent number pair there (by_send First role at unsent unmarked) First = pairs-sent number pair there First
   passes-sent number pair there (by_send First role at unsent unmarked) Second = pairs-sent number pair there Second
   passes-sent number pair there (by_send Second role at unsent unmarked) First = pairs-sent number pair there First

@@ -117,9 +117,9 @@ module _ (site : Site) (regular : AreRegular site) (events : ℕ) (w : World) (g
           (ap (λ (r : Request). r.opener) (same ∙ one_is)) at acts
           (omega (arith, number_is, now_is))
 
-  passes-ask-none : {number : ℕ} {marks : List _} {kept after : List Act} {pair next : Pair} {cause : Cause}
+  passes-ask-none : {number : ℕ} {downs : List _} {kept after : List Act} {pair next : Pair} {cause : Cause}
       {sendings : List Sending} (sending : Sending) (request : Request)
-      → Passes number marks kept pair cause sendings next after → IsAmong sending sendings
+      → Passes number downs kept pair cause sendings next after → IsAmong sending sendings
       → sending.message ≡ Asking request → ⊥
   passes-ask-none sending request (by_send k role at unsent unmarked) among asks =
       let same = sym (ap (λ (s : Sending). s.message) (only sending _ among)) ∙ asks in cc

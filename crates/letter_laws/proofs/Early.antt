@@ -10,7 +10,8 @@ use Rattle.tal_tree.specs.declared.site.Site.{Site}
 use Rattle.world_semantics.specs.checkpoint_image.specs.declared.message.ImageMessage.{ImageMessage}
 use Rattle.world_semantics.specs.declared.role.Role.TheVariants.{Acting}
 use Rattle.world_semantics.specs.declared.which.Which.{Which}
-use Rattle.world_semantics.specs.Core.{Core, Deed, Advances, goes, marks, takes, asks, gets, answers, acts, next_on}
+use Rattle.world_semantics.specs.Core.{Core, Deed, Advances, goes, checkpoints, takes, asks, gets, answers, acts}
+use Rattle.world_semantics.specs.Core.{next_on}
 use Rattle.world_semantics.specs.Kept.{Enters, holds_on, repeats, begins, keeps}
 use Rattle.world_semantics.specs.Messages.{Asking, Sending, Cause, Handing, Stopping, Reloading}
 use Rattle.world_semantics.specs.Rules.{Change}
@@ -116,7 +117,7 @@ raised-least (n ∷ next) (suc file) (suc at) = raised-least next file at
 advances-least : {openers : List OpenerSpec} {core after : Core} {deed : Deed} → Advances openers core deed after
     → (file : ℕ) → next_on core file ≤ next_on after file
 advances-least (goes at) file = omega arith
-advances-least (marks at) file = omega arith
+advances-least (checkpoints at) file = omega arith
 advances-least (takes block at there) file = omega arith
 advances-least {core = core} (asks {file = one} at named said) file = raised-least core.next one file
 advances-least (gets at named) file = omega arith

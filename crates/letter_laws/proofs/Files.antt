@@ -87,10 +87,10 @@ module _ (site : Site) (regular : AreRegular site) where
       (carried-within number copy.renewal copy.core is spec there)
   one-more number copy pair is all spec there message (inr among) = all spec there message among
 
-  passes-files : {number : ℕ} {marks : List Down} {kept after : List Act} {pair next : Pair} {cause : Cause}
+  passes-files : {number : ℕ} {downs : List Down} {kept after : List Act} {pair next : Pair} {cause : Cause}
       {sendings : List Sending}
       → ((k : Which) → (copy_of k pair).role ≡ Acting → IsDone site number (copy_of k pair).core)
-      → Passes number marks kept pair cause sendings next after
+      → Passes number downs kept pair cause sendings next after
       → PairNames site number pair → PairNames site number next
   passes-files {number = number} {pair = pair} done (by_send First role at unsent unmarked) all =
       one-more number pair.first pair (done First role) all

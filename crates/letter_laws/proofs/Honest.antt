@@ -265,12 +265,12 @@ module _ (site : Site) (fit : IsFit site) where
             sound.honest change;
       }
 
-  marks-sound : (most : ℕ) {node : ℕ} {post end : Post} → most < 4294967295 → IsSound most post
+  downs-sound : (most : ℕ) {node : ℕ} {post end : Post} → most < 4294967295 → IsSound most post
       → NotesLetters site node post end → IsSound most end
-  marks-sound most low sound no_mark = sound
-  marks-sound most {node = node} {post = post} low sound
+  downs-sound most low sound no_mark = sound
+  downs-sound most {node = node} {post = post} low sound
       (one_mark {sendings = sendings} {next = next} processor change more) =
-      marks-sound most low (mark-sound most post next node processor sendings low sound change) more
+      downs-sound most low (mark-sound most post next node processor sendings low sound change) more
 
   owed-sound : (most : ℕ) (post : Post) (owed : List Letter) → IsSound most post → WereSent post owed
       → IsSound most (record post { owed = owed })
@@ -305,11 +305,11 @@ module _ (site : Site) (fit : IsFit site) where
   plays-sound most post next low sound plays_repeat = sound-more most (most + 1) post (omega arith) sound
   plays-sound most post next low sound plays_drive = sound-more most (most + 1) post (omega arith) sound
   plays-sound most post next low sound plays_no_tick = sound-more most (most + 1) post (omega arith) sound
-  plays-sound most post next low sound (plays_tick running marks) =
-      sound-more most (most + 1) next (omega arith) (marks-sound most low sound marks)
-  plays-sound most post next low sound (plays_tick_stop {between = between} processor running other change marks) =
+  plays-sound most post next low sound (plays_tick running downs) =
+      sound-more most (most + 1) next (omega arith) (downs-sound most low sound downs)
+  plays-sound most post next low sound (plays_tick_stop {between = between} processor running other change downs) =
       sound-more most (most + 1) next (omega arith)
-      (marks-sound most low (stop-sound most post between processor low sound change) marks)
+      (downs-sound most low (stop-sound most post between processor low sound change) downs)
   plays-sound most post next low sound (plays_fail {processor = processor} {next = w} change) =
       sound-more most (most + 1) _ (omega arith) (stop-sound most post w processor low sound change)
   plays-sound most post next low sound (plays_no_fail idle) = sound-more most (most + 1) post (omega arith) sound

@@ -93,8 +93,8 @@ early-stays {site = site} w next cause sendings change loads one k request serve
         let both : Some false ≡ Some true = sym new.ran ∙ ap (slice_get w.stopped) same ∙ old in cc
 
 -- where the route of a node leads to a copy that watches or is blank, the other one's processor has stopped
-route-down : (w : World) (node : ℕ) (pair : Pair) (k : Which) → AreStopped w → IsSeated w.stopped w.marks pair
-    → receives (copy_of k pair).role ≡ true → route_of w.marks node pair ≡ (copy_of k pair).processor
+route-down : (w : World) (node : ℕ) (pair : Pair) (k : Which) → AreStopped w → IsSeated w.stopped w.downs pair
+    → receives (copy_of k pair).role ≡ true → route_of w.downs node pair ≡ (copy_of k pair).processor
     → slice_get w.stopped (copy_of (other_of k) pair).processor ≡ Some true
 route-down w node pair k stopped seat gets route = by pair.led refl k gets route
   where
@@ -106,28 +106,28 @@ route-down w node pair k stopped seat gets route = by pair.led refl k gets route
 
     -- the node goes from the copy that leads to the other one
     turned : (l : Which) (other : ℕ) → (other ≡ (copy_of l pair).processor → ⊥)
-        → (if has_noted w.marks node (copy_of l pair).processor then other else (copy_of l pair).processor) ≡ other
+        → (if has_noted w.downs node (copy_of l pair).processor then other else (copy_of l pair).processor) ≡ other
         → slice_get w.stopped (copy_of l pair).processor ≡ Some true
-    turned l other apart = told (has_noted w.marks node (copy_of l pair).processor) refl
+    turned l other apart = told (has_noted w.downs node (copy_of l pair).processor) refl
       where
-        told : (b : Bool) → has_noted w.marks node (copy_of l pair).processor ≡ b
+        told : (b : Bool) → has_noted w.downs node (copy_of l pair).processor ≡ b
             → (if b then other else (copy_of l pair).processor) ≡ other
             → slice_get w.stopped (copy_of l pair).processor ≡ Some true
-        told true noted is = marked-down w.stopped w.marks node (copy_of l pair).processor stopped noted
+        told true noted is = marked-down w.stopped w.downs node (copy_of l pair).processor stopped noted
         told false noted is = absurd (apart (sym is))
 
     by : (l : Which) → pair.led ≡ l → (m : Which) → receives (copy_of m pair).role ≡ true
-        → route_of w.marks node pair ≡ (copy_of m pair).processor
+        → route_of w.downs node pair ≡ (copy_of m pair).processor
         → slice_get w.stopped (copy_of (other_of m) pair).processor ≡ Some true
     by First led First got is = absurd (leads First led got)
     by Second led Second got is = absurd (leads Second led got)
     by First led Second got is =
         turned First pair.second.processor (λ same. seat.apart (sym same))
-        (subst (λ l. (if has_noted w.marks node (copy_of l pair).processor then (copy_of (other_of l) pair).processor
+        (subst (λ l. (if has_noted w.downs node (copy_of l pair).processor then (copy_of (other_of l) pair).processor
         else (copy_of l pair).processor) ≡ pair.second.processor) led is)
     by Second led First got is =
         turned Second pair.first.processor seat.apart
-        (subst (λ l. (if has_noted w.marks node (copy_of l pair).processor then (copy_of (other_of l) pair).processor
+        (subst (λ l. (if has_noted w.downs node (copy_of l pair).processor then (copy_of (other_of l) pair).processor
         else (copy_of l pair).processor) ≡ pair.first.processor) led is)
 
 module _ (site : Site) (fit : IsFit site) where
@@ -147,8 +147,8 @@ module _ (site : Site) (fit : IsFit site) where
       let asking : from.sending.message ≡ Asking request = sym from.message ∙ message in
       let found : receiver_of site w from.sending.node (Asking request) ≡ Some letter.receiver =
       subst (λ m. receiver_of site w from.sending.node m ≡ Some letter.receiver) asking from.receiver in
-      let route : route_of w.marks from.sending.node pair ≡ letter.receiver =
-      some-same (subst (λ o. option_map (λ (p : Pair). route_of w.marks from.sending.node p) o ≡ Some letter.receiver)
+      let route : route_of w.downs from.sending.node pair ≡ letter.receiver =
+      some-same (subst (λ o. option_map (λ (p : Pair). route_of w.downs from.sending.node p) o ≡ Some letter.receiver)
       there found) in
       let down = route-down w from.sending.node pair k stopped (seated.pairs request.process pair there) gets
       (route ∙ at) in
@@ -360,14 +360,14 @@ module _ (site : Site) (fit : IsFit site) where
       → WasSentTo post (Handing letter.receiver letter.message)
   letter-sent post letter among node request same = let both = handing-same same in (letter, among, both.0, both.1)
 
-  marks-known : {node : ℕ} (events : ℕ) {post end : Post} → events < 4294967295 → IsGood site events post.world
+  downs-known : {node : ℕ} (events : ℕ) {post end : Post} → events < 4294967295 → IsGood site events post.world
       → IsKnown site post → NotesLetters site node post end → IsKnown site end
-  marks-known events low good known no_mark = known
-  marks-known {node = node} events {post = post} low good known
+  downs-known events low good known no_mark = known
+  downs-known {node = node} events {post = post} low good known
       (one_mark {sendings = sendings} {next = next} processor change more) =
       let after = change-good site fit events post.world next (NotingDown node processor) sendings low good change in
       let same : events + 0 ≡ events = omega arith in
-      marks-known (events + 0) (subst (λ n. n < 4294967295) (sym same) low) after
+      downs-known (events + 0) (subst (λ n. n < 4294967295) (sym same) low) after
       (known-mark events (events + 0) post next node processor sendings good after known change) more
 
   -- one change of an event, whatever becomes of what is owed
@@ -418,13 +418,13 @@ module _ (site : Site) (fit : IsFit site) where
   known-plays events post next event low good known plays_repeat = known
   known-plays events post next event low good known plays_drive = known
   known-plays events post next event low good known plays_no_tick = known
-  known-plays events post next event low good known (plays_tick running marks) = marks-known events low good known marks
+  known-plays events post next event low good known (plays_tick running downs) = downs-known events low good known downs
   known-plays events post next event low good known
-      (plays_tick_stop {between = between} processor running other change marks) =
+      (plays_tick_stop {between = between} processor running other change downs) =
       let after = change-good site fit events post.world between (Stopping processor) [] low good change in
       let same : events + 0 ≡ events = omega arith in
-      marks-known (events + 0) (subst (λ n. n < 4294967295) (sym same) low) after
-      (stop-known events post between processor low good known change) marks
+      downs-known (events + 0) (subst (λ n. n < 4294967295) (sym same) low) after
+      (stop-known events post between processor low good known change) downs
   known-plays events post next event low good known (plays_fail {processor = processor} {next = w} change) =
       stop-known events post w processor low good known change
   known-plays events post next event low good known (plays_no_fail idle) = known

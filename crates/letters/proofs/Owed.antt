@@ -47,11 +47,11 @@ filter-among x test (y ∷ xs) (inr i) t = by (test y) (filter-among x test xs i
     by true j = inr j
     by false j = j
 
-marks-sent : {site : Site} {node : ℕ} {post next : Post} → OwedWasSent post → NotesLetters site node post next
+downs-sent : {site : Site} {node : ℕ} {post next : Post} → OwedWasSent post → NotesLetters site node post next
     → OwedWasSent next
-marks-sent all no_mark = all
-marks-sent {node = node} {post = post} all (one_mark {next = next} processor change more) =
-    marks-sent (letters-sent _ (record post { world = next; owed = without_those_between node processor post.owed })
+downs-sent all no_mark = all
+downs-sent {node = node} {post = post} all (one_mark {next = next} processor change more) =
+    downs-sent (letters-sent _ (record post { world = next; owed = without_those_between node processor post.owed })
     (λ letter among. all letter (among-filter letter _ post.owed among).0)) more
 
 plays-sent : {site : Site} {post next : Post} {event : Event} → OwedWasSent post → PlaysEvent site post event next
@@ -73,9 +73,9 @@ plays-sent all plays_loss = all
 plays-sent all plays_repeat = all
 plays-sent all plays_drive = all
 plays-sent all plays_no_tick = all
-plays-sent all (plays_tick running marks) = marks-sent all marks
-plays-sent all (plays_tick_stop processor running other change marks) =
-    marks-sent (λ letter among. all letter among) marks
+plays-sent all (plays_tick running downs) = downs-sent all downs
+plays-sent all (plays_tick_stop processor running other change downs) =
+    downs-sent (λ letter among. all letter among) downs
 plays-sent all (plays_fail change) = all
 plays-sent all (plays_no_fail idle) = all
 plays-sent {post = post} all (plays_reload {processor = x} change) = λ letter among.

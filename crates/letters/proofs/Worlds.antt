@@ -16,11 +16,11 @@ use Rattle.letters.specs.Posts.{plays_reload}
 abbrev pub Permits : Site → World → Event → World → Type 0
 Permits site w event next = (sendings : List Sending) × Follows site w event sendings next
 
-marks-made : {site : Site} {node : _} {post next : Post} → NotesLetters site node post next
+downs-made : {site : Site} {node : _} {post next : Post} → NotesLetters site node post next
     → (sendings : List Sending) × NotesDowns site node post.world sendings next.world
-marks-made no_mark = ([], marks_none)
-marks-made (one_mark {sendings = sendings} processor change more) =
-    let rest = marks-made more in (sendings ++ rest.0, marks_one processor change rest.1)
+downs-made no_mark = ([], marks_none)
+downs-made (one_mark {sendings = sendings} processor change more) =
+    let rest = downs-made more in (sendings ++ rest.0, marks_one processor change rest.1)
 
 pub plays-permits : {site : Site} {post next : Post} {event : Event} → PlaysEvent site post event next
     → Permits site post.world event next.world
@@ -37,9 +37,9 @@ plays-permits plays_loss = ([], follows.loses)
 plays-permits plays_repeat = ([], follows.doubles)
 plays-permits plays_drive = ([], follows.turns_drive)
 plays-permits plays_no_tick = ([], follows.ticks_none)
-plays-permits (plays_tick running marks) = let made = marks-made marks in (made.0, follows.ticks running made.1)
-plays-permits (plays_tick_stop processor running other change marks) =
-    let made = marks-made marks in (made.0, follows.ticks_stop processor running other change made.1)
+plays-permits (plays_tick running downs) = let made = downs-made downs in (made.0, follows.ticks running made.1)
+plays-permits (plays_tick_stop processor running other change downs) =
+    let made = downs-made downs in (made.0, follows.ticks_stop processor running other change made.1)
 plays-permits (plays_fail change) = ([], follows.fails change)
 plays-permits (plays_no_fail idle) = ([], follows.cannot_fail idle)
 plays-permits (plays_reload change) = ([], follows.reloads change)

@@ -13,13 +13,13 @@ use Rattle.world_semantics.specs.Messages.{Message, Asking, Replying, Checkpoint
 -- the processor to which a node sends what is for a process: that of the copy that leads, or the other one's once the
 -- node has marked that
 abbrev pub route_of : List Down → ℕ → Pair → ℕ
-route_of marks node pair =
-    if has_noted marks node (copy_of pair.led pair).processor then (copy_of (other_of pair.led) pair).processor
+route_of downs node pair =
+    if has_noted downs node (copy_of pair.led pair).processor then (copy_of (other_of pair.led) pair).processor
     else (copy_of pair.led pair).processor
 
 -- the route of a node to the process of a number, if it is there
 abbrev pub route_to : World → ℕ → ℕ → Option ℕ
-route_to w node number = option_map (λ pair. route_of w.marks node pair) (slice_get w.processes number)
+route_to w node number = option_map (λ pair. route_of w.downs node pair) (slice_get w.processes number)
 
 -- where a node finds an opener: a file by the route to its process, and a terminal at the node of the terminals
 abbrev pub home_of : World → ℕ → Who → Option ℕ

@@ -37,7 +37,7 @@ use Rattle.letter_laws.specs.process_histories.proofs.Counts.{taken-number, next
 use Rattle.letter_laws.specs.process_histories.proofs.OneKind.{done-kind, openers-same, same-pair}
 use Rattle.letter_laws.specs.process_histories.proofs.Kept.{kept-last}
 use Rattle.letter_laws.specs.process_histories.proofs.Whole.{done-whole}
-use Rattle.world_semantics.specs.Core.{goes, marks, takes, asks, gets, answers, acts}
+use Rattle.world_semantics.specs.Core.{goes, checkpoints, takes, asks, gets, answers, acts}
 use Rattle.world_semantics.proofs.Lists.{some-same, mapped}
 use Rattle.letter_laws.specs.process_histories.specs.Histories.{nothing_done, one_more}
 use Rattle.letters_layout.proofs.Replies.{done-answers}
@@ -67,7 +67,7 @@ hand-low : {site : Site} {number : ℕ} {spec : ProcessSpec} {deeds : List Deed}
     → place < length (openers_of site number)
 hand-low nothing_done place e = absurd (cc)
 hand-low (one_more done (goes at)) place e = hand-low done place e
-hand-low (one_more done (marks at)) place e = hand-low done place e
+hand-low (one_more done (checkpoints at)) place e = hand-low done place e
 hand-low (one_more {before = core} done (takes {place = one} block at there)) place e =
     let low = slice_get_within core.receive.openers one block there in
     let same = openers-same done in

@@ -161,8 +161,8 @@ module _ (reloads : List ℕ) (pair : Pair) (ok : ErasOf reloads pair) where
     told = one-told room message.era pair.takens new of (ok.sent message among) ok.told;
   }
 
-  passes-eras : {number : ℕ} {marks : List Down} {kept after : List Act} {next : Pair} {cause : Cause}
-      {sendings : List Sending} → Passes number marks kept pair cause sendings next after → ErasOf reloads next
+  passes-eras : {number : ℕ} {downs : List Down} {kept after : List Act} {next : Pair} {cause : Cause}
+      {sendings : List Sending} → Passes number downs kept pair cause sendings next after → ErasOf reloads next
   passes-eras (by_send First role may unsent unmarked) = record {
     first = ok.first;
     second = ok.second;

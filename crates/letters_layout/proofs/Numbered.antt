@@ -265,10 +265,10 @@ module _ (site : Site) (n number : ℕ) where
             (subst (IsAmong one) taken there);
       }
 
-  passes-known : {marks : List Down} {kept after : List Act} {pair next : Pair} {cause : Cause}
+  passes-known : {downs : List Down} {kept after : List Act} {pair next : Pair} {cause : Cause}
       {sendings : List Sending}
       → ((k : Which) → (copy_of k pair).role ≡ Acting → WasMade site n number (copy_of k pair).core)
-      → Passes number marks kept pair cause sendings next after
+      → Passes number downs kept pair cause sendings next after
       → IsKnownPair site n number pair → IsKnownPair site (n + 1) number next
   passes-known {pair = pair} made (by_send First role may unsent unmarked) is =
       let more = more-known (n + 1) pair (omega arith) is in
@@ -431,11 +431,11 @@ module _ (site : Site) (fit : IsFit site) where
     known = change-all n w next cause sendings is.good.invariant is.known change;
   }
 
-  marks-fine : (n : ℕ) {node : ℕ} {w end : World} {sendings : List Sending} → n < 4294967295 → IsFine n w
+  downs-fine : (n : ℕ) {node : ℕ} {w end : World} {sendings : List Sending} → n < 4294967295 → IsFine n w
       → NotesDowns site node w sendings end → IsFine n end
-  marks-fine n few is marks_none = is
-  marks-fine n few is (marks_one {w = w} {next = next} processor change more) =
-      marks-fine n few (more-fine n (omega arith) (change-fine n w next _ _ few is change)) more
+  downs-fine n few is marks_none = is
+  downs-fine n few is (marks_one {w = w} {next = next} processor change more) =
+      downs-fine n few (more-fine n (omega arith) (change-fine n w next _ _ few is change)) more
 
   follows-fine : (n : ℕ) {event : Event} (w next : World) (sendings : List Sending) → n < 4294967295 → IsFine n w
       → Follows site w event sendings next → IsFine (n + 1) next
@@ -452,9 +452,9 @@ module _ (site : Site) (fit : IsFit site) where
   follows-fine n w next sendings few is turns_drive = more-fine (n + 1) (omega arith) is
   follows-fine n w next sendings few is ticks_none = more-fine (n + 1) (omega arith) is
   follows-fine n w next sendings few is (ticks running marked) =
-      more-fine (n + 1) (omega arith) (marks-fine n few is marked)
+      more-fine (n + 1) (omega arith) (downs-fine n few is marked)
   follows-fine n w next sendings few is (ticks_stop {between = between} processor running other change marked) =
-      more-fine (n + 1) (omega arith) (marks-fine n few
+      more-fine (n + 1) (omega arith) (downs-fine n few
       (more-fine n (omega arith) (change-fine n w between _ _ few is change)) marked)
   follows-fine n w next sendings few is (fails change) =
       more-fine (n + 1) (omega arith) (change-fine n w next _ _ few is change)

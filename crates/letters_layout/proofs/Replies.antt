@@ -28,7 +28,7 @@ use Rattle.process_images.proofs.Discs.{reply-few}
 use Rattle.whole_states.specs.Processes.{IsWholeProcess}
 use Rattle.letter_laws.specs.awaited_requests.specs.Seats.{IsLaidOut}
 use Rattle.letter_laws.specs.awaited_requests.proofs.Seats.{run-seats}
-use Rattle.world_semantics.specs.Core.{Core, Deed, goes, marks, takes, asks, gets, answers, acts}
+use Rattle.world_semantics.specs.Core.{Core, Deed, goes, checkpoints, takes, asks, gets, answers, acts}
 use Rattle.world_semantics.specs.Follows.{IsRun}
 use Rattle.world_semantics.specs.Messages.{Replying}
 use Rattle.world_semantics.specs.World.{World}
@@ -90,7 +90,7 @@ pub done-answers : {site : Site} {number : ℕ} {spec : ProcessSpec} {deeds : Li
 done-answers regular nothing_done is place words among = absurd among
 done-answers regular (one_more done (goes at)) is place words among =
     done-answers regular done (bounded-before is) place words among
-done-answers regular (one_more done (marks at)) is place words among =
+done-answers regular (one_more done (checkpoints at)) is place words among =
     done-answers regular done (bounded-before is) place words among
 done-answers regular (one_more done (takes block at there)) is place words among =
     done-answers regular done (bounded-before is) place words among

@@ -108,8 +108,8 @@ module _ (site : Site) (fit : IsFit site) (events : List Event) (w : World) (few
       answered-ended number k pair there role place opener.depth words stands at hand stood entered kept after
       block.taken (ap (λ (b : OpenerBlock). b.taken) one) (entered-seat enters) refl among
 
-  passes-none : {number : ℕ} {marks : List Down} {kept after : List Act} {pair next : Pair} {cause : Cause}
-      {sendings : List Sending} → Passes number marks kept pair cause sendings next after → Tells sendings → ⊥
+  passes-none : {number : ℕ} {downs : List Down} {kept after : List Act} {pair next : Pair} {cause : Cause}
+      {sendings : List Sending} → Passes number downs kept pair cause sendings next after → Tells sendings → ⊥
   passes-none {number = number} {pair = pair} (by_send k role may unsent unmarked) among =
       not-answered reply (Checkpointing (checkpoint_of number (copy_of k pair))) refl
       (sent-one (copy_of k pair).processor node (Replying reply)

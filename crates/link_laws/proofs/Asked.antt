@@ -151,8 +151,8 @@ module _ (site : Site) (fit : IsFit site) (events : List Event) (w : World) (few
       asked-linked number k pair there role file words at named said entered kept after (entered-seat enters) refl among
 
   -- what goes from copy to copy is no request
-  passes-none : {number : ℕ} {marks : List Down} {kept after : List Act} {pair next : Pair} {cause : Cause}
-      {sendings : List Sending} → Passes number marks kept pair cause sendings next after → Asks sendings → ⊥
+  passes-none : {number : ℕ} {downs : List Down} {kept after : List Act} {pair next : Pair} {cause : Cause}
+      {sendings : List Sending} → Passes number downs kept pair cause sendings next after → Asks sendings → ⊥
   passes-none {number = number} {pair = pair} (by_send k role at unsent unmarked) among =
       not-asked request (Checkpointing (checkpoint_of number (copy_of k pair))) refl
       (sent-one (copy_of k pair).processor node (Asking request)

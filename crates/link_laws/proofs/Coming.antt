@@ -42,9 +42,9 @@ own-none (by_device old) same = cc
 own-none (by_write new) same = cc
 own-none (by_reply among opens last said) same = cc
 
-passes-none : {number at : ℕ} {marks : List Down} {kept after : List Act} {pair next : Pair} {cause : Cause}
+passes-none : {number at : ℕ} {downs : List Down} {kept after : List Act} {pair next : Pair} {cause : Cause}
     {sendings : List Sending} {request : Request}
-    → Passes number marks kept pair cause sendings next after → cause ≡ Handing at (Asking request) → ⊥
+    → Passes number downs kept pair cause sendings next after → cause ≡ Handing at (Asking request) → ⊥
 passes-none (by_send k role at unsent unmarked) same = cc
 passes-none (by_pass_again k role at may less) same = cc
 passes-none (by_pass k role at may most) same = cc

@@ -37,7 +37,7 @@ run-good site fit events w few run =
     let kept = run-kept fit.seats run in
     record {
       roles = kept.roles;
-      stopped = kept.marks;
+      stopped = kept.downs;
       steady = kept.steady;
       seated = kept.seated;
       invariant = run-keeps site fit events w few run;

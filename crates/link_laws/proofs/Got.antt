@@ -45,9 +45,9 @@ same-reply : {node at : ℕ} {one other : Reply} → Handing node (Replying one)
     → (node ≡ at) × (one ≡ other)
 same-reply same = (cc, cc)
 
-passes-none : {number at : ℕ} {marks : List Down} {kept after : List Act} {pair next : Pair} {cause : Cause}
+passes-none : {number at : ℕ} {downs : List Down} {kept after : List Act} {pair next : Pair} {cause : Cause}
     {sendings : List Sending} {reply : Reply}
-    → Passes number marks kept pair cause sendings next after → cause ≡ Handing at (Replying reply) → ⊥
+    → Passes number downs kept pair cause sendings next after → cause ≡ Handing at (Replying reply) → ⊥
 passes-none (by_send k role at unsent unmarked) same = cc
 passes-none (by_pass_again k role at may less) same = cc
 passes-none (by_pass k role at may most) same = cc

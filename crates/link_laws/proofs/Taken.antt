@@ -239,7 +239,7 @@ module _ (site : Site) (events : List Event) (w : World) (run : IsRun site event
 
     passes-kept : {number one : ℕ} {pair next : Pair} {kept : List Act} {cause : Cause} {sendings : List Sending}
         → slice_get w.processes number ≡ Some pair
-        → Passes number w.marks w.kept pair cause sendings next kept → cause ≡ Running one → Waits w
+        → Passes number w.downs w.kept pair cause sendings next kept → cause ≡ Running one → Waits w
         → IsKept (record w { processes = slice_set w.processes number next; kept = kept })
     passes-kept {number = number} {pair = pair} {kept = kept} there (by_send k role may unsent unmarked) is waits =
         one-kept number k pair (record pair { checkpoints = checkpoint_of number (copy_of k pair) ∷ pair.checkpoints })

@@ -79,7 +79,7 @@ awaiting_taking s = record s { world = record s.world { processes = map having_s
 
 -- a world in which these processors have stopped, and these nodes have marked processor 1
 abbrev pub marking : List Bool → List ℕ → World → World
-marking stopped nodes w = record w { stopped = stopped; marks = map (λ node. record { node = node; down = 1 }) nodes }
+marking stopped nodes w = record w { stopped = stopped; downs = map (λ node. record { node = node; down = 1 }) nodes }
 
 -- wires on which these letters are owed of nine that were sent, and nothing is on the bus
 abbrev pub owing : List Sent → Wires

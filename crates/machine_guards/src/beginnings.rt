@@ -56,7 +56,7 @@ pub fn a_site_begins_with_nothing_done()
     ensures reloads { (boot discs).reloads ≡ 0 ∷ 0 ∷ 0 ∷ [] }
     ensures terminals { (boot discs).terminals
         ≡ record { entered = 0; printed = 0 } ∷ record { entered = 0; printed = 0 } ∷ [] }
-    ensures marks { (site : Site) → (boot site).marks ≡ [] }
+    ensures downs { (site : Site) → (boot site).downs ≡ [] }
     ensures sent { (site : Site) → ((boot site).requests ≡ []) × ((boot site).replies ≡ []) }
     ensures shown { (site : Site) → (boot site).shown ≡ [] }
     ensures kept { (site : Site) → (boot site).kept ≡ [] }

@@ -39,10 +39,10 @@ pub fn what_is_paid_is_owed_no_more()
 
 /// The tick of a node marks the processor that has stopped, be it the first, one between or the last.
 pub fn a_tick_marks_what_stopped()
-    ensures first { (end_of discs_at_boot (Fail 0 ∷ Tick 16 ∷ [])).world.marks ≡ record { node = 16; down = 0 } ∷ [] }
-    ensures second { (end_of discs_at_boot (Fail 1 ∷ Tick 0 ∷ [])).world.marks ≡ record { node = 0; down = 1 } ∷ [] }
-    ensures last { (end_of discs_at_boot (Fail 2 ∷ Tick 1 ∷ [])).world.marks ≡ record { node = 1; down = 2 } ∷ [] }
-    ensures once { (end_of discs_at_boot (Fail 2 ∷ Tick 1 ∷ Tick 1 ∷ [])).world.marks
+    ensures first { (end_of discs_at_boot (Fail 0 ∷ Tick 16 ∷ [])).world.downs ≡ record { node = 16; down = 0 } ∷ [] }
+    ensures second { (end_of discs_at_boot (Fail 1 ∷ Tick 0 ∷ [])).world.downs ≡ record { node = 0; down = 1 } ∷ [] }
+    ensures last { (end_of discs_at_boot (Fail 2 ∷ Tick 1 ∷ [])).world.downs ≡ record { node = 1; down = 2 } ∷ [] }
+    ensures once { (end_of discs_at_boot (Fail 2 ∷ Tick 1 ∷ Tick 1 ∷ [])).world.downs
         ≡ record { node = 1; down = 2 } ∷ [] }
 {}
 

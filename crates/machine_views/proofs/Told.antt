@@ -7,7 +7,7 @@ use Rattle.gd_words.proofs.Among.{among-left, among-right, among-either}
 use Rattle.world_semantics.specs.World as world
 use Rattle.machine_views.specs.declared.views.DownView.{DownView}
 use Rattle.machine_views.specs.Orders.{IsRising}
-use Rattle.machine_views.specs.Views.{each_at, each_number, mark_of, marks_by, marks_in}
+use Rattle.machine_views.specs.Views.{each_at, each_number, down_of, downs_by, downs_in}
 use Rattle.site_machine.specs.Stopped.{stopped_from}
 
 -- Stops
@@ -94,43 +94,43 @@ among-number give x first (suc count) among =
 abbrev mark : ℕ → ℕ → DownView
 mark node processor = record { node = node; down = processor }
 
-mark-told : (marks : List world.Down) (node processor : ℕ) → world.has_noted marks node processor ≡ true
-    → IsAmong (mark node processor) (mark_of marks node processor)
-mark-told marks node processor is = rw is (inl refl)
+mark-told : (downs : List world.Down) (node processor : ℕ) → world.has_noted downs node processor ≡ true
+    → IsAmong (mark node processor) (down_of downs node processor)
+mark-told downs node processor is = rw is (inl refl)
 
-told-mark : (marks : List world.Down) (node processor : ℕ) (one : DownView) → IsAmong one (mark_of marks node processor)
-    → (one ≡ mark node processor) × (world.has_noted marks node processor ≡ true)
-told-mark marks node processor one among = found (world.has_noted marks node processor) refl among
+told-mark : (downs : List world.Down) (node processor : ℕ) (one : DownView) → IsAmong one (down_of downs node processor)
+    → (one ≡ mark node processor) × (world.has_noted downs node processor ≡ true)
+told-mark downs node processor one among = found (world.has_noted downs node processor) refl among
   where
-    found : (is : Bool) → world.has_noted marks node processor ≡ is
+    found : (is : Bool) → world.has_noted downs node processor ≡ is
         → IsAmong one (if is then mark node processor ∷ [] else [])
-        → (one ≡ mark node processor) × (world.has_noted marks node processor ≡ true)
+        → (one ≡ mark node processor) × (world.has_noted downs node processor ≡ true)
     found true is (inl same) = (same, is)
     found true is (inr none) = absurd none
     found false is none = absurd none
 
 -- a mark that stands, of a processor below 16 by a node below 17
 abbrev Stands : List world.Down → ℕ → ℕ → Type 0
-Stands marks node processor = (node ≤ 16) × (processor < 16) × (world.has_noted marks node processor ≡ true)
+Stands downs node processor = (node ≤ 16) × (processor < 16) × (world.has_noted downs node processor ≡ true)
 
-told-stands : (marks : List world.Down) (node processor : ℕ) → IsAmong (mark node processor) (marks_in marks)
-    → Stands marks node processor
-told-stands marks node processor among =
-    let (by, by_few, there) = among-number (marks_by marks) (mark node processor) 0 17 among in
-    let (of, of_few, here) = among-number (mark_of marks by) (mark node processor) 0 16 there in
-    let (same, is) = told-mark marks by of (mark node processor) here in
+told-stands : (downs : List world.Down) (node processor : ℕ) → IsAmong (mark node processor) (downs_in downs)
+    → Stands downs node processor
+told-stands downs node processor among =
+    let (by, by_few, there) = among-number (downs_by downs) (mark node processor) 0 17 among in
+    let (of, of_few, here) = among-number (down_of downs by) (mark node processor) 0 16 there in
+    let (same, is) = told-mark downs by of (mark node processor) here in
     let node_is : node ≡ by = ap (λ (one : DownView). one.node) same in
     let down_is : processor ≡ of = ap (λ (one : DownView). one.down) same in
-    (omega (arith, by_few, node_is), omega (arith, of_few, down_is), ap₂ (world.has_noted marks) node_is down_is ∙ is)
+    (omega (arith, by_few, node_is), omega (arith, of_few, down_is), ap₂ (world.has_noted downs) node_is down_is ∙ is)
 
-stands-told : (marks : List world.Down) (node processor : ℕ) → Stands marks node processor
-    → IsAmong (mark node processor) (marks_in marks)
-stands-told marks node processor (node_few, down_few, is) =
-    number-among (marks_by marks) (mark node processor) 0 17 node (omega arith) (omega (arith, node_few))
-    (number-among (mark_of marks node) (mark node processor) 0 16 processor (omega arith) (omega (arith, down_few))
-    (mark-told marks node processor is))
+stands-told : (downs : List world.Down) (node processor : ℕ) → Stands downs node processor
+    → IsAmong (mark node processor) (downs_in downs)
+stands-told downs node processor (node_few, down_few, is) =
+    number-among (downs_by downs) (mark node processor) 0 17 node (omega arith) (omega (arith, node_few))
+    (number-among (down_of downs node) (mark node processor) 0 16 processor (omega arith) (omega (arith, down_few))
+    (mark-told downs node processor is))
 
-pub mark-is-told : (marks : List world.Down) (node processor : ℕ)
-    → (IsAmong (record { node = node; down = processor }) (marks_in marks) ↔ (node ≤ 16) × (processor < 16)
-    × (world.has_noted marks node processor ≡ true))
-mark-is-told marks node processor = (told-stands marks node processor, stands-told marks node processor)
+pub mark-is-told : (downs : List world.Down) (node processor : ℕ)
+    → (IsAmong (record { node = node; down = processor }) (downs_in downs) ↔ (node ≤ 16) × (processor < 16)
+    × (world.has_noted downs node processor ≡ true))
+mark-is-told downs node processor = (told-stands downs node processor, stands-told downs node processor)

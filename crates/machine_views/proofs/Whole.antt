@@ -1,13 +1,13 @@
 -- What is told of a world, part by part.
 use Rattle.std.proofs.Common.{◌≡◌, ◌∙◌, map, ap}
 use Rattle.world_semantics.specs.World.{World}
-use Rattle.machine_views.specs.Views.{copy_views, each_at, marks_in, sector_views, terminal_view, view_of}
+use Rattle.machine_views.specs.Views.{copy_views, each_at, downs_in, sector_views, terminal_view, view_of}
 use Rattle.site_machine.specs.Stopped.{stopped_from}
 use Rattle.machine_views.specs.declared.views.View.{View}
 
 -- a view with the parts of a world's is the world's
 pub is-view : (w : World) (view : View) → view.stopped ≡ stopped_from 0 w.stopped → view.reloads ≡ w.reloads
-    → view.down ≡ marks_in w.marks
+    → view.down ≡ downs_in w.downs
     → view.copies ≡ each_at copy_views 0 w.processes
     → view.terminals ≡ map terminal_view w.terminals → view.sectors ≡ each_at sector_views 0 w.processes
     → view ≡ view_of w

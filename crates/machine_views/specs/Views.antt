@@ -36,17 +36,17 @@ each_at give place (one ∷ rest) = give place one ++ each_at give (place + 1) r
 -- Nodes
 
 -- the mark of a processor by a node, if it stands
-abbrev pub mark_of : List world.Down → ℕ → ℕ → List DownView
-mark_of marks node processor =
-    if has_noted marks node processor then record { node = node; down = processor } ∷ [] else []
+abbrev pub down_of : List world.Down → ℕ → ℕ → List DownView
+down_of downs node processor =
+    if has_noted downs node processor then record { node = node; down = processor } ∷ [] else []
 
 -- the marks by a node: a processor's number is below that of the node of the terminals
-abbrev pub marks_by : List world.Down → ℕ → List DownView
-marks_by marks node = each_number (mark_of marks node) 0 terminal_node
+abbrev pub downs_by : List world.Down → ℕ → List DownView
+downs_by downs node = each_number (down_of downs node) 0 terminal_node
 
 -- the marks by all nodes, the processors and the node of the terminals
-abbrev pub marks_in : List world.Down → List DownView
-marks_in marks = each_number (marks_by marks) 0 (terminal_node + 1)
+abbrev pub downs_in : List world.Down → List DownView
+downs_in downs = each_number (downs_by downs) 0 (terminal_node + 1)
 
 -- Copies
 
@@ -114,7 +114,7 @@ abbrev pub view_of : World → View
 view_of w = record {
   stopped = stopped_from 0 w.stopped;
   reloads = w.reloads;
-  down = marks_in w.marks;
+  down = downs_in w.downs;
   copies = each_at copy_views 0 w.processes;
   terminals = map terminal_view w.terminals;
   sectors = each_at sector_views 0 w.processes;

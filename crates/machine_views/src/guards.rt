@@ -3,13 +3,13 @@ ghost use Rattle.std.specs.Prelude.{◌≡◌, true, false, [], ◌∷◌, map, 
 ghost use Rattle.process_semantics.specs.declared.point.Point.TheVariants.{Await};
 ghost use Rattle.world_semantics.specs.declared.role.Role.TheVariants.{Acting, Watching};
 ghost use Rattle.machine_views.specs.Examples.{fourth_next, sector, sevens, standing, told, turned_pair, written_pair};
-ghost use Rattle.machine_views.specs.Views.{awaited_view_at, copy_views, each_at, marks_in, sector_views};
+ghost use Rattle.machine_views.specs.Views.{awaited_view_at, copy_views, each_at, downs_in, sector_views};
 ghost use Rattle.site_machine.specs.Stopped.{stopped_from};
 
 /// The processors 1 and 3 have stopped, and the marks are told by their nodes and then by their processors.
 pub fn stops_and_marks_are_in_order()
     ensures stopped { stopped_from 0 (false ∷ true ∷ false ∷ true ∷ []) ≡ 1 ∷ 3 ∷ [] }
-    ensures down { marks_in (standing 16 2 ∷ standing 0 2 ∷ standing 16 1 ∷ [])
+    ensures down { downs_in (standing 16 2 ∷ standing 0 2 ∷ standing 16 1 ∷ [])
         ≡ told 0 2 ∷ told 16 1 ∷ told 16 2 ∷ [] }
 {}
 

@@ -3,7 +3,7 @@ ghost use Rattle.std.specs.Prelude.{◌≡◌, ◌↔◌, ◌<◌, ◌≤◌, �
 ghost use Rattle.gd_words.specs.Members.{IsAmong};
 ghost use Rattle.world_semantics.specs.World as world;
 ghost use Rattle.machine_views.specs.Orders.{IsRising};
-ghost use Rattle.machine_views.specs.Views.{marks_in};
+ghost use Rattle.machine_views.specs.Views.{downs_in};
 ghost use Rattle.site_machine.specs.Stopped.{stopped_from};
 
 /// The processors that are told are those that have stopped, and they rise.
@@ -15,7 +15,7 @@ pub fn stopped_processors_are_told()
 
 /// The marks that are told are those that stand, of a processor below 16 by one or by the node of the terminals.
 pub fn marks_are_told()
-    ensures { (marks : List world.Down) (node processor : ℕ)
-        → (IsAmong (record { node = node; down = processor }) (marks_in marks)
-        ↔ (node ≤ 16) × (processor < 16) × (world.has_noted marks node processor ≡ true)) }
+    ensures { (downs : List world.Down) (node processor : ℕ)
+        → (IsAmong (record { node = node; down = processor }) (downs_in downs)
+        ↔ (node ≤ 16) × (processor < 16) × (world.has_noted downs node processor ≡ true)) }
 {}

@@ -1,5 +1,5 @@
 ghost use Rattle.std.specs.Prelude.{◌≡◌, ◌++◌, map, IfOk, OnOk};
-ghost use Rattle.machine_views.specs.Views.{mark_of, marks_by, marks_in, terminal_view};
+ghost use Rattle.machine_views.specs.Views.{down_of, downs_by, downs_in, terminal_view};
 
 use crate::views::{DownView, TerminalView};
 use gd_words::{List, NoMemory};
@@ -21,36 +21,36 @@ pub(crate) fn reloads(alloc: Global, machine: &Machine) -> Result<List<u8>, NoMe
 }
 
 /// The marks that stand.
-pub(crate) fn down(alloc: Global, marks: &Downs) -> Result<List<DownView>, NoMemory>
-    ensures { IfOk result (λ down. down ≡ marks_in marks.now) }
+pub(crate) fn down(alloc: Global, downs: &Downs) -> Result<List<DownView>, NoMemory>
+    ensures { IfOk result (λ down. down ≡ downs_in downs.now) }
 {
     let mut down = List::new(alloc);
     for node in 0..NODES {
-        add_marks(marks, node, &mut down)?;
+        add_downs(downs, node, &mut down)?;
     }
     Ok(down)
 }
 
 /// The marks by a node are added to `down`.
-fn add_marks(marks: &Downs, node: u8, down: &mut List<DownView>) -> Result<(), NoMemory>
-    ensures { OnOk result (down.new ≡ down.old ++ marks_by marks.now node) }
+fn add_downs(downs: &Downs, node: u8, down: &mut List<DownView>) -> Result<(), NoMemory>
+    ensures { OnOk result (down.new ≡ down.old ++ downs_by downs.now node) }
 {
     for processor in 0..PROCESSORS {
-        add_mark(marks, node, processor, down)?;
+        add_down(downs, node, processor, down)?;
     }
     Ok(())
 }
 
 /// The mark of a processor by a node is added to `down`, if it stands.
-fn add_mark(
-    marks: &Downs,
+fn add_down(
+    downs: &Downs,
     node: u8,
     processor: u8,
     down: &mut List<DownView>,
 ) -> Result<(), NoMemory>
-    ensures { OnOk result (down.new ≡ down.old ++ mark_of marks.now node processor) }
+    ensures { OnOk result (down.new ≡ down.old ++ down_of downs.now node processor) }
 {
-    if marks.has(node, processor) {
+    if downs.has(node, processor) {
         down.push(DownView {
             node,
             down: processor,

@@ -16,7 +16,7 @@ pub fn view(alloc: Global, machine: &Machine) -> Result<View, NoMemory>
     let processes = machine.processes();
     let stopped = stopped_processors(alloc, machine)?;
     let reloads = reloads(alloc, machine)?;
-    let down = down(alloc, machine.marks())?;
+    let down = down(alloc, machine.downs())?;
     let copies = copies(alloc, processes)?;
     let terminals = terminals(alloc, machine.terminals())?;
     let sectors = sectors(alloc, processes)?;

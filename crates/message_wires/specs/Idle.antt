@@ -46,7 +46,7 @@ none_owed stopped owed =
 
 -- whether a node has marked a processor, if that has stopped
 abbrev pub has_marked_if : World → ℕ → ℕ → Option Bool → Bool
-has_marked_if w node processor (Some true) = has_noted w.marks node processor
+has_marked_if w node processor (Some true) = has_noted w.downs node processor
 has_marked_if w node processor (Some false) = true
 has_marked_if w node processor None = true
 

@@ -58,7 +58,7 @@ state_after_handing packet s =
 -- whether the receiver of a letter admits it, if it isn't old: it runs, and hasn't marked the sender
 abbrev pub is_admitted : MachineState → Letter → Bool
 is_admitted s letter =
-    is_running s.world.stopped letter.receiver && not (has_noted s.world.marks letter.receiver letter.sender)
+    is_running s.world.stopped letter.receiver && not (has_noted s.world.downs letter.receiver letter.sender)
 
 abbrev pub state_after_receiving : Sent → MachineState → MachineState
 state_after_receiving packet s =

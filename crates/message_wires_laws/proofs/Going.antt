@@ -108,13 +108,13 @@ reload-goes processor s = by (slice_get s.world.stopped processor)
     by (Some true) = counted (slice_get s.world.reloads processor)
     by (Some false) = skips
 
-pub marks-none : (node processor more : ℕ) (s : MachineState)
+pub downs-none : (node processor more : ℕ) (s : MachineState)
     → ((notes_from node processor more s).site ≡ s.site)
     × ((notes_from node processor more s).world.stopped ≡ s.world.stopped)
-marks-none node processor zero s = (refl, refl)
-marks-none node processor (suc more) s =
+downs-none node processor zero s = (refl, refl)
+downs-none node processor (suc more) s =
     by (down_done node processor s.world) (mark-none s.site s.world node processor)
-    (marks-none node (processor + 1) more)
+    (downs-none node (processor + 1) more)
   where
     by : (done : Option Done) → StopsNone s.world done
         → ((s : MachineState) → ((notes_from node (processor + 1) more s).site ≡ s.site)
@@ -124,11 +124,11 @@ marks-none node processor (suc more) s =
     by None none rest = rest s
     by (Some done) none rest = let later = rest (noted_by node processor s (Some done)) in (later.0, later.1 ∙ none)
 
-marks-before : (node processor more : ℕ) (s : MachineState)
+downs-before : (node processor more : ℕ) (s : MachineState)
     → (notes_from node processor more s).wires.before ≡ s.wires.before
-marks-before node processor zero s = refl
-marks-before node processor (suc more) s =
-    by (down_done node processor s.world) (marks-before node (processor + 1) more)
+downs-before node processor zero s = refl
+downs-before node processor (suc more) s =
+    by (down_done node processor s.world) (downs-before node (processor + 1) more)
   where
     by : (done : Option Done)
         → ((s : MachineState) → (notes_from node (processor + 1) more s).wires.before ≡ s.wires.before)
@@ -145,8 +145,8 @@ tick-goes node s = by (is_running s.world.stopped node)
     by : (test : Bool) → Goes s (if test then Makes
         (state_after_tick node (notes_from node 0 (length s.world.stopped) s)) else Skips)
     by true =
-        let marked = marks-none node 0 (length s.world.stopped) s in
-        stops_none marked.0 marked.1 (marks-before node 0 (length s.world.stopped) s)
+        let marked = downs-none node 0 (length s.world.stopped) s in
+        stops_none marked.0 marked.1 (downs-before node 0 (length s.world.stopped) s)
     by false = skips
 
 pub play-goes : (s : MachineState) (event : Event) → Goes s (play s event)

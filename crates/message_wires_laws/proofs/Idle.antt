@@ -119,7 +119,7 @@ among-letter one (first ∷ owed) (inr among) = inr (among-letter one owed among
 module _ (w : World) where
   marked-of : (node processor : ℕ) → is_running w.stopped node ≡ true → slice_get w.stopped processor ≡ Some true
       → has_marked_all w node ≡ true
-      → has_noted w.marks node processor ≡ true
+      → has_noted w.downs node processor ≡ true
   marked-of node processor runs stopped all =
       let each : all_from (λ processor. has_marked_if w node processor (slice_get w.stopped processor)) 0
       (length w.stopped) ≡ true =
@@ -144,16 +144,16 @@ module _ (w : World) where
       by (Some one) e is = from-first (λ node. has_marked_all w node) (length w.stopped) parts.0 node
           (slice_get_within w.stopped node one e)
 
-  marks-all : (node : ℕ) → ((processor : ℕ) → is_running w.stopped node ≡ true
-      → slice_get w.stopped processor ≡ Some true → has_noted w.marks node processor ≡ true)
+  downs-all : (node : ℕ) → ((processor : ℕ) → is_running w.stopped node ≡ true
+      → slice_get w.stopped processor ≡ Some true → has_noted w.downs node processor ≡ true)
       → has_marked_all w node ≡ true
-  marks-all node marks = by (is_running w.stopped node) refl
+  downs-all node downs = by (is_running w.stopped node) refl
     where
       each : is_running w.stopped node ≡ true → (processor : ℕ) (stopped : Option Bool)
           → slice_get w.stopped processor ≡ stopped
           → has_marked_if w node processor stopped ≡ true
       each runs processor None e = refl
-      each runs processor (Some true) e = marks processor runs e
+      each runs processor (Some true) e = downs processor runs e
       each runs processor (Some false) e = refl
 
       by : (runs : Bool) → is_running w.stopped node ≡ runs
@@ -212,8 +212,8 @@ module _ (s : MachineState) (sent : List Letter) where
       one-not (is_running s.world.stopped one.letter.sender) (is_running s.world.stopped one.letter.receiver)
       (idle.owed one.letter (among-letter one s.wires.owed (among-at s.wires.owed k one there)))))
       (both_true (passes-all (λ node. has_marked_all s.world node) 0 (length s.world.stopped)
-      (λ node. marks-all s.world node (idle.marked node)))
-      (marks-all s.world terminal_node (idle.marked terminal_node))))))
+      (λ node. downs-all s.world node (idle.marked node)))
+      (downs-all s.world terminal_node (idle.marked terminal_node))))))
 
   pub idle-both : is_idle s ≡ true ↔ IsIdle s.site (post_of s sent)
   idle-both = (idle-post, post-idle)

@@ -9,11 +9,11 @@ use Rattle.computed_changes.specs.Stopped.{may_note, world_at_down, marked_where
 use Rattle.message_wires.specs.machine_states.specs.States.{Played, Makes, Skips, Would}
 use Rattle.message_wires.specs.Wires.{Wires}
 use Rattle.message_wires.specs.Play.{MachineState, noted_by, notes_from, state_after_tick, play}
-use Rattle.message_wires_laws.proofs.Going.{marks-none}
+use Rattle.message_wires_laws.proofs.Going.{downs-none}
 
 -- a node has marked a processor
 abbrev HasMarked : ℕ → ℕ → MachineState → Type 0
-HasMarked node processor s = has_noted s.world.marks node processor ≡ true
+HasMarked node processor s = has_noted s.world.downs node processor ≡ true
 
 -- marks stay
 mark-stays : (node other processor : ℕ) (s : MachineState) → HasMarked node processor s
@@ -25,7 +25,7 @@ mark-stays node other processor s has = by (slice_get s.world.stopped other)
     grown false old e = e
 
     may : (test : Bool) → HasMarked node processor (noted_by node other s (marked_where node other s.world test))
-    may true = grown _ (has_noted s.world.marks node processor) has
+    may true = grown _ (has_noted s.world.downs node processor) has
     may false = has
 
     by : (stopped : Option Bool) → HasMarked node processor
@@ -41,16 +41,16 @@ mark-made : (node processor : ℕ) (s : MachineState) → is_running s.world.sto
 mark-made node processor s runs stopped =
     subst (λ (one : Option Bool). HasMarked node processor
     (noted_by node processor s (mark_where node processor s.world one))) (sym stopped)
-    (may (has_noted s.world.marks node processor) refl)
+    (may (has_noted s.world.downs node processor) refl)
   where
     Made : Bool → Type 0
     Made test = HasMarked node processor (noted_by node processor s (marked_where node processor s.world test))
 
-    new : (has_noted (world_at_down node processor s.world).world.marks node processor) ≡ true
-    new = ap (λ b. b || has_noted s.world.marks node processor)
+    new : (has_noted (world_at_down node processor s.world).world.downs node processor) ≡ true
+    new = ap (λ b. b || has_noted s.world.downs node processor)
         (both_true (eq-eqb node node refl) (eq-eqb processor processor refl))
 
-    may : (marked : Bool) → has_noted s.world.marks node processor ≡ marked → Made (may_note node processor s.world)
+    may : (marked : Bool) → has_noted s.world.downs node processor ≡ marked → Made (may_note node processor s.world)
     may true e = subst Made (sym (ap₂ (λ a b. a && not b) runs e)) e
     may false e = subst Made (sym (ap₂ (λ a b. a && not b) runs e)) new
 
@@ -71,20 +71,20 @@ all-made node from (suc more) zero s runs low stopped =
     (subst (λ n. slice_get s.world.stopped n ≡ Some true) here stopped)))
 all-made node from (suc more) (suc k) s runs low stopped =
     let there : from + suc k ≡ from + 1 + k = omega arith in
-    let same = (marks-none node from 1 s).1 in
+    let same = (downs-none node from 1 s).1 in
     subst (λ n. HasMarked node n (notes_from node from (suc more) s)) (sym there)
     (all-made node (from + 1) more k (noted_by node from s (down_done node from s.world))
     (ap (λ (xs : List Bool). is_running xs node) same ∙ runs) (omega (arith, low))
     (ap (λ (xs : List Bool). slice_get xs (from + 1 + k)) same ∙ ap (slice_get s.world.stopped) (sym there) ∙ stopped))
 
-pub tick-marks : (s next : MachineState) (node processor : ℕ) → play s (Tick node) ≡ Makes next
+pub tick-downs : (s next : MachineState) (node processor : ℕ) → play s (Tick node) ≡ Makes next
     → slice_get next.world.stopped processor ≡ Some true
-    → has_noted next.world.marks node processor ≡ true
-tick-marks s next node processor e = subst Marks e (by (is_running s.world.stopped node) refl)
+    → has_noted next.world.downs node processor ≡ true
+tick-downs s next node processor e = subst Marks e (by (is_running s.world.stopped node) refl)
   where
     Marks : Played Wires → Type 0
     Marks (Makes next) =
-        slice_get next.world.stopped processor ≡ Some true → has_noted next.world.marks node processor ≡ true
+        slice_get next.world.stopped processor ≡ Some true → has_noted next.world.downs node processor ≡ true
     Marks Skips = Unit {0}
     Marks (Would harm) = Unit {0}
 
@@ -92,7 +92,7 @@ tick-marks s next node processor e = subst Marks e (by (is_running s.world.stopp
         → Marks (if test then Makes (state_after_tick node (notes_from node 0 (length s.world.stopped) s)) else Skips)
     by true runs = λ stopped.
         let was : slice_get s.world.stopped processor ≡ Some true =
-        ap (λ (xs : List Bool). slice_get xs processor) (sym (marks-none node 0 (length s.world.stopped) s).1)
+        ap (λ (xs : List Bool). slice_get xs processor) (sym (downs-none node 0 (length s.world.stopped) s).1)
         ∙ stopped in
         let here : 0 + processor ≡ processor = omega arith in
         subst (λ n. HasMarked node n (notes_from node 0 (length s.world.stopped) s)) here

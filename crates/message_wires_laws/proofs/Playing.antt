@@ -293,9 +293,9 @@ record Marked (node : ℕ) (s end : MachineState) (sent : List Letter) : Type 0 
   more : (letter : Letter) → IsAmong letter sent → IsAmong letter all
   from : (one : Sent) → IsOn one end.wires → IsOn one s.wires ⊎ IsAmong one.letter all
 
-marks-on : (node processor more : ℕ) (s : MachineState) (sent : List Letter) → AreTidy s.wires sent
+downs-on : (node processor more : ℕ) (s : MachineState) (sent : List Letter) → AreTidy s.wires sent
     → Marked node s (notes_from node processor more s) sent
-marks-on node processor zero s sent tidy = record {
+downs-on node processor zero s sent tidy = record {
   all = sent;
   site = refl;
   makes = no_mark;
@@ -304,8 +304,8 @@ marks-on node processor zero s sent tidy = record {
   more = λ letter among. among;
   from = λ one on. inl on;
 }
-marks-on node processor (suc more) s sent tidy =
-    by (down_done node processor s.world) refl (λ next all. marks-on node (processor + 1) more next all)
+downs-on node processor (suc more) s sent tidy =
+    by (down_done node processor s.world) refl (λ next all. downs-on node (processor + 1) more next all)
   where
     by : (done : Option Done) → down_done node processor s.world ≡ done
         → ((next : MachineState) (all : List Letter) → AreTidy next.wires all
@@ -352,7 +352,7 @@ tick-on events s sent carried node were = by (is_running s.world.stopped node) r
         record { played = played_more carried.played plays_no_tick; tidy = carried.tidy; honest = carried.honest }
     by true e =
         let end = notes_from node 0 (length s.world.stopped) s in
-        let marked = marks-on node 0 (length s.world.stopped) s sent carried.tidy in
+        let marked = downs-on node 0 (length s.world.stopped) s sent carried.tidy in
         let played = played_more carried.played (plays_tick e marked.makes) in (
           marked.all,
           record {

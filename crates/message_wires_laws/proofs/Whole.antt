@@ -24,7 +24,8 @@ use Rattle.world_semantics.specs.Core.{Core}
 use Rattle.world_semantics.specs.Kept.{own_acts}
 use Rattle.world_semantics.specs.Messages.{Message, Asking, Replying, Checkpointing, Taking}
 use Rattle.world_semantics.specs.Records.{Records, records_of}
-use Rattle.world_semantics.specs.Running.{Done, Own, Stepped, copy_acted, ending_step, first_step, free_step, mark_step}
+use Rattle.world_semantics.specs.Running.{Done, Own, Stepped, copy_acted, ending_step, first_step, free_step}
+use Rattle.world_semantics.specs.Running.{step_at_checkpoint}
 use Rattle.world_semantics.specs.Running.{copy_passed, own_of, own_step, renewing_step, run_done, run_pair}
 use Rattle.world_semantics.specs.Running.{sending_step, step_as, step_at, step_if, step_of, step_of_copy}
 use Rattle.world_semantics.specs.Passes.{after_sending, after_sent, after_told, checkpoint_of}
@@ -93,21 +94,21 @@ module _ (site : Site) (number : ℕ) (pair : Pair) (records : Records) where
   if-paired step stays true = stays
   if-paired step stays false = tt
 
-  module _ (marks : List Down) (k : Which) where
-    mark-paired : (free sent : Bool) → StaysPaired pair (mark_step number k pair records free sent)
-    mark-paired true sent = with-role k (copy_passed number records (copy_of k pair)) pair pair refl refl refl
-    mark-paired false true = tt
-    mark-paired false false = sending-paired k
+  module _ (downs : List Down) (k : Which) where
+    checkpoint-paired : (free sent : Bool) → StaysPaired pair (step_at_checkpoint number k pair records free sent)
+    checkpoint-paired true sent = with-role k (copy_passed number records (copy_of k pair)) pair pair refl refl refl
+    checkpoint-paired false true = tt
+    checkpoint-paired false false = sending-paired k
 
-    renewing-paired : (stands : Point) → StaysPaired pair (renewing_step number k pair marks records stands)
+    renewing-paired : (stands : Point) → StaysPaired pair (renewing_step number k pair downs records stands)
     renewing-paired stands = by stands
       where
         may : StaysPaired pair (step_if
-            (not (has_noted marks (copy_of k pair).processor (copy_of (other_of k) pair).processor))
+            (not (has_noted downs (copy_of k pair).processor (copy_of (other_of k) pair).processor))
             (sending_step number k pair records))
         may = if-paired (sending_step number k pair records) (sending-paired k) _
 
-        by : (stands : Point) → StaysPaired pair (renewing_step number k pair marks records stands)
+        by : (stands : Point) → StaysPaired pair (renewing_step number k pair downs records stands)
         by point.Await = tt
         by point.AtCheckpoint = may
         by point.Inner = may
@@ -118,15 +119,15 @@ module _ (site : Site) (number : ℕ) (pair : Pair) (records : Records) where
         by point.Ended = may
 
     free-paired : (stands : Point) (sent renewal : Bool)
-        → StaysPaired pair (free_step site number k pair marks records stands sent renewal)
+        → StaysPaired pair (free_step site number k pair downs records stands sent renewal)
     free-paired stands true renewal =
         if-paired (ending_step number k pair records)
-        (with-role k (after_sent (copy_of k pair)) pair pair refl refl refl) (may_pass marks k pair)
+        (with-role k (after_sent (copy_of k pair)) pair pair refl refl refl) (may_pass downs k pair)
     free-paired stands false true = renewing-paired stands
     free-paired stands false false = own-paired k (own_of site number k pair records stands)
 
-    point-paired : (stands : Point) → StaysPaired pair (step_at site number k pair marks records stands)
-    point-paired point.AtCheckpoint = mark-paired (may_pass marks k pair) (copy_of k pair).sent
+    point-paired : (stands : Point) → StaysPaired pair (step_at site number k pair downs records stands)
+    point-paired point.AtCheckpoint = checkpoint-paired (may_pass downs k pair) (copy_of k pair).sent
     point-paired point.Inner = free-paired point.Inner _ _
     point-paired point.Take = free-paired point.Take _ _
     point-paired point.Ask = free-paired point.Ask _ _
@@ -135,16 +136,16 @@ module _ (site : Site) (number : ℕ) (pair : Pair) (records : Records) where
     point-paired point.Await = free-paired point.Await _ _
     point-paired point.Ended = free-paired point.Ended _ _
 
-    role-paired : (role : Role) → StaysPaired pair (step_as site number k pair marks records role)
+    role-paired : (role : Role) → StaysPaired pair (step_as site number k pair downs records role)
     role-paired Acting = point-paired (process.point (copy_of k pair).core.state)
     role-paired Watching = tt
     role-paired Blank = tt
     role-paired Gone = tt
 
-  step-paired : (marks : List Down) → StaysPaired pair (step_of site number pair marks records)
-  step-paired marks =
-      either (step_of_copy site number pair marks records First) (step_of_copy site number pair marks records Second)
-      (role-paired marks First pair.first.role) (role-paired marks Second pair.second.role)
+  step-paired : (downs : List Down) → StaysPaired pair (step_of site number pair downs records)
+  step-paired downs =
+      either (step_of_copy site number pair downs records First) (step_of_copy site number pair downs records Second)
+      (role-paired downs First pair.first.role) (role-paired downs Second pair.second.role)
     where
       either : (one other : Option Stepped) → StaysPaired pair one → StaysPaired pair other
           → StaysPaired pair (first_step one other)
@@ -279,8 +280,8 @@ module _ (site : Site) (w : World) where
       by : (pair : Option Pair) → slice_get w.processes number ≡ pair → StaysWhole w (run_pair site number w pair)
       by None there = tt
       by (Some pair) there =
-          lifted-whole number pair (step_of site number pair w.marks (records_of w)) there
-          (step-paired site number pair (records_of w) w.marks)
+          lifted-whole number pair (step_of site number pair w.downs (records_of w)) there
+          (step-paired site number pair (records_of w) w.downs)
 
   pub enter-whole : (number : ℕ) → StaysWhole w (enter_done site number w)
   enter-whole number = by (slice_get w.terminals number)

@@ -61,7 +61,7 @@ pub fn what_is_owed_is_put_again()
 pub fn what_has_stopped_is_marked()
     ensures { (s next : MachineState) (node processor : ℕ) → play s (Tick node) ≡ Makes next
         → slice_get next.world.stopped processor ≡ Some true
-        → has_noted next.world.marks node processor ≡ true }
+        → has_noted next.world.downs node processor ≡ true }
 {}
 
 /// Whether a state is idle is computed: it is where nothing is left to do for its post.

@@ -134,7 +134,7 @@ pub run-elsewhere : (site : Site) (w : World) (number x : ℕ) (pair : Pair) (do
     → pair.first.processor ≢ x → pair.second.processor ≢ x
     → needs_at site done.world x ≡ needs_at site w x
 run-elsewhere site w number x pair done made there first second =
-    by (step_of site number pair w.marks (records_of w)) (run-home site number pair w.marks (records_of w))
+    by (step_of site number pair w.downs (records_of w)) (run-home site number pair w.downs (records_of w))
     (sym (ap (run_pair site number w) there) ∙ made)
   where
     away : (j : Which) → (copy_of j pair).processor ≢ x

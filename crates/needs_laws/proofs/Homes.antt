@@ -21,7 +21,7 @@ use Rattle.world_semantics.specs.Kept.{own_acts}
 use Rattle.world_semantics.specs.Passes.{after_told}
 use Rattle.world_semantics.specs.Rules.{after_takeover, pair_after_down, pair_at_down, reloaded_by, renewals_ended}
 use Rattle.world_semantics.specs.Rules.{taker}
-use Rattle.world_semantics.specs.Running.{Own, Stepped, first_step, mark_step, own_of, own_step, passing_step}
+use Rattle.world_semantics.specs.Running.{Own, Stepped, first_step, step_at_checkpoint, own_of, own_step, passing_step}
 use Rattle.world_semantics.specs.Running.{ending_step, free_step, renewing_step, sending_step, step_as, step_at}
 use Rattle.world_semantics.specs.Running.{step_if, step_of, step_of_copy}
 use Rattle.computed_changes.specs.Checkpoints.{applied_step, applied_step_where, core_as, is_of_last, taken_step}
@@ -41,7 +41,7 @@ StepsHome pair (Some step) = AreHome pair step.pair
 
 -- Runs
 
-module _ (site : Site) (number : ℕ) (pair : Pair) (marks : List Down) (records : Records) where
+module _ (site : Site) (number : ℕ) (pair : Pair) (downs : List Down) (records : Records) where
   own-home : (k : Which) (own : Own) (j : Which)
       → (copy_of j (own_step number k pair records own).pair).processor ≡ (copy_of j pair).processor
   own-home First own First = refl
@@ -67,10 +67,10 @@ module _ (site : Site) (number : ℕ) (pair : Pair) (marks : List Down) (records
   sent-home Second First = refl
   sent-home Second Second = refl
 
-  mark-home : (k : Which) (free sent : Bool) → StepsHome pair (mark_step number k pair records free sent)
-  mark-home k true sent = passed-home k
-  mark-home k false true = tt
-  mark-home k false false = sent-home k
+  checkpoint-home : (k : Which) (free sent : Bool) → StepsHome pair (step_at_checkpoint number k pair records free sent)
+  checkpoint-home k true sent = passed-home k
+  checkpoint-home k false true = tt
+  checkpoint-home k false false = sent-home k
 
   ended-home : (k j : Which)
       → (copy_of j (ending_step number k pair records).pair).processor ≡ (copy_of j pair).processor
@@ -87,9 +87,9 @@ module _ (site : Site) (number : ℕ) (pair : Pair) (marks : List Down) (records
   everything-home k noted = if-home noted (sending_step number k pair records) (sent-home k)
 
   abbrev unmarked : Which → Bool
-  unmarked k = not (has_noted marks (copy_of k pair).processor (copy_of (other_of k) pair).processor)
+  unmarked k = not (has_noted downs (copy_of k pair).processor (copy_of (other_of k) pair).processor)
 
-  renewed-home : (k : Which) (stands : Point) → StepsHome pair (renewing_step number k pair marks records stands)
+  renewed-home : (k : Which) (stands : Point) → StepsHome pair (renewing_step number k pair downs records stands)
   renewed-home k point.Await = tt
   renewed-home k point.AtCheckpoint = everything-home k (unmarked k)
   renewed-home k point.Inner = everything-home k (unmarked k)
@@ -100,14 +100,14 @@ module _ (site : Site) (number : ℕ) (pair : Pair) (marks : List Down) (records
   renewed-home k point.Ended = everything-home k (unmarked k)
 
   free-home : (k : Which) (stands : Point) (sent renewal : Bool)
-      → StepsHome pair (free_step site number k pair marks records stands sent renewal)
+      → StepsHome pair (free_step site number k pair downs records stands sent renewal)
   free-home k stands true renewal =
-      if-home (may_pass marks k pair) (ending_step number k pair records) (ended-home k)
+      if-home (may_pass downs k pair) (ending_step number k pair records) (ended-home k)
   free-home k stands false true = renewed-home k stands
   free-home k stands false false = own-any k (own_of site number k pair records stands)
 
-  at-home : (k : Which) (stands : Point) → StepsHome pair (step_at site number k pair marks records stands)
-  at-home k point.AtCheckpoint = mark-home k (may_pass marks k pair) (copy_of k pair).sent
+  at-home : (k : Which) (stands : Point) → StepsHome pair (step_at site number k pair downs records stands)
+  at-home k point.AtCheckpoint = checkpoint-home k (may_pass downs k pair) (copy_of k pair).sent
   at-home k point.Inner = free-home k point.Inner (copy_of k pair).sent (copy_of k pair).renewal
   at-home k point.Take = free-home k point.Take (copy_of k pair).sent (copy_of k pair).renewal
   at-home k point.Ask = free-home k point.Ask (copy_of k pair).sent (copy_of k pair).renewal
@@ -116,7 +116,7 @@ module _ (site : Site) (number : ℕ) (pair : Pair) (marks : List Down) (records
   at-home k point.Device = free-home k point.Device (copy_of k pair).sent (copy_of k pair).renewal
   at-home k point.Ended = free-home k point.Ended (copy_of k pair).sent (copy_of k pair).renewal
 
-  as-home : (k : Which) (role : Role) → StepsHome pair (step_as site number k pair marks records role)
+  as-home : (k : Which) (role : Role) → StepsHome pair (step_as site number k pair downs records role)
   as-home k Acting = at-home k (process.point (copy_of k pair).core.state)
   as-home k Watching = tt
   as-home k Blank = tt
@@ -127,10 +127,10 @@ module _ (site : Site) (number : ℕ) (pair : Pair) (marks : List Down) (records
   first-home None other at too = too
   first-home (Some step) other at too = at
 
-  pub run-home : StepsHome pair (step_of site number pair marks records)
+  pub run-home : StepsHome pair (step_of site number pair downs records)
   run-home =
-      first-home (step_of_copy site number pair marks records First)
-      (step_of_copy site number pair marks records Second) (as-home First pair.first.role)
+      first-home (step_of_copy site number pair downs records First)
+      (step_of_copy site number pair downs records Second) (as-home First pair.first.role)
       (as-home Second pair.second.role)
 
 -- Messages

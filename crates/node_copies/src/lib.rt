@@ -11,7 +11,7 @@
 mod acting;
 pub mod address;
 mod device;
-pub mod marks;
+pub mod downs;
 pub mod one;
 mod receiving;
 pub mod recording;
@@ -24,10 +24,10 @@ pub mod step;
 mod telling;
 
 pub use address::Address;
+pub use downs::Downs;
 pub use file_calls::{Arrival, Waiting};
 pub use kept_acts::CopyShare;
 pub use kept_acts::laws::all_that_close_make_the_closed_run;
-pub use marks::Downs;
 pub use number_ranges::{ChangeMessage, Effect};
 pub use one::NodeCopy;
 pub use process_control::{Asking, CopyControl};

@@ -55,12 +55,12 @@ marked-grows node processor s (Some done) =
     (done.sendings ++ sent_again s.site s.world done.world node processor)) (paid_between node processor s.wires) in
     omega (arith, wires_after_post)
 
-pub marks-grow : (node processor left : ℕ) (s : MachineState)
+pub downs-grow : (node processor left : ℕ) (s : MachineState)
     → s.wires.count ≤ (notes_from node processor left s).wires.count
-marks-grow node processor zero s = omega arith
-marks-grow node processor (suc left) s =
+downs-grow node processor zero s = omega arith
+downs-grow node processor (suc left) s =
     let one = marked-grows node processor s (down_done node processor s.world) in
-    let rest = marks-grow node (processor + 1) left (noted_by node processor s (down_done node processor s.world)) in
+    let rest = downs-grow node (processor + 1) left (noted_by node processor s (down_done node processor s.world)) in
     omega (arith, one, rest)
 
 -- the world is of a size within the limits
@@ -71,7 +71,7 @@ record IsSmall (w : World) : Type 0 where
 
 record Counted (n : ℕ) (s : MachineState) : Type 0 where
   small : IsSmall s.world
-  count : s.wires.count + left_marks s.world.marks s.world.reloads * 206158430208 ≤ n + 1722679634027347968
+  count : s.wires.count + left_marks s.world.downs s.world.reloads * 206158430208 ≤ n + 1722679634027347968
 
 abbrev CountedPlayed : ℕ → Played Wires → Type 0
 CountedPlayed n (Makes next) = Counted n next
@@ -99,7 +99,7 @@ module _ (n : ℕ) where
         let wires_after_post = posted-count (letters_of s.site done.world done.sendings) s.wires in
         let fewer = letters-few s.site done.world done.sendings in
         let few = quiet.few in
-        let same = ap₂ left_marks quiet.marks quiet.reloads in
+        let same = ap₂ left_marks quiet.downs quiet.reloads in
         let low = is.count in
         omega (arith, wires_after_post, fewer, few, same, low);
   }
@@ -171,7 +171,7 @@ module _ (n : ℕ) where
           terminals = is.small.terminals;
         };
         count =
-            let fewer = left-reloaded processor times s.world.marks s.world.reloads can.there can.few in
+            let fewer = left-reloaded processor times s.world.downs s.world.reloads can.there can.few in
             let low = is.count in
             omega (arith, fewer, low);
       })
@@ -202,15 +202,15 @@ module _ (n before : ℕ) (less : before < n) (kinds : ℕ → Bool) (low : n �
       by (slice_get s.world.stopped processor) refl
       (mark-within n kinds s.world within.0 before node processor less watchers)
     where
-      marks : may_note node processor s.world ≡ true → slice_get s.world.stopped processor ≡ Some true
+      downs : may_note node processor s.world ≡ true → slice_get s.world.stopped processor ≡ Some true
           → AnyWithin n kinds (Some (world_at_down node processor s.world))
           → Counted n (noted_by node processor s (Some (world_at_down node processor s.world)))
-      marks may there done =
-          let both = both-true (is_running s.world.stopped node) (not (has_noted s.world.marks node processor)) may in
+      downs may there done =
+          let both = both-true (is_running s.world.stopped node) (not (has_noted s.world.downs node processor)) may in
           let node_low = running-low s.world.stopped node is.small.stopped both.0 in
           let down = there-low s.world.stopped processor true there in
           let few = is.small.stopped in
-          let left = left-less (record { node = node; down = processor }) s.world.marks s.world.reloads node_low
+          let left = left-less (record { node = node; down = processor }) s.world.downs s.world.reloads node_low
           (omega (arith, down, few)) (not-marked _ both.1) in
           let processes : length (world_at_down node processor s.world).world.processes ≡ length s.world.processes =
           length-map s.world.processes (pair_at_down node processor) in
@@ -240,7 +240,7 @@ module _ (n before : ℕ) (less : before < n) (kinds : ℕ → Bool) (low : n �
           → slice_get s.world.stopped processor ≡ Some true
           → AnyWithin n kinds (marked_where node processor s.world test)
           → Counted n (noted_by node processor s (marked_where node processor s.world test))
-      where_may true may there done = marks may there done
+      where_may true may there done = downs may there done
       where_may false may there done = is
 
       by : (stopped : Option Bool) → slice_get s.world.stopped processor ≡ stopped
@@ -250,11 +250,11 @@ module _ (n before : ℕ) (less : before < n) (kinds : ℕ → Bool) (low : n �
       by (Some false) there done = is
       by (Some true) there done = where_may (may_note node processor s.world) refl there done
 
-  marks-counted : (node processor left : ℕ) (s : MachineState) → WholeWithin n kinds s
+  downs-counted : (node processor left : ℕ) (s : MachineState) → WholeWithin n kinds s
       → WatchersWithin before s.world.processes → Counted n s → Counted n (notes_from node processor left s)
-  marks-counted node processor zero s within watchers is = is
-  marks-counted node processor (suc left) s within watchers is =
-      marks-counted node (processor + 1) left _
+  downs-counted node processor zero s within watchers is = is
+  downs-counted node processor (suc left) s within watchers is =
+      downs-counted node (processor + 1) left _
       (marked-within n kinds node processor s (down_done node processor s.world) within
       (mark-within n kinds s.world within.0 before node processor less watchers))
       (marked-watchers n kinds before node processor s (down_done node processor s.world) watchers
@@ -268,7 +268,7 @@ module _ (n before : ℕ) (less : before < n) (kinds : ℕ → Bool) (low : n �
       by : (test : Bool) → CountedPlayed n (if test then Makes
           (state_after_tick node (notes_from node 0 (length s.world.stopped) s)) else Skips)
       by true = counted-wires n (notes_from node 0 (length s.world.stopped) s) _ refl
-          (marks-counted node 0 (length s.world.stopped) s within watchers is)
+          (downs-counted node 0 (length s.world.stopped) s within watchers is)
       by false = tt
 
 -- Events

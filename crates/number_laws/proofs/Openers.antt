@@ -38,7 +38,8 @@ use Rattle.computed_changes.specs.Fitting.{depths_of, put_fitting}
 use Rattle.computed_changes.specs.Checkpoints.{is_next_for, is_of_last}
 use Rattle.computed_changes.specs.Handed.{brought_to, copy_in, handed_done, replied_done, step_by}
 use Rattle.computed_changes.specs.Replies.{awaits, awaits_at, printed_at, printed_done, printed_where}
-use Rattle.world_semantics.proofs.Lifted.{free_at, lifted, made_if, mark_done, own_made, renewing_at, run_as, run_at}
+use Rattle.world_semantics.proofs.Lifted.{free_at, lifted, made_if, done_at_checkpoint, own_made, renewing_at}
+use Rattle.world_semantics.proofs.Lifted.{run_as, run_at}
 use Rattle.computed_changes.proofs.Lifted.{acknowledged_where, applied_as, applied_made, applied_where, asked_done}
 use Rattle.computed_changes.proofs.Lifted.{checkpoint_done, got_done, got_where, taken_done}
 use Rattle.computed_changes.specs.Stopped.{stop_if, stop_where, stop_done, marked_where, mark_where, down_done}
@@ -203,15 +204,15 @@ module _ (site : Site) (w : World) where
 
   free-named : (number : ℕ) (k : Which) (pair : Pair) (stands : Point) (sent renewal : Bool)
       → AnyNames site (free_at site number k pair w stands sent renewal)
-  free-named number k pair stands true renewal = ends-named number k pair (may_pass w.marks k pair)
+  free-named number k pair stands true renewal = ends-named number k pair (may_pass w.downs k pair)
   free-named number k pair stands false true = renews-named number k pair stands
   free-named number k pair stands false false = acts-named number k pair stands
 
   run-point : (number : ℕ) (k : Which) (pair : Pair) (stands : Point)
       → AnyNames site (run_at site number k pair w stands)
-  run-point number k pair point.AtCheckpoint = by (may_pass w.marks k pair) (copy_of k pair).sent
+  run-point number k pair point.AtCheckpoint = by (may_pass w.downs k pair) (copy_of k pair).sent
     where
-      by : (passes sent : Bool) → AnyNames site (mark_done number k pair w passes sent)
+      by : (passes sent : Bool) → AnyNames site (done_at_checkpoint number k pair w passes sent)
       by true sent = tt
       by false true = tt
       by false false = (tt, tt)
@@ -248,8 +249,8 @@ module _ (site : Site) (w : World) where
       by : (pair : Option Pair) → AnyNames site (run_pair site number w pair)
       by None = tt
       by (Some pair) =
-          either-named number (step_of_copy site number pair w.marks (records_of w) First)
-          (step_of_copy site number pair w.marks (records_of w) Second)
+          either-named number (step_of_copy site number pair w.downs (records_of w) First)
+          (step_of_copy site number pair w.downs (records_of w) Second)
           (run-role number First pair pair.first.role)
           (run-role number Second pair pair.second.role)
 

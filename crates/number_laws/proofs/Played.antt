@@ -154,11 +154,11 @@ module _ (n : ℕ) (kinds : ℕ → Bool) where
   marked-watchers before node processor s (Some done) watchers is = is
 
   -- where the eras of copies that watch have room: a copy takes over once
-  marks-within : (before node processor left : ℕ) (s : MachineState) → before < n → WholeWithin n kinds s
+  downs-within : (before node processor left : ℕ) (s : MachineState) → before < n → WholeWithin n kinds s
       → WatchersWithin before s.world.processes → WholeWithin n kinds (notes_from node processor left s)
-  marks-within before node processor zero s less within watchers = within
-  marks-within before node processor (suc left) s less within watchers =
-      marks-within before node (processor + 1) left _ less
+  downs-within before node processor zero s less within watchers = within
+  downs-within before node processor (suc left) s less within watchers =
+      downs-within before node (processor + 1) left _ less
       (marked-within node processor s (down_done node processor s.world) within
       (mark-within n kinds s.world within.0 before node processor less watchers))
       (marked-watchers before node processor s (down_done node processor s.world) watchers
@@ -171,7 +171,7 @@ module _ (n : ℕ) (kinds : ℕ → Bool) where
       by : (test : Bool) → PlayedWithin n kinds
           (if test then Makes (state_after_tick node (notes_from node 0 (length s.world.stopped) s)) else Skips)
       by true =
-          let marked = marks-within before node 0 (length s.world.stopped) s less within watchers in
+          let marked = downs-within before node 0 (length s.world.stopped) s less within watchers in
           let after = notes_from node 0 (length s.world.stopped) s in (
             marked.0,
             (

@@ -39,7 +39,7 @@ use Rattle.computed_changes.specs.Fitting.{depths_of, put_fitting}
 use Rattle.computed_changes.specs.Checkpoints.{is_next_for, is_of_last}
 use Rattle.computed_changes.specs.Handed.{brought_to, copy_in, handed_done, replied_done, step_by}
 use Rattle.computed_changes.specs.Replies.{awaits, awaits_at, printed_at, printed_done, printed_where}
-use Rattle.world_semantics.proofs.Lifted.{free_at, lifted, made_if, mark_done, own_done, own_made, passed_done}
+use Rattle.world_semantics.proofs.Lifted.{free_at, lifted, made_if, done_at_checkpoint, own_done, own_made, passed_done}
 use Rattle.world_semantics.proofs.Lifted.{renewing_at, run_as, run_at, sent_done}
 use Rattle.computed_changes.proofs.Lifted.{acknowledged_where, applied_as, applied_made, applied_where, asked_done}
 use Rattle.computed_changes.proofs.Lifted.{checkpoint_done, got_done, got_where, taken_done}
@@ -54,7 +54,7 @@ pub record IsOfSize (w next : World) : Type 0 where
 
 pub record IsQuiet (w : World) (done : Done) : Type 0 where
   pub size : IsOfSize w done.world
-  pub marks : done.world.marks ≡ w.marks
+  pub downs : done.world.downs ≡ w.downs
   pub reloads : done.world.reloads ≡ w.reloads
   pub few : length done.sendings ≤ 1
 
@@ -139,7 +139,7 @@ module _ (site : Site) (w : World) where
       → IsQuiet w (own_done number k pair w own)
   own-quiet number k pair own few = record {
     size = record { stopped = refl; processes = one-set number _; terminals = refl };
-    marks = refl;
+    downs = refl;
     reloads = refl;
     few = sent-few (copy_of k pair).processor own.messages few;
   }
@@ -160,7 +160,7 @@ module _ (site : Site) (w : World) where
   sent-quiet : (number : ℕ) (k : Which) (pair : Pair) → IsQuiet w (sent_done number k pair w)
   sent-quiet number k pair = record {
     size = record { stopped = refl; processes = one-set number _; terminals = refl };
-    marks = refl;
+    downs = refl;
     reloads = refl;
     few = omega arith;
   }
@@ -175,7 +175,7 @@ module _ (site : Site) (w : World) where
   ends-quiet number k pair true =
       record {
         size = record { stopped = refl; processes = one-set number _; terminals = refl };
-        marks = refl;
+        downs = refl;
         reloads = refl;
         few = omega arith;
       }
@@ -194,29 +194,29 @@ module _ (site : Site) (w : World) where
 
   free-quiet : (number : ℕ) (k : Which) (pair : Pair) (stands : Point) (sent renewal : Bool)
       → IsQuietAny w (free_at site number k pair w stands sent renewal)
-  free-quiet number k pair stands true renewal = ends-quiet number k pair (may_pass w.marks k pair)
+  free-quiet number k pair stands true renewal = ends-quiet number k pair (may_pass w.downs k pair)
   free-quiet number k pair stands false true = renews-quiet number k pair stands
   free-quiet number k pair stands false false = acts-quiet number k pair stands
 
   run-point : (number : ℕ) (k : Which) (pair : Pair) (stands : Point)
       → IsQuietAny w (run_at site number k pair w stands)
-  run-point number k pair point.AtCheckpoint = by (may_pass w.marks k pair) (copy_of k pair).sent
+  run-point number k pair point.AtCheckpoint = by (may_pass w.downs k pair) (copy_of k pair).sent
     where
       passed : (again : Bool) → IsQuiet w (passed_done number k pair w again)
       passed true = record {
         size = record { stopped = refl; processes = one-set number _; terminals = refl };
-        marks = refl;
+        downs = refl;
         reloads = refl;
         few = omega arith;
       }
       passed false = record {
         size = record { stopped = refl; processes = one-set number _; terminals = refl };
-        marks = refl;
+        downs = refl;
         reloads = refl;
         few = omega arith;
       }
 
-      by : (passes sent : Bool) → IsQuietAny w (mark_done number k pair w passes sent)
+      by : (passes sent : Bool) → IsQuietAny w (done_at_checkpoint number k pair w passes sent)
       by true sent = passed _
       by false true = tt
       by false false = sent-quiet number k pair
@@ -253,8 +253,8 @@ module _ (site : Site) (w : World) where
       by : (pair : Option Pair) → IsQuietAny w (run_pair site number w pair)
       by None = tt
       by (Some pair) =
-          either-quiet number (step_of_copy site number pair w.marks (records_of w) First)
-          (step_of_copy site number pair w.marks (records_of w) Second)
+          either-quiet number (step_of_copy site number pair w.downs (records_of w) First)
+          (step_of_copy site number pair w.downs (records_of w) Second)
           (run-role number First pair pair.first.role)
           (run-role number Second pair pair.second.role)
 
@@ -267,7 +267,7 @@ module _ (site : Site) (w : World) where
       entered terminal opener (Some words) =
           record {
             size = record { stopped = refl; processes = refl; terminals = length-set w.terminals number _ };
-            marks = refl;
+            downs = refl;
             reloads = refl;
             few = omega arith;
           }
@@ -290,7 +290,7 @@ module _ (site : Site) (w : World) where
   early-quiet request k pair =
       record {
         size = record { stopped = refl; processes = one-set request.process _; terminals = refl };
-        marks = refl;
+        downs = refl;
         reloads = refl;
         few = omega arith;
       }
@@ -299,7 +299,7 @@ module _ (site : Site) (w : World) where
       → IsQuietAny w (asked_done request k pair w role)
   asked-quiet request k pair Acting = record {
     size = record { stopped = refl; processes = one-set request.process _; terminals = refl };
-    marks = refl;
+    downs = refl;
     reloads = refl;
     few = sent-few (copy_of k pair).processor (map Replying (repeated (copy_of k pair).core.receive request))
         (let same = length-map (repeated (copy_of k pair).core.receive request) Replying in
@@ -318,7 +318,7 @@ module _ (site : Site) (w : World) where
       by : (test : Bool) → IsQuietAny w (got_where number reply k pair w test)
       by true = record {
         size = record { stopped = refl; processes = one-set number _; terminals = refl };
-        marks = refl;
+        downs = refl;
         reloads = refl;
         few = omega arith;
       }
@@ -335,7 +335,7 @@ module _ (site : Site) (w : World) where
       printed terminal true = record {
         size =
             record { stopped = refl; processes = refl; terminals = length-set w.terminals number _ };
-        marks =
+        downs =
             refl;
         reloads = refl;
         few = omega arith;
@@ -363,14 +363,14 @@ module _ (site : Site) (w : World) where
       applies core true =
           record {
             size = record { stopped = refl; processes = one-set message.process _; terminals = refl };
-            marks = refl;
+            downs = refl;
             reloads = refl;
             few = omega arith;
           }
       applies core false =
           record {
             size = record { stopped = refl; processes = one-set message.process _; terminals = refl };
-            marks = refl;
+            downs = refl;
             reloads = refl;
             few = omega arith;
           }
@@ -399,7 +399,7 @@ module _ (site : Site) (w : World) where
       by : (test : Bool) → IsQuietAny w (acknowledged_where taken k pair w test)
       by true = record {
         size = record { stopped = refl; processes = one-set taken.process _; terminals = refl };
-        marks = refl;
+        downs = refl;
         reloads = refl;
         few = omega arith;
       }
@@ -431,7 +431,7 @@ module _ (site : Site) (w : World) where
           processes = length-map w.processes _;
           terminals = refl;
         };
-        marks = refl;
+        downs = refl;
         reloads = refl;
         few = omega arith;
       }

@@ -129,11 +129,11 @@ marked-named node processor s (Some done) names are =
     (each-append _ done.sendings _ are (again-named s.site s.world node processor done.world)))
     (names.0, each-filter _ _ s.wires.owed names.1)
 
-marks-named : (node processor left : ℕ) (s : MachineState) → WholeNames s
+downs-named : (node processor left : ℕ) (s : MachineState) → WholeNames s
     → WholeNames (notes_from node processor left s)
-marks-named node processor zero s names = names
-marks-named node processor (suc left) s names =
-    marks-named node (processor + 1) left _
+downs-named node processor zero s names = names
+downs-named node processor (suc left) s names =
+    downs-named node (processor + 1) left _
     (marked-named node processor s (down_done node processor s.world) names (mark-named s.site s.world node processor))
 
 tick-named : (node : ℕ) (s : MachineState) → WholeNames s → PlayedNames (tick_played node s)
@@ -143,7 +143,7 @@ tick-named node s names = by (is_running s.world.stopped node)
         (state_after_tick node (notes_from node 0 (length s.world.stopped) s)) else Skips)
     by true =
         let after = notes_from node 0 (length s.world.stopped) s in
-        let marked = marks-named node 0 (length s.world.stopped) s names in
+        let marked = downs-named node 0 (length s.world.stopped) s names in
         (again-put after.site after.world.stopped node after.wires.owed after.wires.bus marked.1 marked.0, marked.1)
     by false = tt
 

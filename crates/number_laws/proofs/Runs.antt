@@ -26,7 +26,7 @@ use Rattle.world_semantics.specs.Running.{Own, Stepped, copy_acted, ending_step,
 use Rattle.world_semantics.specs.Running.{run_pair, sending_step, step_of_copy}
 use Rattle.world_semantics.specs.Shares.{share_after_act, share_of}
 use Rattle.world_semantics.specs.World.{Copy, Pair, World, copy_of, has_noted, may_pass, other_of, with_copy}
-use Rattle.world_semantics.proofs.Lifted.{ended_done, free_at, lifted, made_if, mark_done, own_done, own_made}
+use Rattle.world_semantics.proofs.Lifted.{ended_done, free_at, lifted, made_if, done_at_checkpoint, own_done, own_made}
 use Rattle.world_semantics.proofs.Lifted.{passed_done, renewing_at, run_as, run_at, sent_done}
 use Rattle.world_semantics.proofs.Lists.{set-all}
 use Rattle.number_laws.proofs.Each.{Each, each-more, each-always, each-map}
@@ -277,10 +277,11 @@ module _ (n : ℕ) (kinds : ℕ → Bool) (w : World) (within : WorldWithin n ki
       sendings = tt;
     }
 
-    marks : (passes was_sent : Bool) → AnyWithin (n + 1) kinds (mark_done number k pair w passes was_sent)
-    marks true was_sent = passed (nat_lt (copy_of k pair).position (own_acts number w.kept))
-    marks false true = tt
-    marks false false = sent
+    checkpoints : (passes was_sent : Bool) → AnyWithin (n + 1) kinds
+        (done_at_checkpoint number k pair w passes was_sent)
+    checkpoints true was_sent = passed (nat_lt (copy_of k pair).position (own_acts number w.kept))
+    checkpoints false true = tt
+    checkpoints false false = sent
 
     -- where it runs
     acts-at : (site : Site) (stands : Point)
@@ -300,7 +301,7 @@ module _ (n : ℕ) (kinds : ℕ → Bool) (w : World) (within : WorldWithin n ki
     sends false = tt
 
     abbrev is_alone : Bool
-    is_alone = has_noted w.marks (copy_of k pair).processor (copy_of (other_of k) pair).processor
+    is_alone = has_noted w.downs (copy_of k pair).processor (copy_of (other_of k) pair).processor
 
     renews : (stands : Point) → AnyWithin (n + 1) kinds (renewing_at number k pair w stands)
     renews point.Inner = sends (not is_alone)
@@ -314,12 +315,12 @@ module _ (n : ℕ) (kinds : ℕ → Bool) (w : World) (within : WorldWithin n ki
 
     free : (site : Site) (stands : Point) (was_sent renewal : Bool)
         → AnyWithin (n + 1) kinds (free_at site number k pair w stands was_sent renewal)
-    free site stands true renewal = ends (may_pass w.marks k pair)
+    free site stands true renewal = ends (may_pass w.downs k pair)
     free site stands false true = renews stands
     free site stands false false = acts-at site stands
 
     run-point : (site : Site) (stands : Point) → AnyWithin (n + 1) kinds (run_at site number k pair w stands)
-    run-point site point.AtCheckpoint = marks (may_pass w.marks k pair) (copy_of k pair).sent
+    run-point site point.AtCheckpoint = checkpoints (may_pass w.downs k pair) (copy_of k pair).sent
     run-point site point.Inner = free site point.Inner (copy_of k pair).sent (copy_of k pair).renewal
     run-point site point.Take = free site point.Take (copy_of k pair).sent (copy_of k pair).renewal
     run-point site point.Ask = free site point.Ask (copy_of k pair).sent (copy_of k pair).renewal
@@ -347,7 +348,7 @@ module _ (n : ℕ) (kinds : ℕ → Bool) (w : World) (within : WorldWithin n ki
           → AnyWithin (n + 1) kinds (run_pair site number w there)
       by None there = tt
       by (Some pair) there =
-          either-within number (step_of_copy site number pair w.marks (records_of w) First)
-          (step_of_copy site number pair w.marks (records_of w) Second)
+          either-within number (step_of_copy site number pair w.downs (records_of w) First)
+          (step_of_copy site number pair w.downs (records_of w) Second)
           (run-role low number First pair there site pair.first.role)
           (run-role low number Second pair there site pair.second.role)

@@ -12,21 +12,21 @@ use Rattle.packet_wires.specs.Examples.{after_four, held}
 use Rattle.packet_guards.specs.States.{after_three, first_muted, laden, none_stopped, one_gone, second_silent, ticks}
 use Rattle.packet_guards.specs.States.{told}
 
-pub two-checks-make-silent-three : (end_of one_gone (ticks 1 3)).world.marks ≡ []
+pub two-checks-make-silent-three : (end_of one_gone (ticks 1 3)).world.downs ≡ []
 unfolding out-What shown-the_row-Statement-0 shown out int_wrap
 two-checks-make-silent-three = refl
 
-pub two-checks-make-silent-four : (end_of one_gone (ticks 1 4)).world.marks ≡ record { node = 1; down = 0 } ∷ []
+pub two-checks-make-silent-four : (end_of one_gone (ticks 1 4)).world.downs ≡ record { node = 1; down = 0 } ∷ []
 unfolding out-What shown-the_row-Statement-0 shown out int_wrap
 two-checks-make-silent-four = refl
 
 pub two-checks-make-silent-heard : (end_of (end_of laden (ticks 0 3))
-    (event.Deliver true 0 ∷ event.Tick 0 ∷ [])).world.marks ≡ []
+    (event.Deliver true 0 ∷ event.Tick 0 ∷ [])).world.downs ≡ []
 unfolding out-What shown-the_row-Statement-0 shown out int_wrap
 two-checks-make-silent-heard = refl
 
 pub two-checks-make-silent-unheard : (end_of (end_of laden (ticks 0 3))
-    (event.Lose true 0 ∷ event.Tick 0 ∷ [])).world.marks ≡ record { node = 0; down = 1 } ∷ []
+    (event.Lose true 0 ∷ event.Tick 0 ∷ [])).world.downs ≡ record { node = 0; down = 1 } ∷ []
 unfolding out-What shown-the_row-Statement-0 shown out int_wrap
 two-checks-make-silent-unheard = refl
 
@@ -53,15 +53,15 @@ pub the-coordinator-pulls-pulls : (end_of first_muted (event.Tick 1 ∷ [])).wor
 unfolding out-What shown-the_row-Statement-0 shown out int_wrap
 the-coordinator-pulls-pulls = refl
 
-pub all-others-are-told-marks : held.world.marks ≡ record { node = 0; down = 1 } ∷ []
+pub all-others-are-told-downs : held.world.downs ≡ record { node = 0; down = 1 } ∷ []
 unfolding out-What shown-the_row-Statement-0 shown out int_wrap
-all-others-are-told-marks = refl
+all-others-are-told-downs = refl
 
 pub all-others-are-told-buses : (seen held).x ≡ alive 0 1 ∷ alive 0 2 ∷ last 0 2 2 ∷ last 0 16 1 ∷ []
 unfolding out-What shown-the_row-Statement-0 shown out int_wrap
 all-others-are-told-buses = refl
 
-pub all-others-are-told-terminals : told.world.marks
+pub all-others-are-told-terminals : told.world.downs
     ≡ record { node = 16; down = 0 } ∷ record { node = 1; down = 0 } ∷ []
 unfolding out-What shown-the_row-Statement-0 shown out int_wrap
 all-others-are-told-terminals = refl

@@ -120,7 +120,7 @@ pub only-packets-of-now-come-in-elsewhere : comes_in (packet 1 16 Alive) (underw
 unfolding out-What shown-the_row-Statement-0 shown out int_wrap
 only-packets-of-now-come-in-elsewhere = refl
 
-pub a-loaded-processor-is-given-two-checks-three : (end_of loaded_0 (ticks 1 3)).world.marks ≡ []
+pub a-loaded-processor-is-given-two-checks-three : (end_of loaded_0 (ticks 1 3)).world.downs ≡ []
 unfolding out-What shown-the_row-Statement-0 shown out int_wrap
 a-loaded-processor-is-given-two-checks-three = refl
 

@@ -6,7 +6,7 @@ use Rattle.computed_changes.specs.Stopped.{marked_where, mark_where, may_note}
 use Rattle.message_layout.specs.Messages.{Declaring}
 use Rattle.packet_wires.specs.Play.{Underway, handed, marked_by}
 
-pub no-mark-on-suspicion-twice : (node processor : ℕ) (s : Underway) → has_noted s.world.marks node processor ≡ true
+pub no-mark-on-suspicion-twice : (node processor : ℕ) (s : Underway) → has_noted s.world.downs node processor ≡ true
     → handed node (Declaring processor) s ≡ s
 no-mark-on-suspicion-twice node processor s marked = by (slice_get s.world.stopped processor)
   where

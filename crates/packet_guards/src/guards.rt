@@ -104,10 +104,10 @@ pub fn answers_take_their_bus()
 
 /// Two checks that a processor is missed make it silent, one isn't enough; checks are every second tick.
 pub fn two_checks_make_silent()
-    ensures three { (end_of one_gone (ticks 1 3)).world.marks ≡ [] }
-    ensures four { (end_of one_gone (ticks 1 4)).world.marks ≡ record { node = 1; down = 0 } ∷ [] }
-    ensures heard { (end_of (end_of laden (ticks 0 3)) (event.Deliver true 0 ∷ event.Tick 0 ∷ [])).world.marks ≡ [] }
-    ensures unheard { (end_of (end_of laden (ticks 0 3)) (event.Lose true 0 ∷ event.Tick 0 ∷ [])).world.marks
+    ensures three { (end_of one_gone (ticks 1 3)).world.downs ≡ [] }
+    ensures four { (end_of one_gone (ticks 1 4)).world.downs ≡ record { node = 1; down = 0 } ∷ [] }
+    ensures heard { (end_of (end_of laden (ticks 0 3)) (event.Deliver true 0 ∷ event.Tick 0 ∷ [])).world.downs ≡ [] }
+    ensures unheard { (end_of (end_of laden (ticks 0 3)) (event.Lose true 0 ∷ event.Tick 0 ∷ [])).world.downs
         ≡ record { node = 0; down = 1 } ∷ [] }
 {}
 
@@ -123,9 +123,9 @@ pub fn the_coordinator_pulls()
 
 /// The node that pulled a line marks before it tells the others; the node of the terminals is told last, and is told.
 pub fn all_others_are_told()
-    ensures marks { held.world.marks ≡ record { node = 0; down = 1 } ∷ [] }
+    ensures downs { held.world.downs ≡ record { node = 0; down = 1 } ∷ [] }
     ensures buses { (seen held).x ≡ alive 0 1 ∷ alive 0 2 ∷ last 0 2 2 ∷ last 0 16 1 ∷ [] }
-    ensures terminals { told.world.marks ≡ record { node = 16; down = 0 } ∷ record { node = 1; down = 0 } ∷ [] }
+    ensures terminals { told.world.downs ≡ record { node = 16; down = 0 } ∷ record { node = 1; down = 0 } ∷ [] }
 {}
 
 /// The acknowledgement goes before what the hand-over sends: told that processor 0 is down, the node of the terminals
@@ -170,7 +170,7 @@ pub fn who_has_stopped_does_nothing()
 /// A node marks only what has stopped, and no processor twice.
 pub fn no_mark_on_suspicion()
     ensures runs { handed 1 (Declaring 0) (underway adder_at_boot) ≡ underway adder_at_boot }
-    ensures twice { (node processor : ℕ) (s : Underway) → has_noted s.world.marks node processor ≡ true
+    ensures twice { (node processor : ℕ) (s : Underway) → has_noted s.world.downs node processor ≡ true
         → handed node (Declaring processor) s ≡ s }
 {}
 

@@ -53,7 +53,7 @@ pub fn only_packets_of_now_come_in()
 /// Two checks have to miss it as any other: what was missed before is forgotten. The world isn't whole then, so the
 /// line that would stop it isn't pulled.
 pub fn a_loaded_processor_is_given_two_checks()
-    ensures three { (end_of loaded_0 (ticks 1 3)).world.marks ≡ [] }
+    ensures three { (end_of loaded_0 (ticks 1 3)).world.downs ≡ [] }
     ensures four { play (end_of loaded_0 (ticks 1 3)) (event.Tick 1) ≡ Would (SecondStop 0) }
 {}
 

@@ -37,7 +37,7 @@ module _ (site : Site) (w : World) where
     where
       by : (pair : Option Pair) → LoadsNone w (run_pair site number w pair)
       by None = tt
-      by (Some pair) = lifted-none number w (step_of site number pair w.marks (records_of w))
+      by (Some pair) = lifted-none number w (step_of site number pair w.downs (records_of w))
 
   pub enter-none : (number : ℕ) → LoadsNone w (enter_done site number w)
   enter-none number = by (slice_get w.terminals number)

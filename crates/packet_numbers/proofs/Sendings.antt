@@ -37,7 +37,7 @@ use Rattle.world_semantics.proofs.Fair.{fair-of, run-fair}
 use Rattle.world_semantics.proofs.KeptReplies.{repeated-sent}
 use Rattle.world_semantics.proofs.Members.{among-map}
 use Rattle.world_semantics.proofs.Ran.{run-may}
-use Rattle.world_semantics.proofs.Reached.{run-kept, run-marks, run-roles, run-steady}
+use Rattle.world_semantics.proofs.Reached.{run-kept, run-downs, run-roles, run-steady}
 use Rattle.world_semantics.proofs.Sendings.{run-sends}
 use Rattle.computed_changes.specs.Changed.{change_brought_to, change_done, change_step}
 use Rattle.computed_changes.specs.Checkpoints.{applied_step, applied_step_where, checkpoint_step, core_as}
@@ -78,7 +78,7 @@ use Rattle.packets_played.specs.packets_laws.specs.Carried.{IsFormOf}
 use Rattle.packets_played.specs.packets_laws.specs.checkpoint_chains.proofs.Newest.{IsNewestIfOne, change-new}
 use Rattle.packets_played.specs.packets_laws.proofs.Forms.{again-new}
 use Rattle.packets_played.specs.packets_laws.proofs.Newest.{form-newest}
-use Rattle.site_machine.specs.Needs.{AreWithin, IsSentWithin, MarksWithin, SendsWithin}
+use Rattle.site_machine.specs.Needs.{AreWithin, IsSentWithin, DownsWithin, SendsWithin}
 
 -- Lists
 
@@ -169,7 +169,7 @@ module _ (site : Site) (fit : IsFit site) (small : IsSmall site) (out : IsLaidOu
         good : IsGood site (length (events ++ event ∷ [])) after.world
         good = record {
           roles = run-roles run;
-          stopped = run-marks run;
+          stopped = run-downs run;
           steady = run-steady run;
           seated = (run-kept fit.seats run).seated;
           invariant = run-keeps site fit (events ++ event ∷ []) after.world (few-more event) run;
@@ -189,7 +189,7 @@ module _ (site : Site) (fit : IsFit site) (small : IsSmall site) (out : IsLaidOu
             subst (IsSent after.world) (sym is)
             (kept-sent has.done after.world.replies fair.core.kept place opener known reply among)
 
-    marks-within : MarksWithin site post.world
+    marks-within : DownsWithin site post.world
     marks-within node processor done e =
         all-among done.world (done.sendings ++ sent_again site post.world done.world node processor)
         (λ sending among. elim (among-either sending done.sendings
@@ -404,7 +404,7 @@ module _ (site : Site) (fit : IsFit site) (small : IsSmall site) (out : IsLaidOu
     less = omega (arith, few)
 
     pulled-within : (processor : ℕ) (done : Done) → stop_done processor post.world ≡ Some done
-        → MarksWithin site done.world
+        → DownsWithin site done.world
     pulled-within processor done e =
         let change = stop-may site processor post.world done e in
         let none = (stop-is post.world done.world processor done.sendings change).none in

@@ -39,7 +39,7 @@ use Rattle.world_semantics.specs.Records.{records_of}
 use Rattle.world_semantics.specs.Running.{Done, Own, Stepped, ending_step, first_step, in_world, own_at, run_done}
 use Rattle.world_semantics.specs.Running.{run_pair, sending_step, step_of_copy}
 use Rattle.world_semantics.specs.Shares.{acts_at}
-use Rattle.world_semantics.proofs.Lifted.{ended_done, free_at, lifted, made_if, mark_done, own_done, own_made}
+use Rattle.world_semantics.proofs.Lifted.{ended_done, free_at, lifted, made_if, done_at_checkpoint, own_done, own_made}
 use Rattle.world_semantics.proofs.Lifted.{passed_done, renewing_at, run_as, run_at, sent_done}
 use Rattle.world_semantics.proofs.Lists.{Changed, is_new, is_same, changed, mapped, some-same}
 use Rattle.world_semantics.proofs.Members.{among-map, among-flat_map}
@@ -169,7 +169,7 @@ module _ (w : World) (number : ℕ) (k : Which) (pair : Pair) (there : slice_get
       others First all = keeps-same pair.second
       others Second all = keeps-same pair.first
 
-  mark-at : (pass sent : Bool) → AnyAt (copy_of k pair).processor w (mark_done number k pair w pass sent)
+  mark-at : (pass sent : Bool) → AnyAt (copy_of k pair).processor w (done_at_checkpoint number k pair w pass sent)
   mark-at true sent = passed-at (nat_lt (copy_of k pair).position (own_acts number w.kept))
   mark-at false true = tt
   mark-at false false = sent-at-it
@@ -196,14 +196,14 @@ module _ (w : World) (number : ℕ) (k : Which) (pair : Pair) (there : slice_get
 
   free-at : (site : Site) (stands : Point) (sent renewal : Bool)
       → AnyAt (copy_of k pair).processor w (free_at site number k pair w stands sent renewal)
-  free-at site stands true renewal = ends-at (may_pass w.marks k pair)
+  free-at site stands true renewal = ends-at (may_pass w.downs k pair)
   free-at site stands false true = renews-at stands
   free-at site stands false false =
       own-any (own_at site number (copy_of k pair).core (around (copy_of k pair) pair w) stands)
 
   run-at-point : (site : Site) (stands : Point)
       → AnyAt (copy_of k pair).processor w (run_at site number k pair w stands)
-  run-at-point site point.AtCheckpoint = mark-at (may_pass w.marks k pair) (copy_of k pair).sent
+  run-at-point site point.AtCheckpoint = mark-at (may_pass w.downs k pair) (copy_of k pair).sent
   run-at-point site point.Inner = free-at site point.Inner (copy_of k pair).sent (copy_of k pair).renewal
   run-at-point site point.Take = free-at site point.Take (copy_of k pair).sent (copy_of k pair).renewal
   run-at-point site point.Ask = free-at site point.Ask (copy_of k pair).sent (copy_of k pair).renewal
@@ -383,8 +383,8 @@ run-somewhere site number w = by (slice_get w.processes number) refl
     by : (found : Option Pair) → slice_get w.processes number ≡ found → SomeAt w (run_pair site number w found)
     by None there = tt
     by (Some pair) there =
-        first (step_of_copy site number pair w.marks (records_of w) First)
-        (step_of_copy site number pair w.marks (records_of w) Second)
+        first (step_of_copy site number pair w.downs (records_of w) First)
+        (step_of_copy site number pair w.downs (records_of w) Second)
         (some pair.first.processor _ (run-role w number First pair there site pair.first.role))
         (some pair.second.processor _ (run-role w number Second pair there site pair.second.role))
 

@@ -16,7 +16,7 @@ pub held-stopped : held.world.stopped ≡ false ∷ true ∷ false ∷ []
 unfolding out-What shown-the_row-Statement-0 shown out int_wrap
 held-stopped = refl
 
-pub held-marks : held.world.marks ≡ record { node = 0; down = 1 } ∷ []
+pub held-marks : held.world.downs ≡ record { node = 0; down = 1 } ∷ []
 unfolding out-What shown-the_row-Statement-0 shown out int_wrap
 held-marks = refl
 
@@ -28,7 +28,7 @@ pub heard-all : (end_of (rounds 3 4 three_at_boot) (event.Tick 0 ∷ [])).world.
 unfolding out-What shown-the_row-Statement-0 shown out int_wrap
 heard-all = refl
 
-pub twice-marks : (end_of held down_twice).world.marks
+pub twice-marks : (end_of held down_twice).world.downs
     ≡ record { node = 2; down = 1 } ∷ record { node = 0; down = 1 } ∷ []
 unfolding out-What shown-the_row-Statement-0 shown out int_wrap
 twice-marks = refl

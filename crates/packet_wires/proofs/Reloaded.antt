@@ -15,7 +15,7 @@ pub loaded-stopped : loaded_0.world.stopped ≡ false ∷ false ∷ []
 unfolding out-What shown-the_row-Statement-0 shown out int_wrap
 loaded-stopped = refl
 
-pub loaded-marks : loaded_0.world.marks ≡ []
+pub loaded-marks : loaded_0.world.downs ≡ []
 unfolding out-What shown-the_row-Statement-0 shown out int_wrap
 loaded-marks = refl
 

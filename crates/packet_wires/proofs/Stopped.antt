@@ -17,7 +17,7 @@ pub part-alone : buses_from before_third_piece ticks_alone ≡ buses_alone
 unfolding out-What shown-the_row-Statement-0 shown out int_wrap
 part-alone = refl
 
-pub part-marked : taken_over.world.marks ≡ record { node = 1; down = 0 } ∷ []
+pub part-marked : taken_over.world.downs ≡ record { node = 1; down = 0 } ∷ []
 unfolding out-What shown-the_row-Statement-0 shown out int_wrap
 part-marked = refl
 

@@ -35,7 +35,7 @@ pub fn a_lost_piece_is_sent_again()
 pub fn a_checkpoint_in_part_is_thrown_away()
     ensures stopped { before_third_piece.world.stopped ≡ true ∷ false ∷ [] }
     ensures alone { buses_from before_third_piece ticks_alone ≡ buses_alone }
-    ensures marked { taken_over.world.marks ≡ record { node = 1; down = 0 } ∷ [] }
+    ensures marked { taken_over.world.downs ≡ record { node = 1; down = 0 } ∷ [] }
     ensures shown { (end_of taken_over after_takeover).world.shown ≡ reply 0 (pos 5) ∷ [] }
     ensures idle { is_idle (end_of taken_over after_takeover) ≡ true }
 {}
@@ -45,7 +45,7 @@ pub fn a_checkpoint_in_part_is_thrown_away()
 /// stops; and then one may.
 pub fn what_was_sent_before_a_reload_is_dropped()
     ensures stopped { loaded_0.world.stopped ≡ false ∷ false ∷ [] }
-    ensures marks { loaded_0.world.marks ≡ [] }
+    ensures marks { loaded_0.world.downs ≡ [] }
     ensures dropped { (seen without_old).x ≡ acknowledged 16 1 1 ∷ last 16 1 1 ∷ [] }
     ensures sends { (seen renewing).x ≡ acknowledged 16 1 1 ∷ last 16 1 1 ∷ piece 1 0 1 ∷ [] }
     ensures second { play renewing (event.Fail 1) ≡ Would (SecondStop 1) }
@@ -59,7 +59,7 @@ pub fn what_was_sent_before_a_reload_is_dropped()
 pub fn a_muted_processor_is_held()
     ensures before { after_four.world.stopped ≡ false ∷ false ∷ false ∷ [] }
     ensures stopped { held.world.stopped ≡ false ∷ true ∷ false ∷ [] }
-    ensures marks { held.world.marks ≡ record { node = 0; down = 1 } ∷ [] }
+    ensures marks { held.world.downs ≡ record { node = 0; down = 1 } ∷ [] }
     ensures buses { seen held ≡ buses_held }
 {}
 
@@ -70,7 +70,7 @@ pub fn a_heard_processor_is_not_held()
 
 /// That a processor is down comes twice: the second packet is acknowledged again, and no second mark is made.
 pub fn a_second_message_marks_nothing()
-    ensures marks { (end_of held down_twice).world.marks
+    ensures marks { (end_of held down_twice).world.downs
         ≡ record { node = 2; down = 1 } ∷ record { node = 0; down = 1 } ∷ [] }
     ensures buses { (seen (end_of held down_twice)).x
         ≡ alive 0 1 ∷ alive 0 2 ∷ last 0 16 1 ∷ acknowledged 2 0 2 ∷ acknowledged 2 0 2 ∷ [] }

@@ -91,10 +91,10 @@ pub fn only_a_last_piece_hands_over()
 pub fn only_what_has_stopped_is_marked()
     ensures stopped { (site : Site) (events : List Event) (s : Packeted) (mark : Down) → IsFit site → IsSmall site
         → IsLaidOut site → length events < 4294967296
-        → IsPlayed site events s → IsAmong mark s.world.marks → slice_get s.world.stopped mark.down ≡ Some true }
+        → IsPlayed site events s → IsAmong mark s.world.downs → slice_get s.world.stopped mark.down ≡ Some true }
     ensures one { (site : Site) (events : List Event) (s : Packeted) (one : Down) (other : Down) → IsFit site
         → IsSmall site → IsLaidOut site
-        → length events < 4294967296 → IsPlayed site events s → IsAmong one s.world.marks → IsAmong other s.world.marks
+        → length events < 4294967296 → IsPlayed site events s → IsAmong one s.world.downs → IsAmong other s.world.downs
         → one.down ≡ other.down }
 {}
 

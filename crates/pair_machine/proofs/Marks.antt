@@ -14,18 +14,18 @@ pub marked-steps : (s marked paid after : MachineState) (node processor : ℕ) (
     → sendings ≡ done.sendings ++ sent_again s.site s.world done.world node processor
     → paid ≡ record marked { wires = paid_between node processor marked.wires } → after ≡ sent_all sendings paid
     → after ≡ after_noted node processor s done
-marked-steps s marked paid after node processor sendings done marks tells pays posts =
+marked-steps s marked paid after node processor sendings done downs tells pays posts =
     posts
     ∙ ap₂ sent_all tells
-    (pays ∙ ap (λ (s : MachineState). record s { wires = paid_between node processor s.wires }) marks)
+    (pays ∙ ap (λ (s : MachineState). record s { wires = paid_between node processor s.wires }) downs)
 
 left-more : (place count : ℕ) → place < count → count - place ≡ suc (count - (place + 1))
 left-more place count within = omega arith
 
 -- after the mark of one processor what is left to be marked leads to the same
-pub marks-step : (node place count : ℕ) (s after : MachineState) → place < count
+pub downs-step : (node place count : ℕ) (s after : MachineState) → place < count
     → after ≡ noted_by node place s (down_done node place s.world)
     → notes_from node (place + 1) (count - (place + 1)) after ≡ notes_from node place (count - place) s
-marks-step node place count s after within marks =
-    ap (λ next. notes_from node (place + 1) (count - (place + 1)) next) marks
+downs-step node place count s after within downs =
+    ap (λ next. notes_from node (place + 1) (count - (place + 1)) next) downs
     ∙ ap (λ more. notes_from node place more s) (sym (left-more place count within))

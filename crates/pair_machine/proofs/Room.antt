@@ -13,7 +13,7 @@ use Rattle.message_wires.specs.letters.specs.Routes.{Letter, letter_of, letters_
 use Rattle.machine_states.specs.States.{Played, Makes, Skips, Would}
 use Rattle.message_wires.specs.Play.{MachineState, made_by, noted_by, notes_from, play}
 use Rattle.message_wires.specs.Wires.{Wires, wires_after_posts, wires_after_post}
-use Rattle.number_laws.proofs.Counts.{marks-grow}
+use Rattle.number_laws.proofs.Counts.{downs-grow}
 use Rattle.gd_words.specs.Ranges.{HasNextLong}
 use Rattle.number_laws.specs.number_ranges.specs.HasRoom.{HasRoom, HasRoomForLetters}
 use Rattle.world_copies.specs.Room.{AllWatchersHaveRoom}
@@ -95,7 +95,7 @@ mark-counted node place count s all within same counted =
     let next = noted_by node place s (down_done node place s.world) in
     let more : count - place ≡ suc (count - (place + 1)) = omega arith in
     fewer next (notes_from node (place + 1) (count - (place + 1)) next)
-    (marks-grow node (place + 1) (count - (place + 1)) next)
+    (downs-grow node (place + 1) (count - (place + 1)) next)
     (subst AreCounted (sym same ∙ ap (λ left. notes_from node place left s) more) counted)
 
 -- whatever event comes, its letters are counted

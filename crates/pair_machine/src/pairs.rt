@@ -143,10 +143,10 @@ impl PairMachine {
     }
 
     /// Which node has marked which processor.
-    pub fn marks(&self) -> &Downs
-        ensures { result.now ≡ self.now.state.world.marks }
+    pub fn downs(&self) -> &Downs
+        ensures { result.now ≡ self.now.state.world.downs }
     {
-        self.whole.world.marks()
+        self.whole.world.downs()
     }
 
     /// The processes in their places, both copies of each.

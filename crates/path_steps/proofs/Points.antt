@@ -95,10 +95,10 @@ module _ (code : Program) (dues : Dues) (s : ProgramState) (statement : Statemen
       (via code dues s statement rest callers (What-F.Reply buffer count) is _ (inl refl)) in
       hand-goes false goes
 
-  pub marked-in : place_of s.frames ≡ (Run statement ∷ rest) ∷ callers → (what : What-F What Statement)
+  pub checkpointed-in : place_of s.frames ≡ (Run statement ∷ rest) ∷ callers → (what : What-F What Statement)
       → out-What statement.what ≡ what → AtCall code s what point.AtCheckpoint
       → There (settled no_dues (place_of (after_checkpoint s).frames))
-  marked-in place what is (at_checkpoint items files) =
+  checkpointed-in place what is (at_checkpoint items files) =
       let led : There (settled after (rest ∷ callers)) =
       via code dues s statement rest callers (What-F.Checkpoint items files) is _ (inl refl) in
       let none : after ≡ no_dues = ap (after_statement dues) is in

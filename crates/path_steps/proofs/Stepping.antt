@@ -23,7 +23,7 @@ use Rattle.path_steps.specs.Step.{stand_of, StaysOrGoesOn, FollowsPath, has_room
 use Rattle.path_steps.proofs.Growing.{not-both}
 use Rattle.path_steps.proofs.Moving.{GoesBy, GoesTo, end-goes}
 use Rattle.path_steps.proofs.Going.{entry-goes}
-use Rattle.path_steps.proofs.Points.{place-at, took-in, got-in, answered-in, marked-in}
+use Rattle.path_steps.proofs.Points.{place-at, took-in, got-in, answered-in, checkpointed-in}
 
 -- a stand to which the next entry leads
 led-on : (program : Program) (dues : Dues) (there : Stand) (s : ProgramState) (entry : Entry) (rest : List Entry)
@@ -151,11 +151,11 @@ answered-steps code dues s at =
     )
 
 -- at a checkpoint nothing is due afterwards
-pub marked-steps : (code : Program) (dues : Dues) (s : ProgramState) → point_of code s ≡ point.AtCheckpoint
+pub checkpointed-steps : (code : Program) (dues : Dues) (s : ProgramState) → point_of code s ≡ point.AtCheckpoint
     → StaysOrGoesOn code (stand_of dues s) (stand_of no_dues (after_checkpoint s))
-marked-steps code dues s at =
+checkpointed-steps code dues s at =
     let stands = stands-at code s point.AtCheckpoint (λ e. cc) (λ e. cc) at in
-    let led = marked-in code dues s stands.statement stands.rest (place_of stands.callers) (place-at stands)
+    let led = checkpointed-in code dues s stands.statement stands.rest (place_of stands.callers) (place-at stands)
     (out-What stands.statement.what) refl stands.call in
     led-on code dues (stand_of no_dues (after_checkpoint s)) s (Run stands.statement) stands.rest
     (place_of stands.callers) (place-at stands) led

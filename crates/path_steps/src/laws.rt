@@ -32,7 +32,7 @@ pub fn steps_follow_paths()
         × (asked_count (asked_file s) dues < asked_count (asked_file s) later) }
     ensures answered { (program : Program) (dues : Dues) (s : ProgramState) → point_of program s ≡ Answer
         → (later : Dues) × FollowsPath program dues later s (after_answered s) }
-    ensures marked { (program : Program) (dues : Dues) (s : ProgramState) → point_of program s ≡ AtCheckpoint
+    ensures checkpointed { (program : Program) (dues : Dues) (s : ProgramState) → point_of program s ≡ AtCheckpoint
         → StaysOrGoesOn program (stand_of dues s) (stand_of no_dues (after_checkpoint s)) }
     ensures room { (program : Program) (s : ProgramState) → point_of program s ≡ Ask → HasRoom program (after_asked s) }
 {}

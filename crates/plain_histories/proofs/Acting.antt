@@ -24,7 +24,7 @@ use Rattle.plain_semantics.specs.declared.slot.Slot.{Slot}
 use Rattle.plain_semantics.specs.declared.slot.Slot.TheVariants.{Empty, Waiting, Taken, Answered}
 use Rattle.process_histories.specs.world_semantics.specs.Core.{Core, Deed, Went, Checkpointed, Took, Asked, Got}
 use Rattle.process_histories.specs.world_semantics.specs.Core.{Answered as Replied, Acted}
-use Rattle.process_histories.specs.world_semantics.specs.Core.{goes, marks, takes, asks, gets, answers, acts}
+use Rattle.process_histories.specs.world_semantics.specs.Core.{goes, checkpoints, takes, asks, gets, answers, acts}
 use Rattle.process_histories.specs.world_semantics.specs.Own.{found_on}
 use Rattle.process_histories.specs.world_semantics.proofs.Lists.{some-same}
 use Rattle.process_histories.specs.Bounds.{AreBounded}
@@ -76,7 +76,7 @@ hand-there : {site : Site} {number : ℕ} {spec : ProcessSpec} {deeds : List Dee
     → core.receive.in_hand ≡ Some place → place < length core.receive.openers
 hand-there place nothing_done held = absurd (cc)
 hand-there place (one_more done (goes at)) held = hand-there place done held
-hand-there place (one_more done (marks at)) held = hand-there place done held
+hand-there place (one_more done (checkpoints at)) held = hand-there place done held
 hand-there place (one_more {before = core} done (takes {place = one} block at there)) held =
     let same : one ≡ place = some-same held in
     let within = slice_get_within core.receive.openers one block there in
@@ -167,7 +167,7 @@ module _ (site : Site) (plain : Plain) (ledger : Ledger) (number : ℕ) (spec : 
         deed = Checkpointed;
         step = refl;
         can =
-            record { before = core; after = _; done = done; advances = marks at; allowed = tt };
+            record { before = core; after = _; done = done; advances = checkpoints at; allowed = tt };
       }
       by point.Ask at makes = record {
         deed = Asked (process.asked_file core.state) (process.asked_words core.state);

@@ -21,7 +21,8 @@ use Rattle.process_histories.specs.disc_device.specs.Sectors.{Stored}
 use Rattle.process_histories.specs.world_semantics.specs.checkpoint_image.specs.Receive.{is_place}
 use Rattle.process_histories.specs.world_semantics.specs.Core.{Core, Deed, Went, Checkpointed, Took, Asked, Got}
 use Rattle.process_histories.specs.world_semantics.specs.Core.{Answered as Replied, Acted}
-use Rattle.process_histories.specs.world_semantics.specs.Core.{Advances, goes, marks, takes, asks, gets, answers, acts}
+use Rattle.process_histories.specs.world_semantics.specs.Core.{Advances, goes, checkpoints, takes, asks, gets}
+use Rattle.process_histories.specs.world_semantics.specs.Core.{answers, acts}
 use Rattle.process_histories.specs.world_semantics.proofs.Lists.{some-same}
 use Rattle.process_histories.specs.Devices.{sectors_after, after_call, FoundWhatStood}
 use Rattle.process_histories.specs.Histories.{HasDone, one_more}
@@ -121,7 +122,7 @@ module _ (site : Site) (plain : Plain) (ledger : Ledger) (number : ℕ) (spec : 
             })
             refl (λ asker opener file is e. refl) (λ place. refl) (λ place. refl) (λ file. refl);
       }
-  made-at at (marks stands) allowed =
+  made-at at (checkpoints stands) allowed =
       let now : PlainProcess = record one { state = process.after_checkpoint before.state } in
       record {
         next = with_process number now plain;
@@ -129,7 +130,7 @@ module _ (site : Site) (plain : Plain) (ledger : Ledger) (number : ℕ) (spec : 
         agrees = agrees-still site plain ledger number spec Checkpointed agrees there one now at
             (record {
               core = _;
-              done = one_more done (marks stands);
+              done = one_more done (checkpoints stands);
               state = refl;
               hand = refl;
               sectors = refl;

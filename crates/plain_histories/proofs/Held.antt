@@ -10,7 +10,8 @@ use Rattle.tal_tree.specs.declared.site.Who.{Who}
 use Rattle.tal_tree.specs.declared.site.Who.TheVariants as who
 use Rattle.plain_semantics.specs.Openers.{openers_of, opener_of}
 use Rattle.plain_semantics.specs.declared.slot.Opener.{Opener}
-use Rattle.process_histories.specs.world_semantics.specs.Core.{Core, Deed, Went, Took, Advances, goes, marks, takes}
+use Rattle.process_histories.specs.world_semantics.specs.Core.{Core, Deed, Went, Took, Advances, goes, checkpoints}
+use Rattle.process_histories.specs.world_semantics.specs.Core.{takes}
 use Rattle.process_histories.specs.world_semantics.specs.Core.{asks, gets, answers, acts}
 use Rattle.process_histories.specs.Histories.{HasDone, one_more}
 use Rattle.process_histories.specs.Words.{ask_on, awaits_on, one_if}
@@ -71,7 +72,7 @@ awaits-deed {site = site} {ledger = ledger} number spec deed {before = before} o
         → requests_of ledger (who.File number file) ≡ words ∷ taken_of ledger opener
         → Advances (openers_of site number) before d next → ask_on file d ≡ None
     by file is waits (goes at) = refl
-    by file is waits (marks at) = refl
+    by file is waits (checkpoints at) = refl
     by file is waits (takes block at known) = refl
     by file is waits (gets at named) = refl
     by file is waits (answers spec_of block at hand known stood said) = refl

@@ -73,9 +73,9 @@ last-answered : (s : ProcessState) → last_write_of (process.after_answered s) 
 last-answered (Runs code s) = refl
 last-answered (Serves sectors s) = refl
 
-last-marked : (s : ProcessState) → last_write_of (process.after_checkpoint s) ≡ last_write_of s
-last-marked (Runs code s) = refl
-last-marked (Serves sectors s) = refl
+last-checkpointed : (s : ProcessState) → last_write_of (process.after_checkpoint s) ≡ last_write_of s
+last-checkpointed (Runs code s) = refl
+last-checkpointed (Serves sectors s) = refl
 
 last-device : (s : ProcessState) (found : List ℤ) → last_write_of (process.after_device s found) ≤ last_write_of s + 1
 last-device (Runs code s) found = omega arith
@@ -139,7 +139,7 @@ module _ (site : Site) (plain : Plain) where
         (with_process number (record one { state = process.after_answered one.state; hand = None }) plain)
         (write-one (record one { state = process.after_answered one.state; hand = None })
         (omega (arith, last-answered one.state)))
-    step-at-within point.AtCheckpoint = write-state (process.after_checkpoint one.state) (last-marked one.state)
+    step-at-within point.AtCheckpoint = write-state (process.after_checkpoint one.state) (last-checkpointed one.state)
     step-at-within point.Device = write-one _ (last-device one.state _)
     step-at-within point.Take = tt
     step-at-within point.Ended = tt

@@ -88,11 +88,11 @@ impl PlainProcess {
         self.process.inner();
     }
 
-    pub(crate) fn marked(&mut self)
+    pub(crate) fn checkpointed(&mut self)
         requires { point self.old.state ≡ Point.AtCheckpoint }
         ensures { self.new ≡ record self.old { state = after_checkpoint self.old.state } }
     {
-        self.process.marked();
+        self.process.checkpointed();
     }
 
     /// The number of the file on which it stands.

@@ -115,7 +115,7 @@ impl State {
                 Outcome::Quiet
             }
             Point::AtCheckpoint => {
-                self.mark(number);
+                self.checkpoint(number);
                 Outcome::Quiet
             }
             Point::Device => self.device(process),
@@ -134,13 +134,13 @@ impl State {
         }
     }
 
-    fn mark(&mut self, number: usize)
+    fn checkpoint(&mut self, number: usize)
         requires { IsAt number Point.AtCheckpoint self.old }
         ensures { IfSome (slice_get self.old.processes number)
             (λ one. self.new ≡ with_state number one (process.after_checkpoint one.state) self.old) }
     {
         if number < self.processes.len() {
-            self.processes[number].marked();
+            self.processes[number].checkpointed();
         }
     }
 

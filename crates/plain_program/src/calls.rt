@@ -203,7 +203,7 @@ impl<'a> Execution<'a> {
     }
 
     /// The step at a checkpoint.
-    pub fn marked(&mut self)
+    pub fn checkpointed(&mut self)
         ensures { self.new ≡ record self.old { state = after_checkpoint self.old.state } }
     {
         self.done();

@@ -14,7 +14,8 @@ use Rattle.computed_changes.specs.sync_ids.specs.Tables.{Remembered, IsSound, no
 use Rattle.computed_changes.specs.world_semantics.specs.Core.{with_files}
 use Rattle.process_control.specs.Consistent.{IsConsistent, IsInOrder}
 use Rattle.process_control.proofs.Ordered.{whole-order, inner-order, took-order, asked-order, got-order, answered-order}
-use Rattle.process_control.proofs.Ordered.{marked-order, device-order, restored-order, restored-hand, restored-files}
+use Rattle.process_control.proofs.Ordered.{checkpointed-order, device-order, restored-order, restored-hand}
+use Rattle.process_control.proofs.Ordered.{restored-files}
 
 files-length : (files : List FileNumber) (next : List ℕ) → length (with_files files next) ≡ length next
 files-length [] next = refl
@@ -61,13 +62,13 @@ answered-hand : (s : ProcessState) → process.in_hand (process.after_answered s
 answered-hand (Runs program s) = refl
 answered-hand (Serves sectors s) = refl
 
-marked-files : (s : ProcessState) → files_of (process.after_checkpoint s) ≡ files_of s
-marked-files (Runs program s) = refl
-marked-files (Serves sectors s) = refl
+checkpointed-files : (s : ProcessState) → files_of (process.after_checkpoint s) ≡ files_of s
+checkpointed-files (Runs program s) = refl
+checkpointed-files (Serves sectors s) = refl
 
-marked-hand : (s : ProcessState) → process.in_hand (process.after_checkpoint s) ≡ process.in_hand s
-marked-hand (Runs program s) = refl
-marked-hand (Serves sectors s) = refl
+checkpointed-hand : (s : ProcessState) → process.in_hand (process.after_checkpoint s) ≡ process.in_hand s
+checkpointed-hand (Runs program s) = refl
+checkpointed-hand (Serves sectors s) = refl
 
 device-files : (s : ProcessState) (words : List ℤ) → files_of (process.after_device s words) ≡ files_of s
 device-files (Runs program s) words = refl
@@ -100,8 +101,9 @@ module _ (state new : ProcessState) (next : List ℕ) (remembered : Remembered)
 
   pub passing : process.point state ≡ point.AtCheckpoint → new ≡ process.after_checkpoint state
       → IsConsistent new next remembered
-  passing at = stepping (process.after_checkpoint state) (marked-order state at is.order) (marked-hand state)
-      (marked-files state)
+  passing at = stepping (process.after_checkpoint state) (checkpointed-order state at is.order)
+      (checkpointed-hand state)
+      (checkpointed-files state)
 
   pub acting : (found : List ℤ) → process.point state ≡ point.Device → new ≡ process.after_device state found
       → IsConsistent new next remembered

@@ -12,7 +12,7 @@ use Rattle.process_semantics.specs.Process.{ProcessState, Runs, Serves}
 use Rattle.process_semantics.specs.Words.{counted_in, long_in, whole}
 use Rattle.whole_states.specs.Listing.{MayList, files_of}
 use Rattle.whole_states.specs.Processes.{IsDiscAt, IsWholeProcess}
-use Rattle.whole_states.proofs.Calls.{took-awake, asked-whole, got-awake, answered-awake, marked-awake}
+use Rattle.whole_states.proofs.Calls.{took-awake, asked-whole, got-awake, answered-awake, checkpointed-awake}
 use Rattle.whole_states.proofs.Awake.{awake-whole}
 use Rattle.whole_states.proofs.Named.{asked-there}
 use Rattle.whole_states.proofs.Processes.{stays-whole, inner-process, listed-there}
@@ -53,18 +53,18 @@ pub answered-order : (s : ProcessState) → process.point s ≡ point.Answer →
 answered-order (Runs program s) at is = (is.0, awake-whole (answered-awake program s at is.1))
 answered-order (Serves sectors s) at is = tt
 
-mark-device : (request : Option (List ℤ)) → HoldsAt point.AtCheckpoint request → HoldsAt point.Device request
-mark-device None is = is
-mark-device (Some request) is = is
+checkpoint-device : (request : Option (List ℤ)) → HoldsAt point.AtCheckpoint request → HoldsAt point.Device request
+checkpoint-device None is = is
+checkpoint-device (Some request) is = is
 
 device-answer : (request : Option (List ℤ)) → HoldsAt point.Device request → HoldsAt point.Answer request
 device-answer None is = is
 device-answer (Some request) is = is
 
-pub marked-order : (s : ProcessState) → process.point s ≡ point.AtCheckpoint → IsInOrder s
+pub checkpointed-order : (s : ProcessState) → process.point s ≡ point.AtCheckpoint → IsInOrder s
     → IsInOrder (process.after_checkpoint s)
-marked-order (Runs program s) at is = (is.0, awake-whole (marked-awake program s at is.1))
-marked-order (Serves sectors s) at is = mark-device s.request (holds-at s point.AtCheckpoint at is)
+checkpointed-order (Runs program s) at is = (is.0, awake-whole (checkpointed-awake program s at is.1))
+checkpointed-order (Serves sectors s) at is = checkpoint-device s.request (holds-at s point.AtCheckpoint at is)
 
 pub device-order : (s : ProcessState) (found : List ℤ) → process.point s ≡ point.Device → IsInOrder s
     → IsInOrder (process.after_device s found)

@@ -233,7 +233,7 @@ impl<B: Behaviour> CopyCore<B> {
         requires { point self.old.core.state ≡ AtCheckpoint }
         ensures { self.new ≡ record self.old { core = after_passing self.old.core } }
     {
-        self.behaviour.marked();
+        self.behaviour.checkpointed();
     }
 
     /// Puts what a checkpoint carries that came as what changed in the place of its own, all of it or nothing, and says

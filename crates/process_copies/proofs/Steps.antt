@@ -53,36 +53,36 @@ first-steps (Some made) other step sent before after records now told h = h
 
 -- Points
 
-pub at-other : (site : Site) (number : ℕ) (k : Which) (pair : Pair) (marks : List Down) (records : Records)
+pub at-other : (site : Site) (number : ℕ) (k : Which) (pair : Pair) (downs : List Down) (records : Records)
     (stands : Point) → stands ≢ point.AtCheckpoint
-    → step_at site number k pair marks records stands
-    ≡ free_step site number k pair marks records stands (copy_of k pair).sent (copy_of k pair).renewal
-at-other site number k pair marks records point.AtCheckpoint other = absurd (other refl)
-at-other site number k pair marks records point.Inner other = refl
-at-other site number k pair marks records point.Take other = refl
-at-other site number k pair marks records point.Ask other = refl
-at-other site number k pair marks records point.Await other = refl
-at-other site number k pair marks records point.Answer other = refl
-at-other site number k pair marks records point.Device other = refl
-at-other site number k pair marks records point.Ended other = refl
+    → step_at site number k pair downs records stands
+    ≡ free_step site number k pair downs records stands (copy_of k pair).sent (copy_of k pair).renewal
+at-other site number k pair downs records point.AtCheckpoint other = absurd (other refl)
+at-other site number k pair downs records point.Inner other = refl
+at-other site number k pair downs records point.Take other = refl
+at-other site number k pair downs records point.Ask other = refl
+at-other site number k pair downs records point.Await other = refl
+at-other site number k pair downs records point.Answer other = refl
+at-other site number k pair downs records point.Device other = refl
+at-other site number k pair downs records point.Ended other = refl
 
 -- whether a copy's node hasn't marked the other copy's processor
 abbrev pub is_heard : Which → Pair → List Down → Bool
-is_heard k pair marks =
-    not (has_noted marks (copy_of k pair).processor (copy_of (other_of k) pair).processor)
+is_heard k pair downs =
+    not (has_noted downs (copy_of k pair).processor (copy_of (other_of k) pair).processor)
 
-pub renews-other : (number : ℕ) (k : Which) (pair : Pair) (marks : List Down) (records : Records) (stands : Point)
+pub renews-other : (number : ℕ) (k : Which) (pair : Pair) (downs : List Down) (records : Records) (stands : Point)
     → stands ≢ point.Await
-    → renewing_step number k pair marks records stands
-    ≡ step_if (is_heard k pair marks) (sending_step number k pair records)
-renews-other number k pair marks records point.Await other = absurd (other refl)
-renews-other number k pair marks records point.AtCheckpoint other = refl
-renews-other number k pair marks records point.Inner other = refl
-renews-other number k pair marks records point.Take other = refl
-renews-other number k pair marks records point.Ask other = refl
-renews-other number k pair marks records point.Answer other = refl
-renews-other number k pair marks records point.Device other = refl
-renews-other number k pair marks records point.Ended other = refl
+    → renewing_step number k pair downs records stands
+    ≡ step_if (is_heard k pair downs) (sending_step number k pair records)
+renews-other number k pair downs records point.Await other = absurd (other refl)
+renews-other number k pair downs records point.AtCheckpoint other = refl
+renews-other number k pair downs records point.Inner other = refl
+renews-other number k pair downs records point.Take other = refl
+renews-other number k pair downs records point.Ask other = refl
+renews-other number k pair downs records point.Answer other = refl
+renews-other number k pair downs records point.Device other = refl
+renews-other number k pair downs records point.Ended other = refl
 
 -- Acts
 

@@ -7,7 +7,7 @@ ghost use Rattle.world_semantics.specs.Records as happened;
 ghost use Rattle.node_copies.specs.Seen.{step_sendings};
 ghost use Rattle.process_copies.specs.Acting.{HasStepped, step_by_act};
 ghost use Rattle.process_copies.specs.Seen.{placed_after, records_after, sent_by};
-ghost use Rattle.world_semantics.specs.Running.{ending_step, free_step, mark_step, own_of, passing_step};
+ghost use Rattle.world_semantics.specs.Running.{ending_step, free_step, step_at_checkpoint, own_of, passing_step};
 ghost use Rattle.world_semantics.specs.Running.{renewing_step, sending_step, step_as, step_at, step_if, step_of};
 ghost use Rattle.world_semantics.specs.Running.{step_of_copy};
 
@@ -24,23 +24,23 @@ impl ProcessCopies {
     pub fn run(
         &mut self,
         alloc: Global,
-        marks: &Downs,
+        downs: &Downs,
         records: &mut Records,
     ) -> Result<StepOutcome, NoMemory>
         requires room { PairHasRoom self.old.pair }
         requires shown { HasNext (length records.old.shown) }
         ensures told { IfOk result (λ step. step_sendings step
-            ≡ sent_by (step_of self.old.site self.old.number self.old.pair marks.now records.old)) }
+            ≡ sent_by (step_of self.old.site self.old.number self.old.pair downs.now records.old)) }
         ensures process { OnOk result (self.new
-            ≡ placed_after self.old (step_of self.old.site self.old.number self.old.pair marks.now records.old)) }
+            ≡ placed_after self.old (step_of self.old.site self.old.number self.old.pair downs.now records.old)) }
         ensures records { OnOk result (records.new
-            ≡ records_after records.old (step_of self.old.site self.old.number self.old.pair marks.now records.old)) }
+            ≡ records_after records.old (step_of self.old.site self.old.number self.old.pair downs.now records.old)) }
         ensures site { self.new.site ≡ self.old.site }
         ensures number { self.new.number ≡ self.old.number }
     {
-        match self.run_copy(alloc, Which::First, marks, records)? {
+        match self.run_copy(alloc, Which::First, downs, records)? {
             StepOutcome::Impossible => {
-                let step = self.run_copy(alloc, Which::Second, marks, records)?;
+                let step = self.run_copy(alloc, Which::Second, downs, records)?;
                 Ok(step)
             }
             StepOutcome::Quiet => Ok(StepOutcome::Quiet),
@@ -52,13 +52,13 @@ impl ProcessCopies {
         &mut self,
         alloc: Global,
         which: Which,
-        marks: &Downs,
+        downs: &Downs,
         records: &mut Records,
     ) -> Result<StepOutcome, NoMemory>
         requires room { PairHasRoom self.old.pair }
         requires shown { HasNext (length records.old.shown) }
         ensures stepped { IfOk result (λ step. HasStepped
-            (step_of_copy self.old.site self.old.number self.old.pair marks.now records.old which)
+            (step_of_copy self.old.site self.old.number self.old.pair downs.now records.old which)
             step self.old self.new records.old records.new) }
         ensures site { self.new.site ≡ self.old.site }
         ensures number { self.new.number ≡ self.old.number }
@@ -66,7 +66,7 @@ impl ProcessCopies {
         match self.role(which) {
             Role::Acting => {
                 let stands = self.point(which);
-                let step = self.run_at(alloc, which, marks, records, stands)?;
+                let step = self.run_at(alloc, which, downs, records, stands)?;
                 Ok(step)
             }
             Role::Watching | Role::Blank | Role::Gone => Ok(StepOutcome::Impossible),
@@ -77,7 +77,7 @@ impl ProcessCopies {
         &mut self,
         alloc: Global,
         which: Which,
-        marks: &Downs,
+        downs: &Downs,
         records: &mut Records,
         stands: Point,
     ) -> Result<StepOutcome, NoMemory>
@@ -85,14 +85,14 @@ impl ProcessCopies {
         requires room { CopyHasRoom (copy_of which self.old.pair) }
         requires shown { HasNext (length records.old.shown) }
         ensures stepped { IfOk result (λ step. HasStepped
-            (step_at self.old.site self.old.number which self.old.pair marks.now records.old stands)
+            (step_at self.old.site self.old.number which self.old.pair downs.now records.old stands)
             step self.old self.new records.old records.new) }
         ensures site { self.new.site ≡ self.old.site }
         ensures number { self.new.number ≡ self.old.number }
     {
         match stands {
             Point::AtCheckpoint => {
-                let free = self.may_pass(which, marks);
+                let free = self.may_pass(which, downs);
                 let sent = self.sent(which);
                 let step = self.run_at_checkpoint(alloc, which, records, free, sent)?;
                 Ok(step)
@@ -100,7 +100,7 @@ impl ProcessCopies {
             _ => {
                 let sent = self.sent(which);
                 let renewal = self.renewal(which);
-                let step = self.run_free(alloc, which, marks, records, stands, sent, renewal)?;
+                let step = self.run_free(alloc, which, downs, records, stands, sent, renewal)?;
                 Ok(step)
             }
         }
@@ -112,7 +112,7 @@ impl ProcessCopies {
         &mut self,
         alloc: Global,
         which: Which,
-        marks: &Downs,
+        downs: &Downs,
         records: &mut Records,
         stands: Point,
         sent: bool,
@@ -123,17 +123,17 @@ impl ProcessCopies {
         requires room { CopyHasRoom (copy_of which self.old.pair) }
         requires shown { HasNext (length records.old.shown) }
         ensures stepped { IfOk result (λ step. HasStepped
-            (free_step self.old.site self.old.number which self.old.pair marks.now records.old stands sent renewal)
+            (free_step self.old.site self.old.number which self.old.pair downs.now records.old stands sent renewal)
             step self.old self.new records.old records.new) }
         ensures site { self.new.site ≡ self.old.site }
         ensures number { self.new.number ≡ self.old.number }
     {
         if sent {
-            let free = self.may_pass(which, marks);
+            let free = self.may_pass(which, downs);
             return Ok(self.end_where(which, free));
         }
         if renewal {
-            let is_heard = !self.has_noted_other(which, marks);
+            let is_heard = !self.has_noted_other(which, downs);
             let step = self.send_all(alloc, which, stands, is_heard)?;
             return Ok(step);
         }
@@ -166,11 +166,11 @@ impl ProcessCopies {
     ) -> Result<StepOutcome, NoMemory>
         requires renewal { (copy_of which self.old.pair).renewal ≡ true }
         requires room { CopyHasRoom (copy_of which self.old.pair) }
-        ensures stepped { (marks : List Down) (records : happened.Records)
-            → is_heard ≡ not (has_noted marks (copy_of which self.old.pair).processor
+        ensures stepped { (downs : List Down) (records : happened.Records)
+            → is_heard ≡ not (has_noted downs (copy_of which self.old.pair).processor
             (copy_of (other_of which) self.old.pair).processor)
             → IfOk result (λ step. HasStepped
-            (renewing_step self.old.number which self.old.pair marks records stands) step self.old self.new records
+            (renewing_step self.old.number which self.old.pair downs records stands) step self.old self.new records
             records) }
         ensures site { self.new.site ≡ self.old.site }
         ensures number { self.new.number ≡ self.old.number }
@@ -222,7 +222,7 @@ impl ProcessCopies {
         requires point { point (copy_of which self.old.pair).core.state ≡ Point.AtCheckpoint }
         requires room { CopyHasRoom (copy_of which self.old.pair) }
         ensures stepped { IfOk result (λ step. HasStepped
-            (mark_step self.old.number which self.old.pair records.old free sent)
+            (step_at_checkpoint self.old.number which self.old.pair records.old free sent)
             step self.old self.new records.old records.new) }
         ensures site { self.new.site ≡ self.old.site }
         ensures number { self.new.number ≡ self.old.number }

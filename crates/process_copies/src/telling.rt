@@ -1,7 +1,8 @@
 ghost use Rattle.std.specs.Prelude.{◌≡◌, ℕ, is_some};
 ghost use Rattle.world_semantics.specs.World.{Pair, copy_of, has_noted, may_pass, other_of};
 ghost use Rattle.world_semantics.specs.Records as happened;
-ghost use Rattle.world_semantics.specs.Running.{Stepped, free_step, mark_step, own_of, renewing_step, step_as, step_at};
+ghost use Rattle.world_semantics.specs.Running.{Stepped, free_step, step_at_checkpoint, own_of, renewing_step};
+ghost use Rattle.world_semantics.specs.Running.{step_as, step_at};
 ghost use Rattle.world_semantics.specs.Running.{step_if, step_of};
 ghost use Rattle.world_semantics.specs.Running.{step_of_copy};
 
@@ -26,60 +27,60 @@ impl ProcessCopies {
     }
 
     /// Whether a copy's node has marked the other copy's processor.
-    pub(crate) fn has_noted_other(&self, which: Which, marks: &Downs) -> bool
-        ensures { result ≡ has_noted marks.now (copy_of which self.now.pair).processor
+    pub(crate) fn has_noted_other(&self, which: Which, downs: &Downs) -> bool
+        ensures { result ≡ has_noted downs.now (copy_of which self.now.pair).processor
             (copy_of (other_of which) self.now.pair).processor }
     {
-        marks.has(self.processor(which), self.processor(other_of(which)))
+        downs.has(self.processor(which), self.processor(other_of(which)))
     }
 
     /// Whether a copy may go on after its checkpoint.
-    pub(crate) fn may_pass(&self, which: Which, marks: &Downs) -> bool
-        ensures { result ≡ may_pass marks.now which self.now.pair }
+    pub(crate) fn may_pass(&self, which: Which, downs: &Downs) -> bool
+        ensures { result ≡ may_pass downs.now which self.now.pair }
     {
-        self.copies.of(which).acknowledged() || self.has_noted_other(which, marks)
+        self.copies.of(which).acknowledged() || self.has_noted_other(which, downs)
     }
 }
 
 impl ProcessCopies {
     /// Whether the process can make a step.
-    pub fn can_run(&self, marks: &Downs) -> bool
+    pub fn can_run(&self, downs: &Downs) -> bool
         ensures { (records : happened.Records) → result
-            ≡ is_some (step_of self.now.site self.now.number self.now.pair marks.now records) }
+            ≡ is_some (step_of self.now.site self.now.number self.now.pair downs.now records) }
     {
-        if self.can_run_copy(Which::First, marks) {
+        if self.can_run_copy(Which::First, downs) {
             return true;
         }
-        self.can_run_copy(Which::Second, marks)
+        self.can_run_copy(Which::Second, downs)
     }
 
-    fn can_run_copy(&self, which: Which, marks: &Downs) -> bool
+    fn can_run_copy(&self, which: Which, downs: &Downs) -> bool
         ensures { (records : happened.Records) → result
-            ≡ is_some (step_of_copy self.now.site self.now.number self.now.pair marks.now records which) }
+            ≡ is_some (step_of_copy self.now.site self.now.number self.now.pair downs.now records which) }
     {
         match self.role(which) {
             Role::Acting => {
                 let stands = self.point(which);
-                self.can_run_at(which, marks, stands)
+                self.can_run_at(which, downs, stands)
             }
             Role::Watching | Role::Blank | Role::Gone => false,
         }
     }
 
-    fn can_run_at(&self, which: Which, marks: &Downs, stands: Point) -> bool
+    fn can_run_at(&self, which: Which, downs: &Downs, stands: Point) -> bool
         ensures { (records : happened.Records) → result
-            ≡ is_some (step_at self.now.site self.now.number which self.now.pair marks.now records stands) }
+            ≡ is_some (step_at self.now.site self.now.number which self.now.pair downs.now records stands) }
     {
         match stands {
             Point::AtCheckpoint => {
-                let free = self.may_pass(which, marks);
+                let free = self.may_pass(which, downs);
                 let sent = self.sent(which);
                 can_go_on(free, sent)
             }
             _ => {
                 let sent = self.sent(which);
                 let renewal = self.renewal(which);
-                self.can_run_free(which, marks, stands, sent, renewal)
+                self.can_run_free(which, downs, stands, sent, renewal)
             }
         }
     }
@@ -87,33 +88,33 @@ impl ProcessCopies {
     fn can_run_free(
         &self,
         which: Which,
-        marks: &Downs,
+        downs: &Downs,
         stands: Point,
         sent: bool,
         renewal: bool,
     ) -> bool
         ensures { (records : happened.Records) → result
-            ≡ is_some (free_step self.now.site self.now.number which self.now.pair marks.now records stands sent
+            ≡ is_some (free_step self.now.site self.now.number which self.now.pair downs.now records stands sent
             renewal) }
     {
         if sent {
-            let free = self.may_pass(which, marks);
+            let free = self.may_pass(which, downs);
             return is_step(free);
         }
         if renewal {
-            return self.can_send_all(which, marks, stands);
+            return self.can_send_all(which, downs, stands);
         }
         self.can_act(which, stands)
     }
 
-    fn can_send_all(&self, which: Which, marks: &Downs, stands: Point) -> bool
+    fn can_send_all(&self, which: Which, downs: &Downs, stands: Point) -> bool
         ensures { (records : happened.Records) → result
-            ≡ is_some (renewing_step self.now.number which self.now.pair marks.now records stands) }
+            ≡ is_some (renewing_step self.now.number which self.now.pair downs.now records stands) }
     {
         match stands {
             Point::Await => false,
             _ => {
-                let is_heard = !self.has_noted_other(which, marks);
+                let is_heard = !self.has_noted_other(which, downs);
                 is_step(is_heard)
             }
         }
@@ -140,7 +141,7 @@ fn is_step(free: bool) -> bool
 /// Whether a copy at its checkpoint can go on, which may pass or not, and has sent its checkpoint or not.
 fn can_go_on(free: bool, sent: bool) -> bool
     ensures { (number : ℕ) (k : Which) (pair : Pair) (records : happened.Records)
-        → result ≡ is_some (mark_step number k pair records free sent) }
+        → result ≡ is_some (step_at_checkpoint number k pair records free sent) }
 {
     if free {
         return true;

@@ -18,8 +18,8 @@ use Rattle.process_guards.specs.States.{procedure_of}
 abbrev numbered : ℕ → What → Statement
 numbered n what = record { number = n; line = n; what = what }
 
-abbrev pub marks : Statement
-marks = numbered 1 (Checkpoint (0 ∷ []) [])
+abbrev pub checkpoints : Statement
+checkpoints = numbered 1 (Checkpoint (0 ∷ []) [])
 
 abbrev pub gives : Statement
 gives = numbered 2 (Return None)
@@ -42,7 +42,7 @@ nested = record {
       ∷ record { name = 66 ∷ []; shape = shape.Array (pos 0) (pos 1) }
       ∷ record { name = 70 ∷ []; shape = shape.File 0 } ∷ [];
   files = record { item = 2; target = target.Process (36 ∷ 80 ∷ []); depth = 1 } ∷ [];
-  procedures = procedure_of false 1 ((65 ∷ []) ∷ (76 ∷ []) ∷ []) (marks ∷ gives ∷ [])
+  procedures = procedure_of false 1 ((65 ∷ []) ∷ (76 ∷ []) ∷ []) (checkpoints ∷ gives ∷ [])
       ∷ procedure_of false 0 ((73 ∷ []) ∷ []) (repeats ∷ stops ∷ []) ∷ [];
   main = 1;
 }

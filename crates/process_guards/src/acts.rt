@@ -50,7 +50,7 @@ pub fn a_disc_steps_to_its_answer()
           plain = with_slot (record disc_start { last_write = 3 }) None (Answered (pos 1 ∷ [])) 1;
           shown = [];
         }) }
-    ensures marked { made disc_site (with_slot (serving point.AtCheckpoint []) (Some 0) Taken 1) (Step 0)
+    ensures checkpointed { made disc_site (with_slot (serving point.AtCheckpoint []) (Some 0) Taken 1) (Step 0)
         ≡ Some (record { plain = with_slot (serving point.Device []) (Some 0) Taken 1; shown = [] }) }
     ensures absent { made disc_site (with_slot disc_start None Empty 0) (Step 1) ≡ None }
 {}

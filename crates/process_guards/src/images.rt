@@ -4,7 +4,8 @@ ghost use Rattle.process_semantics.specs.Image.{image_of, restored};
 ghost use Rattle.process_semantics.specs.Process.{Serves, after_checkpoint};
 ghost use Rattle.process_semantics.specs.Disc.{disc_start};
 ghost use Rattle.process_semantics.specs.State.{Run, Test, Last};
-ghost use Rattle.process_guards.specs.Nested.{marks, gives, repeats, stops, main_at, called_at, calling, busy, running};
+ghost use Rattle.process_guards.specs.Nested.{checkpoints, gives, repeats, stops, main_at, called_at, calling, busy};
+ghost use Rattle.process_guards.specs.Nested.{running};
 ghost use Rattle.process_guards.specs.Nested.{fresh, ended, disc_at, disc_after};
 ghost use Rattle.process_guards.specs.Nested.{leaves, inner_loop, outer_loop, counts_down, looping_fresh, in_loops};
 ghost use Rattle.process_guards.specs.Nested.{inside_call};
@@ -61,12 +62,12 @@ pub fn a_loop_stands_by_its_numbers()
 {}
 
 /// At a CHECKPOINT the image is of the state after it. A program that has ended has no frames.
-pub fn a_mark_is_passed_and_an_end_has_no_frames()
-    ensures mark { image_of (0 ∷ []) (running (called_at (Run marks ∷ Run gives ∷ []) ∷ calling ∷ []))
+pub fn a_checkpoint_is_passed_and_an_end_has_no_frames()
+    ensures checkpoint { image_of (0 ∷ []) (running (called_at (Run checkpoints ∷ Run gives ∷ []) ∷ calling ∷ []))
         ≡ pos 2 ∷ pos 1 ∷ pos 6 ∷ pos 2 ∷ pos 0 ∷ pos 2 ∷ pos 5 ∷ negsuc 0 ∷ pos 1 ∷ pos 0 ∷ pos 7 ∷ [] }
     ensures mark_restored { restored fresh true
         (pos 2 ∷ pos 1 ∷ pos 6 ∷ pos 2 ∷ pos 0 ∷ pos 2 ∷ pos 5 ∷ negsuc 0 ∷ pos 1 ∷ pos 0 ∷ pos 7 ∷ [])
-        ≡ Some (after_checkpoint (running (called_at (Run marks ∷ Run gives ∷ []) ∷ calling ∷ []))) }
+        ≡ Some (after_checkpoint (running (called_at (Run checkpoints ∷ Run gives ∷ []) ∷ calling ∷ []))) }
     ensures end { image_of (0 ∷ []) ended ≡ pos 0 ∷ pos 1 ∷ pos 0 ∷ pos 7 ∷ [] }
     ensures end_restored { restored fresh false (pos 0 ∷ pos 1 ∷ pos 0 ∷ pos 7 ∷ []) ≡ Some ended }
 {}
@@ -92,7 +93,7 @@ pub fn other_words_restore_nothing()
 /// a checkpoint it is of the disc at Device.
 pub fn a_disc_is_imaged()
     ensures take { image_of [] (disc_at point.Take None None) ≡ pos 0 ∷ pos 2 ∷ negsuc 25535 ∷ pos 0 ∷ [] }
-    ensures mark { image_of [] (disc_at point.AtCheckpoint (Some (pos 1 ∷ pos 0 ∷ [])) None)
+    ensures checkpoint { image_of [] (disc_at point.AtCheckpoint (Some (pos 1 ∷ pos 0 ∷ [])) None)
         ≡ pos 2 ∷ pos 1 ∷ pos 0 ∷ pos 2 ∷ negsuc 25535 ∷ pos 0 ∷ [] }
     ensures device { image_of [] (disc_at point.Device (Some (pos 1 ∷ pos 0 ∷ [])) None)
         ≡ pos 2 ∷ pos 1 ∷ pos 0 ∷ pos 2 ∷ negsuc 25535 ∷ pos 0 ∷ [] }

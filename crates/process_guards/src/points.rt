@@ -35,8 +35,8 @@ pub fn an_ask_is_awaited()
 {}
 
 /// CHECKPOINT stands at the point of checkpoints, a DO's test at that of inner steps, and an ended process at its own.
-pub fn a_checkpoint_is_a_mark()
-    ensures mark { point_of code (at_statement (Checkpoint [] [])) ≡ AtCheckpoint }
+pub fn a_checkpoint_is_a_point()
+    ensures checkpoint { point_of code (at_statement (Checkpoint [] [])) ≡ AtCheckpoint }
     ensures ended { point_of code (over (pos 1)) ≡ Ended }
     ensures stop { point_of code (at_statement Stop) ≡ Inner }
     ensures until { point_of code (at_statement (DoUntil [] (Truth (word (pos 1))))) ≡ Inner }

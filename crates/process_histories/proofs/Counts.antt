@@ -14,17 +14,18 @@ use Rattle.world_semantics.specs.plain_semantics.specs.Openers.{files_of, opener
 use Rattle.world_semantics.specs.whole_states.specs.Processes.{IsRegularKind}
 use Rattle.world_semantics.specs.checkpoint_image.specs.declared.receive.OpenerBlock.{OpenerBlock}
 use Rattle.world_semantics.specs.checkpoint_image.specs.Receive.{is_place, last_ones}
-use Rattle.world_semantics.specs.Core.{Core, Deed, Took, Asked, Got, Answered, goes, marks, takes, asks, gets, answers}
+use Rattle.world_semantics.specs.Core.{Core, Deed, Took, Asked, Got, Answered, goes, checkpoints, takes, asks, gets}
+use Rattle.world_semantics.specs.Core.{answers}
 use Rattle.world_semantics.specs.Core.{acts, next_on}
 use Rattle.world_semantics.proofs.Hands.{Stands, start-free, start-hand, take-hand, took-stands, inner-stands}
-use Rattle.world_semantics.proofs.Hands.{asked-stands, got-stands, answered-stands, mark-stands, device-stands}
+use Rattle.world_semantics.proofs.Hands.{asked-stands, got-stands, answered-stands, checkpoint-stands, device-stands}
 use Rattle.world_semantics.proofs.Lists.{mapped, repeated}
 use Rattle.process_histories.specs.Histories.{HasDone, nothing_done, one_more}
 use Rattle.process_histories.specs.Words.{take_from, answer_to, ask_on, get_on, taken_from, answered_to, requests_on}
 use Rattle.process_histories.specs.Words.{replies_on, is_await, awaits_on, one_if}
 use Rattle.process_histories.proofs.Places.{set-one}
 use Rattle.process_histories.proofs.Steady.{calm-away, start-calm, inner-calm, took-calm, asked-awaits, asked-same}
-use Rattle.process_histories.proofs.Steady.{got-calm, answered-calm, marked-calm, device-calm, done-steady}
+use Rattle.process_histories.proofs.Steady.{got-calm, answered-calm, checkpointed-calm, device-calm, done-steady}
 
 -- What a deed adds to a list of words
 
@@ -76,10 +77,10 @@ module _ {site : Site} {number : ℕ} {spec : ProcessSpec} where
       let after = none-awaited (process.after_inner core.state) file
       (calm-away _ (inner-calm core.state (done-steady regular done))) in
       omega (arith, asked-count regular done file, before, after)
-  asked-count regular (one_more {before = core} done (marks at)) file =
+  asked-count regular (one_more {before = core} done (checkpoints at)) file =
       let before : one_if (awaits_on core.state file) ≡ 0 = rw at refl in
       let after = none-awaited (process.after_checkpoint core.state) file
-      (calm-away _ (marked-calm core.state (done-steady regular done) at)) in
+      (calm-away _ (checkpointed-calm core.state (done-steady regular done) at)) in
       omega (arith, asked-count regular done file, before, after)
   asked-count regular (one_more {before = core} done (takes {words = words} block at there)) file =
       let before : one_if (awaits_on core.state file) ≡ 0 = rw at refl in
@@ -119,7 +120,7 @@ module _ {site : Site} {number : ℕ} {spec : ProcessSpec} where
       → Stands core.state (is_some core.receive.in_hand)
   done-stands nothing_done = record { hand = start-hand spec.what; free = start-free spec.what }
   done-stands (one_more {before = core} done (goes at)) = inner-stands core.state _ (done-stands done)
-  done-stands (one_more {before = core} done (marks at)) = mark-stands core.state _ (done-stands done)
+  done-stands (one_more {before = core} done (checkpoints at)) = checkpoint-stands core.state _ (done-stands done)
   done-stands (one_more {before = core} done (takes {words = words} block at there)) = took-stands core.state words at
   done-stands (one_more {before = core} done (asks at file words)) = asked-stands core.state _ (done-stands done)
   done-stands (one_more {before = core} done (gets {words = words} at file)) =
@@ -141,7 +142,7 @@ module _ {site : Site} {number : ℕ} {spec : ProcessSpec} where
       + one_if (is_place core.receive.in_hand place)
   taken-count nothing_done place = refl
   taken-count (one_more done (goes at)) place = taken-count done place
-  taken-count (one_more done (marks at)) place = taken-count done place
+  taken-count (one_more done (checkpoints at)) place = taken-count done place
   taken-count (one_more {deeds = deeds} {before = core} done (takes {place = one} {words = words} block at there))
       place =
       let free : one_if (is_place core.receive.in_hand place) ≡ 0 = rw (take-free done at) refl in
@@ -165,7 +166,7 @@ module _ {site : Site} {number : ℕ} {spec : ProcessSpec} where
       block there in
       ap (λ (b : OpenerBlock). b.taken) first.2
   taken-number (one_more done (goes at)) place block there = taken-number done place block there
-  taken-number (one_more done (marks at)) place block there = taken-number done place block there
+  taken-number (one_more done (checkpoints at)) place block there = taken-number done place block there
   taken-number (one_more {deeds = deeds} {before = core} done (takes {place = one} {words = words} old at known)) place
       block there =
       set-one (λ j z. z.taken ≡ length (taken_from j (Took one words ∷ deeds))) core.receive.openers one
@@ -188,7 +189,7 @@ module _ {site : Site} {number : ℕ} {spec : ProcessSpec} where
       → next ≡ length (requests_on file deeds) + 1
   next-number nothing_done file next there = repeated (length (files_of spec.what)) 1 file next there
   next-number (one_more done (goes at)) file next there = next-number done file next there
-  next-number (one_more done (marks at)) file next there = next-number done file next there
+  next-number (one_more done (checkpoints at)) file next there = next-number done file next there
   next-number (one_more done (takes block at known)) file next there = next-number done file next there
   next-number (one_more {deeds = deeds} {before = core} done (asks {file = one} {words = words} at named said)) file
       next there =

@@ -8,7 +8,7 @@ use Rattle.world_semantics.specs.process_semantics.specs.declared.point.Point.Th
 use Rattle.world_semantics.specs.process_semantics.specs.Process as process
 use Rattle.world_semantics.specs.plain_semantics.specs.Openers.{openers_of}
 use Rattle.world_semantics.specs.Core.{Core, Deed, Went, Checkpointed, Took, Asked, Got, Answered, Acted, Advances}
-use Rattle.world_semantics.specs.Core.{goes, marks, takes, asks, gets, answers, acts}
+use Rattle.world_semantics.specs.Core.{goes, checkpoints, takes, asks, gets, answers, acts}
 use Rattle.world_semantics.proofs.Lists.{some-same}
 use Rattle.process_histories.specs.Histories.{HasDone, nothing_done, one_more}
 
@@ -25,7 +25,7 @@ point_of (Acted call found) = point.Device
 pub stands-there : {openers : List OpenerSpec} {core next : Core} {deed : Deed} → Advances openers core deed next
     → process.point core.state ≡ point_of deed
 stands-there (goes at) = at
-stands-there (marks at) = at
+stands-there (checkpoints at) = at
 stands-there (takes block at there) = at
 stands-there (asks at file words) = at
 stands-there (gets at file) = at
@@ -35,7 +35,7 @@ stands-there (acts at call) = at
 pub leads-to-one : {openers : List OpenerSpec} {core next other : Core} {deed : Deed} → Advances openers core deed next
     → Advances openers core deed other → next ≡ other
 leads-to-one (goes at) (goes _) = refl
-leads-to-one (marks at) (marks _) = refl
+leads-to-one (checkpoints at) (checkpoints _) = refl
 leads-to-one (takes block at there) (takes same _ here) = let e = some-same (sym there ∙ here) in rw e refl
 leads-to-one (asks at file words) (asks _ _ _) = refl
 leads-to-one (gets at file) (gets _ _) = refl

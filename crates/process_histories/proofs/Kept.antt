@@ -9,7 +9,7 @@ use Rattle.tal_tree.specs.declared.site.Site.{Site}
 use Rattle.world_semantics.specs.plain_semantics.specs.Openers.{openers_of}
 use Rattle.world_semantics.specs.checkpoint_image.specs.declared.receive.OpenerBlock.{OpenerBlock}
 use Rattle.world_semantics.specs.checkpoint_image.specs.Receive.{last_ones}
-use Rattle.world_semantics.specs.Core.{Core, Deed, Answered, goes, marks, takes, asks, gets, answers, acts}
+use Rattle.world_semantics.specs.Core.{Core, Deed, Answered, goes, checkpoints, takes, asks, gets, answers, acts}
 use Rattle.world_semantics.proofs.Lists.{some-same, mapped}
 use Rattle.process_histories.specs.Histories.{HasDone, nothing_done, one_more}
 use Rattle.process_histories.specs.Words.{answered_to}
@@ -45,7 +45,7 @@ module _ {site : Site} {number : ℕ} {spec : ProcessSpec} where
       block there in
       ap (λ (b : OpenerBlock). b.kept) first.2 ∙ sym (drop-nil (0 - opener.depth))
   kept-last (one_more done (goes at)) place block there = kept-last done place block there
-  kept-last (one_more done (marks at)) place block there = kept-last done place block there
+  kept-last (one_more done (checkpoints at)) place block there = kept-last done place block there
   kept-last (one_more {deeds = deeds} {before = core} done (takes {place = one} old at known)) place block there =
       set-one (λ j z. AreLast (openers_of site number) deeds j z) core.receive.openers one
       (record old { taken = old.taken + 1 })

@@ -7,7 +7,7 @@ use Rattle.tal_tree.specs.declared.site.ProcessSpec.{ProcessSpec}
 use Rattle.tal_tree.specs.declared.site.Site.{Site}
 use Rattle.world_semantics.specs.process_semantics.specs.Process as process
 use Rattle.world_semantics.specs.process_semantics.specs.Process.{ProcessState, Runs, Serves}
-use Rattle.world_semantics.specs.Core.{Core, Deed, goes, marks, takes, asks, gets, answers, acts, next_on}
+use Rattle.world_semantics.specs.Core.{Core, Deed, goes, checkpoints, takes, asks, gets, answers, acts, next_on}
 use Rattle.tal_tree.specs.declared.program.Program.{Program}
 use Rattle.world_semantics.specs.World.{device_at_boot}
 use Rattle.tal_tree.specs.declared.site.OpenerSpec.{OpenerSpec}
@@ -23,9 +23,9 @@ inner-kind : (s : ProcessState) → kind_of (process.after_inner s) ≡ kind_of 
 inner-kind (Runs program s) = refl
 inner-kind (Serves sectors s) = refl
 
-marked-kind : (s : ProcessState) → kind_of (process.after_checkpoint s) ≡ kind_of s
-marked-kind (Runs program s) = refl
-marked-kind (Serves sectors s) = refl
+checkpointed-kind : (s : ProcessState) → kind_of (process.after_checkpoint s) ≡ kind_of s
+checkpointed-kind (Runs program s) = refl
+checkpointed-kind (Serves sectors s) = refl
 
 took-kind : (s : ProcessState) (words : List ℤ) → kind_of (process.after_took s words) ≡ kind_of s
 took-kind (Runs program s) words = refl
@@ -65,7 +65,7 @@ pub done-kind : {site : Site} {number : ℕ} {spec : ProcessSpec} {deeds : List 
     → HasDone site number spec deeds core → kind_of core.state ≡ unmirrored spec.what
 done-kind {spec = spec} nothing_done = start-kind spec.what
 done-kind (one_more {before = core} done (goes at)) = inner-kind core.state ∙ done-kind done
-done-kind (one_more {before = core} done (marks at)) = marked-kind core.state ∙ done-kind done
+done-kind (one_more {before = core} done (checkpoints at)) = checkpointed-kind core.state ∙ done-kind done
 done-kind (one_more {before = core} done (takes {words = words} block at there)) =
     took-kind core.state words ∙ done-kind done
 done-kind (one_more {before = core} done (asks at file words)) = asked-kind core.state ∙ done-kind done
@@ -82,7 +82,7 @@ module _ {site : Site} {number : ℕ} {spec : ProcessSpec} where
       → length core.next ≡ length (files_of spec.what)
   files-same nothing_done = length-replicate (length (files_of spec.what)) 1
   files-same (one_more done (goes at)) = files-same done
-  files-same (one_more done (marks at)) = files-same done
+  files-same (one_more done (checkpoints at)) = files-same done
   files-same (one_more done (takes block at there)) = files-same done
   files-same (one_more {before = core} done (asks {file = file} at named said)) =
       length-set core.next file (next_on core file + 1) ∙ files-same done
@@ -94,7 +94,7 @@ module _ {site : Site} {number : ℕ} {spec : ProcessSpec} where
       → length core.receive.openers ≡ length (openers_of site number)
   openers-same nothing_done = length-map (openers_of site number) (λ (opener : OpenerSpec). first_block)
   openers-same (one_more done (goes at)) = openers-same done
-  openers-same (one_more done (marks at)) = openers-same done
+  openers-same (one_more done (checkpoints at)) = openers-same done
   openers-same (one_more {before = core} done (takes {place = place} block at there)) =
       length-set core.receive.openers place _ ∙ openers-same done
   openers-same (one_more done (asks at named said)) = openers-same done

@@ -17,7 +17,7 @@ use Rattle.world_semantics.specs.process_semantics.specs.Process.{ProcessState, 
 use Rattle.world_semantics.specs.process_semantics.specs.State.{ProgramState, Entry, Run, Test, Last, memory_of}
 use Rattle.world_semantics.specs.process_semantics.specs.State.{words_of, good_count}
 use Rattle.world_semantics.specs.process_semantics.specs.State.{count_of, in_entry, next_of}
-use Rattle.world_semantics.specs.Core.{Core, Deed, goes, marks, takes, asks, gets, answers, acts}
+use Rattle.world_semantics.specs.Core.{Core, Deed, goes, checkpoints, takes, asks, gets, answers, acts}
 use Rattle.process_histories.specs.Histories.{HasDone, nothing_done, one_more}
 use Rattle.process_histories.specs.Words.{requests_on}
 
@@ -59,7 +59,7 @@ pub requests-short : {site : Site} {number : ℕ} {spec : ProcessSpec} {deeds : 
     → (file : ℕ) (words : List ℤ) → IsAmong words (requests_on file deeds) → length words ≤ 16
 requests-short nothing_done file words among = absurd among
 requests-short (one_more done (goes at)) file words among = requests-short done file words among
-requests-short (one_more done (marks at)) file words among = requests-short done file words among
+requests-short (one_more done (checkpoints at)) file words among = requests-short done file words among
 requests-short (one_more done (takes block at there)) file words among = requests-short done file words among
 requests-short (one_more {deeds = deeds} {before = core} done (asks {file = one} {words = asked} at named said)) file
     words among =

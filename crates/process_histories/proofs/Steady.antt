@@ -14,9 +14,9 @@ use Rattle.world_semantics.specs.whole_states.specs.Processes.{IsRegularKind}
 use Rattle.world_semantics.specs.whole_states.specs.Whole.{IsWhole}
 use Rattle.world_semantics.specs.whole_states.proofs.Awake.{IsAwake, awake-at, awake-whole, awake-away, waits-at}
 use Rattle.world_semantics.specs.whole_states.proofs.Calls.{start-awake, took-awake, asked-whole, got-awake}
-use Rattle.world_semantics.specs.whole_states.proofs.Calls.{answered-awake, marked-awake}
+use Rattle.world_semantics.specs.whole_states.proofs.Calls.{answered-awake, checkpointed-awake}
 use Rattle.world_semantics.specs.whole_states.proofs.Inner.{inner-awake}
-use Rattle.world_semantics.specs.Core.{Core, Deed, goes, marks, takes, asks, gets, answers, acts}
+use Rattle.world_semantics.specs.Core.{Core, Deed, goes, checkpoints, takes, asks, gets, answers, acts}
 use Rattle.process_histories.specs.Histories.{HasDone, nothing_done, one_more}
 
 -- a disc never asks and never awaits
@@ -77,10 +77,10 @@ pub answered-calm : (s : ProcessState) → IsSteady s → process.point s ≡ po
 answered-calm (Runs program s) is at = (is.0, answered-awake program s at is.1)
 answered-calm (Serves sectors s) is at = (λ same. cc, λ same. cc)
 
-pub marked-calm : (s : ProcessState) → IsSteady s → process.point s ≡ point.AtCheckpoint
+pub checkpointed-calm : (s : ProcessState) → IsSteady s → process.point s ≡ point.AtCheckpoint
     → IsCalm (process.after_checkpoint s)
-marked-calm (Runs program s) is at = (is.0, marked-awake program s at is.1)
-marked-calm (Serves sectors s) is at = (λ same. cc, λ same. cc)
+checkpointed-calm (Runs program s) is at = (is.0, checkpointed-awake program s at is.1)
+checkpointed-calm (Serves sectors s) is at = (λ same. cc, λ same. cc)
 
 pub device-calm : (s : ProcessState) (found : List ℤ) → IsSteady s → process.point s ≡ point.Device
     → IsCalm (process.after_device s found)
@@ -93,8 +93,8 @@ pub done-steady : {site : Site} {number : ℕ} {spec : ProcessSpec} {deeds : Lis
 done-steady {spec = spec} regular nothing_done = calm-steady _ (start-calm spec.what regular)
 done-steady regular (one_more {before = core} done (goes at)) =
     calm-steady _ (inner-calm core.state (done-steady regular done))
-done-steady regular (one_more {before = core} done (marks at)) =
-    calm-steady _ (marked-calm core.state (done-steady regular done) at)
+done-steady regular (one_more {before = core} done (checkpoints at)) =
+    calm-steady _ (checkpointed-calm core.state (done-steady regular done) at)
 done-steady regular (one_more {before = core} done (takes {words = words} block at there)) =
     calm-steady _ (took-calm core.state words (done-steady regular done) at)
 done-steady regular (one_more {before = core} done (asks at file words)) =

@@ -13,9 +13,9 @@ use Rattle.world_semantics.specs.checkpoint_image.specs.Behaving.{last_write_of}
 use Rattle.world_semantics.specs.whole_states.specs.Processes.{IsRegularKind, IsWholeProcess}
 use Rattle.world_semantics.specs.whole_states.proofs.Processes.{stays-whole, start-process, inner-process, took-process}
 use Rattle.world_semantics.specs.whole_states.proofs.Processes.{asked-process}
-use Rattle.world_semantics.specs.whole_states.proofs.Processes.{got-process, answered-process, marked-process}
+use Rattle.world_semantics.specs.whole_states.proofs.Processes.{got-process, answered-process, checkpointed-process}
 use Rattle.world_semantics.specs.whole_states.proofs.Processes.{device-process}
-use Rattle.world_semantics.specs.Core.{Core, Deed, goes, marks, takes, asks, gets, answers, acts}
+use Rattle.world_semantics.specs.Core.{Core, Deed, goes, checkpoints, takes, asks, gets, answers, acts}
 use Rattle.world_semantics.specs.Own.{found_on}
 use Rattle.process_histories.specs.Bounds.{AreBounded}
 use Rattle.process_histories.specs.Devices.{sectors_after, is_write, writes_in}
@@ -35,8 +35,8 @@ module _ {site : Site} {number : ℕ} {spec : ProcessSpec} where
   done-whole regular nothing_done is = stays-whole _ (start-process spec.what regular)
   done-whole regular (one_more {before = core} done (goes at)) is =
       stays-whole _ (inner-process core.state (done-whole regular done (bounded-before is)))
-  done-whole regular (one_more {before = core} done (marks at)) is =
-      stays-whole _ (marked-process core.state at (done-whole regular done (bounded-before is)))
+  done-whole regular (one_more {before = core} done (checkpoints at)) is =
+      stays-whole _ (checkpointed-process core.state at (done-whole regular done (bounded-before is)))
   done-whole regular (one_more {before = core} done (takes {words = words} block at there)) is =
       stays-whole _ (took-process core.state words at is.short.0 (done-whole regular done (bounded-before is)))
   done-whole regular (one_more {before = core} done (asks at file words)) is =

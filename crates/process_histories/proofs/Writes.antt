@@ -19,7 +19,8 @@ use Rattle.world_semantics.specs.process_semantics.specs.Process as process
 use Rattle.world_semantics.specs.process_semantics.specs.Process.{ProcessState, Runs, Serves}
 use Rattle.world_semantics.specs.disc_device.specs.Sectors.{Stored, blank, is_of_write, is_written}
 use Rattle.world_semantics.specs.checkpoint_image.specs.Behaving.{last_write_of}
-use Rattle.world_semantics.specs.Core.{Core, Deed, Went, Checkpointed, Took, Asked, Got, Answered, Acted, goes, marks}
+use Rattle.world_semantics.specs.Core.{Core, Deed, Went, Checkpointed, Took, Asked, Got, Answered, Acted, goes}
+use Rattle.world_semantics.specs.Core.{checkpoints}
 use Rattle.world_semantics.specs.Core.{takes, asks, gets, answers, acts}
 use Rattle.world_semantics.specs.World.{device_at_boot}
 use Rattle.world_semantics.proofs.Lists.{repeated}
@@ -103,9 +104,9 @@ inner-last : (s : ProcessState) → last_write_of (process.after_inner s) ≡ la
 inner-last (Runs program s) = refl
 inner-last (Serves sectors s) = refl
 
-marked-last : (s : ProcessState) → last_write_of (process.after_checkpoint s) ≡ last_write_of s
-marked-last (Runs program s) = refl
-marked-last (Serves sectors s) = refl
+checkpointed-last : (s : ProcessState) → last_write_of (process.after_checkpoint s) ≡ last_write_of s
+checkpointed-last (Runs program s) = refl
+checkpointed-last (Serves sectors s) = refl
 
 took-last : (s : ProcessState) (words : List ℤ) → last_write_of (process.after_took s words) ≡ last_write_of s
 took-last (Runs program s) words = refl
@@ -186,7 +187,7 @@ module _ {site : Site} {number : ℕ} {spec : ProcessSpec} where
       → last_write_of core.state ≡ writes_in deeds
   last-count nothing_done = start-last spec.what
   last-count (one_more {before = core} done (goes at)) = inner-last core.state ∙ last-count done
-  last-count (one_more {before = core} done (marks at)) = marked-last core.state ∙ last-count done
+  last-count (one_more {before = core} done (checkpoints at)) = checkpointed-last core.state ∙ last-count done
   last-count (one_more {before = core} done (takes {words = words} block at there)) =
       took-last core.state words ∙ last-count done
   last-count (one_more {before = core} done (asks at file words)) = asked-last core.state ∙ last-count done
@@ -213,7 +214,7 @@ module _ {site : Site} {number : ℕ} {spec : ProcessSpec} where
   stored-most nothing_done sector stored there =
       let first = ap (λ (s : Stored). s.number) (first-blank spec.what sector stored there) in omega (arith, first)
   stored-most (one_more done (goes at)) sector stored there = stored-most done sector stored there
-  stored-most (one_more done (marks at)) sector stored there = stored-most done sector stored there
+  stored-most (one_more done (checkpoints at)) sector stored there = stored-most done sector stored there
   stored-most (one_more done (takes block at known)) sector stored there = stored-most done sector stored there
   stored-most (one_more done (asks at file words)) sector stored there = stored-most done sector stored there
   stored-most (one_more done (gets at file)) sector stored there = stored-most done sector stored there
@@ -282,7 +283,7 @@ module _ {site : Site} {number : ℕ} {spec : ProcessSpec} where
   stored-eight nothing_done sector stored there =
       ap (λ (s : Stored). length s.words) (first-blank spec.what sector stored there)
   stored-eight (one_more done (goes at)) sector stored there = stored-eight done sector stored there
-  stored-eight (one_more done (marks at)) sector stored there = stored-eight done sector stored there
+  stored-eight (one_more done (checkpoints at)) sector stored there = stored-eight done sector stored there
   stored-eight (one_more done (takes block at known)) sector stored there = stored-eight done sector stored there
   stored-eight (one_more done (asks at file words)) sector stored there = stored-eight done sector stored there
   stored-eight (one_more done (gets at file)) sector stored there = stored-eight done sector stored there

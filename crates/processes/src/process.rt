@@ -153,10 +153,10 @@ impl Behaviour for Process {
         }
     }
 
-    fn marked(&mut self) {
+    fn checkpointed(&mut self) {
         match self {
-            Process::Program(program) => program.marked(),
-            Process::Disc(disc) => disc.marked(),
+            Process::Program(program) => program.checkpointed(),
+            Process::Disc(disc) => disc.checkpointed(),
         }
     }
 

@@ -127,8 +127,8 @@ impl<'a> Sides<'a> {
             }
             Point::AtCheckpoint => {
                 let image = image_of(alloc, &self.process)?;
-                self.process.marked();
-                self.plain.marked();
+                self.process.checkpointed();
+                self.plain.checkpointed();
                 return self.is_plain(alloc, image.as_slice());
             }
             _ => {}

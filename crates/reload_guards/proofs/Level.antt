@@ -240,8 +240,8 @@ cover-count number copy kept at =
     let one = own-one number (Step number) (copy.held ++ kept) (own-step number) in
     ap (λ (p : Point). own_acts number (acts_at number p ++ (copy.held ++ kept))) at ∙ omega (arith, one)
 
-passes-level : {stopped : List Bool} {number : ℕ} {marks : List Down} {kept after : List Act} {pair next : Pair}
-    {cause : Cause} {sendings : List Sending} → Passes number marks kept pair cause sendings next after
+passes-level : {stopped : List Bool} {number : ℕ} {downs : List Down} {kept after : List Act} {pair next : Pair}
+    {cause : Cause} {sendings : List Sending} → Passes number downs kept pair cause sendings next after
     → PlainPair stopped pair → BothSeen pair → AreLevel kept number pair → AreLevel after number next
 passes-level (by_send First role may none unmarked) plain seen ok = record {
   first = sends-level none ok.first;
@@ -324,8 +324,8 @@ held-none : (other : ℕ) (held kept : List Act) → own_acts other held ≡ 0
     → own_acts other (held ++ kept) ≡ own_acts other kept
 held-none other held kept none = let all = own-append other held kept in omega (arith, all, none)
 
-passes-others : {number : ℕ} {marks : List Down} {kept after : List Act} {pair next : Pair} {cause : Cause}
-    {sendings : List Sending} (other : ℕ) → other ≢ number → Passes number marks kept pair cause sendings next after
+passes-others : {number : ℕ} {downs : List Down} {kept after : List Act} {pair next : Pair} {cause : Cause}
+    {sendings : List Sending} (other : ℕ) → other ≢ number → Passes number downs kept pair cause sendings next after
     → AreLevel kept number pair → own_acts other after ≡ own_acts other kept
 passes-others other apart (by_send k role may none unmarked) ok = refl
 passes-others other apart (by_pass_again k role at may less) ok = refl

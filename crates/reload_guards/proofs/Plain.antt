@@ -185,8 +185,8 @@ told : {role : Role} {renewal sent : Bool} {state : ProcessState} → IsPlain ro
     → IsPlain role false sent state
 told p = record { blank = p.blank; renewal = refl; watching = p.watching; sent = p.sent }
 
-passes-plain : (stopped : List Bool) {number : ℕ} {marks : List Down} {kept after : List Act} {pair next : Pair}
-    {cause : Cause} {sendings : List Sending} → Passes number marks kept pair cause sendings next after
+passes-plain : (stopped : List Bool) {number : ℕ} {downs : List Down} {kept after : List Act} {pair next : Pair}
+    {cause : Cause} {sendings : List Sending} → Passes number downs kept pair cause sendings next after
     → PlainPair stopped pair → PlainPair stopped next
 passes-plain stopped {pair = pair} (by_send First role may none unmarked) ok = record {
   first = sending pair.first role ok.first may;

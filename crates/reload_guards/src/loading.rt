@@ -2,7 +2,7 @@ ghost use Rattle.std.specs.Prelude.{◌≡◌, ℕ, true, false, [], ◌∷◌, 
 ghost use Rattle.std.specs.Option.{is_some, option_map};
 ghost use Rattle.world_semantics.specs.Core.{Core};
 ghost use Rattle.world_semantics.specs.Examples.{disc_site};
-ghost use Rattle.world_semantics.specs.Rules.{blank_copy, reloaded_by, renewals_ended, renewed, taker, without_marks};
+ghost use Rattle.world_semantics.specs.Rules.{blank_copy, reloaded_by, renewals_ended, renewed, taker, without_downs};
 ghost use Rattle.world_semantics.specs.World.{Copy, Pair, is_noted_by_all, is_pair_of, is_whole};
 ghost use Rattle.world_semantics.specs.declared.role.Role.TheVariants.{Acting, Blank, Gone, Watching};
 ghost use Rattle.world_semantics.specs.declared.which.Which.TheVariants.{First, Second};
@@ -52,8 +52,8 @@ pub fn a_processor_is_loaded_after_all_have_marked_it()
 pub fn a_loaded_processor_runs_unmarked()
     ensures runs { loaded.stopped ≡ false ∷ false ∷ [] }
     ensures counted { loaded.reloads ≡ 1 ∷ 0 ∷ [] }
-    ensures marks { loaded.marks ≡ [] }
-    ensures others { without_marks 0 (record { node = 1; down = 0 } ∷ record { node = 2; down = 3 } ∷ [])
+    ensures downs { loaded.downs ≡ [] }
+    ensures others { without_downs 0 (record { node = 1; down = 0 } ∷ record { node = 2; down = 3 } ∷ [])
         ≡ record { node = 2; down = 3 } ∷ [] }
 {}
 

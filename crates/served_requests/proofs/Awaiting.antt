@@ -50,9 +50,9 @@ pub data WasAwaited (site : Site) (w : World) (sendings : List Sending) (asker :
 same-reply : {node at : ℕ} {one other : Reply} → Handing node (Replying one) ≡ Handing at (Replying other) → one ≡ other
 same-reply same = cc
 
-passes-no-reply : {number at : ℕ} {marks : List Down} {kept after : List Act} {pair next : Pair} {cause : Cause}
+passes-no-reply : {number at : ℕ} {downs : List Down} {kept after : List Act} {pair next : Pair} {cause : Cause}
     {sendings : List Sending} {reply : Reply}
-    → Passes number marks kept pair cause sendings next after → cause ≡ Handing at (Replying reply) → ⊥
+    → Passes number downs kept pair cause sendings next after → cause ≡ Handing at (Replying reply) → ⊥
 passes-no-reply (by_send k role at unsent unmarked) same = cc
 passes-no-reply (by_pass_again k role at may less) same = cc
 passes-no-reply (by_pass k role at may most) same = cc

@@ -28,7 +28,7 @@ use Rattle.served_requests.proofs.Awaiting.{WasAwaited, was_awaited, is_asked, a
 use Rattle.served_requests.proofs.Coming.{come-seen}
 use Rattle.served_requests.proofs.Numbers.{asked-low, awaited-low, early-low}
 use Rattle.served_requests.proofs.Routes.{KeepsRoutes, routes-no-reload, route-same, route-where}
-use Rattle.served_requests.proofs.Routes.{seat-within, stopped-is, rests-stopped, marks-stay, stopped-stays}
+use Rattle.served_requests.proofs.Routes.{seat-within, stopped-is, rests-stopped, downs-stay, stopped-stays}
 use Rattle.served_requests.proofs.Routes.{home-before}
 use Rattle.served_requests.proofs.Seeing.{LeavesTold, turn-seen}
 use Rattle.served_requests.proofs.Sending.{letter-in, IsTold, told-now}
@@ -55,11 +55,11 @@ module _ (site : Site) (fit : IsFit site) (events : ℕ) (post : Post) (good : I
         change-turned site fit events post.world good known.honest.calm change (routes-no-reload cause keeps)
 
     route : (node number : ℕ) (now : Pair) (there : slice_get next.processes number ≡ Some now)
-        → route_of next.marks node now ≡ route_of post.world.marks node (turned number now there).before
+        → route_of next.downs node now ≡ route_of post.world.downs node (turned number now there).before
     route node number now there =
         let was = turned number now there in
-        ap (λ marks. route_of marks node now) (marks-stay change keeps)
-        ∙ route-same post.world.marks node was.before now (λ k. (was.goes k).0) was.led
+        ap (λ downs. route_of downs node now) (downs-stay change keeps)
+        ∙ route-same post.world.downs node was.before now (λ k. (was.goes k).0) was.led
 
     home-was : (node asker : ℕ) (one : Who) → home_of next node one ≡ Some asker
         → home_of post.world node one ≡ Some asker
@@ -116,7 +116,7 @@ module _ (site : Site) (fit : IsFit site) (events : ℕ) (post : Post) (good : I
           → IsServed site After asker one n opener now
       still-served now there old (route_stopped rests) =
           let was = turned opener.server now there in
-          let to = route-where post.world.marks asker was.before in
+          let to = route-where post.world.downs asker was.before in
           let within = seat-within to.0 (seated.pairs opener.server was.before was.there) in
           let stopped = stopped-is post.world.stopped (copy_of to.0 was.before).processor within (rw to.1 rests) in
           let still = stopped-stays change (routes-no-reload cause keeps) (copy_of to.0 was.before).processor
@@ -130,10 +130,10 @@ module _ (site : Site) (fit : IsFit site) (events : ℕ) (post : Post) (good : I
             let was = turned opener.server now there in
             let seen = come-seen site fit events post.world good asker one opener n opens change
             (rest ++ letters_of site next sendings) (letters_of site next sendings ++ post.sent)
-            (route_of post.world.marks asker was.before) words handed old told known.early.waiting in
+            (route_of post.world.downs asker was.before) words handed old told known.early.waiting in
             let same : seen.now ≡ now = some-same (sym seen.there ∙ there) in
             subst (λ p. IsServed site After asker one n opener p) same
-            (is_seen seen.k (seen.seat ∙ sym (ap (λ p. route_of next.marks asker p) same
+            (is_seen seen.k (seen.seat ∙ sym (ap (λ p. route_of next.downs asker p) same
             ∙ route asker opener.server now there)) seen.seen)
       ]
       still-served now there old (is_seen k at has) =
@@ -160,5 +160,5 @@ module _ (site : Site) (fit : IsFit site) (events : ℕ) (post : Post) (good : I
           (served asker one n opener was.before opens was.there old)
       by (is_asked words asks) =
           is_owed words (among-right _ rest (letters_of site next sendings)
-          (letter-in site next asker (route_of next.marks asker now) (Asking (request_of opener n words)) sendings
+          (letter-in site next asker (route_of next.downs asker now) (Asking (request_of opener n words)) sendings
           (asks opener opens) (rw there refl)))

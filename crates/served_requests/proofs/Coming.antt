@@ -50,9 +50,9 @@ own-no-request (by_device old) same = cc
 own-no-request (by_write new) same = cc
 own-no-request (by_reply among opens last said) same = cc
 
-passes-no-request : {number at : ℕ} {marks : List Down} {kept after : List Act} {pair next : Pair} {cause : Cause}
+passes-no-request : {number at : ℕ} {downs : List Down} {kept after : List Act} {pair next : Pair} {cause : Cause}
     {sendings : List Sending} {request : Request}
-    → Passes number marks kept pair cause sendings next after → cause ≡ Handing at (Asking request) → ⊥
+    → Passes number downs kept pair cause sendings next after → cause ≡ Handing at (Asking request) → ⊥
 passes-no-request (by_send k role at unsent unmarked) same = cc
 passes-no-request (by_pass_again k role at may less) same = cc
 passes-no-request (by_pass k role at may most) same = cc

@@ -42,14 +42,14 @@ module _ (site : Site) (events : ℕ) (w : World) (good : IsGood site events w) 
   -- a request that comes where it is routed changes something
   request-taken : (asker n : ℕ) (opener : Opener) (pair : Pair) (words : List ℤ)
       → slice_get w.processes opener.server ≡ Some pair
-      → is_running w.stopped (route_of w.marks asker pair) ≡ true → IsAmong (request_of opener n words) w.requests
-      → IsIdleFor site w (Handing (route_of w.marks asker pair) (Asking (request_of opener n words))) → ⊥
+      → is_running w.stopped (route_of w.downs asker pair) ≡ true → IsAmong (request_of opener n words) w.requests
+      → IsIdleFor site w (Handing (route_of w.downs asker pair) (Asking (request_of opener n words))) → ⊥
   request-taken asker n opener pair words there runs sent idle =
       by (copy_of to.0 pair).role refl (subst (λ p. IsIdleFor site w (Handing p (Asking (request_of opener n words))))
       (sym to.1) idle)
     where
-      to : (k : Which) × ((copy_of k pair).processor ≡ route_of w.marks asker pair)
-      to = route-where w.marks asker pair
+      to : (k : Which) × ((copy_of k pair).processor ≡ route_of w.downs asker pair)
+      to = route-where w.downs asker pair
 
       by : (role : Role) → (copy_of to.0 pair).role ≡ role
           → IsIdleFor site w (Handing (copy_of to.0 pair).processor (Asking (request_of opener n words))) → ⊥

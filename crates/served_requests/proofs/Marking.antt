@@ -45,8 +45,8 @@ use Rattle.served_requests.proofs.Turned.{Turned, change-turned}
 -- what a mark is of, and what it leaves
 record IsMark (w next : World) (node processor : ℕ) : Type 0 where
   down : slice_get w.stopped processor ≡ Some true
-  unmarked : has_noted w.marks node processor ≡ false
-  marks : next.marks ≡ record { node = node; down = processor } ∷ w.marks
+  unmarked : has_noted w.downs node processor ≡ false
+  downs : next.downs ≡ record { node = node; down = processor } ∷ w.downs
   stopped : next.stopped ≡ w.stopped
   terminals : next.terminals ≡ w.terminals
 
@@ -63,7 +63,7 @@ mark-is {w = w} (by_mark at other stopped runs new) node processor same =
     record {
       down = subst (λ p. slice_get w.stopped p ≡ Some true) is.1 stopped;
       unmarked = rw (← is.0, ← is.1) new;
-      marks = rw (is.0, is.1) refl;
+      downs = rw (is.0, is.1) refl;
       stopped = refl;
       terminals = refl;
     }
@@ -131,17 +131,17 @@ module _ (site : Site) (fit : IsFit site) (out : IsLaidOut site) (events later :
 
   route-stays : (asker : ℕ) (before now : Pair) → SameSeats before now → now.led ≡ before.led
       → (node == asker && processor == led_at before) ≡ false
-      → route_of next.marks asker now ≡ route_of post.world.marks asker before
+      → route_of next.downs asker now ≡ route_of post.world.downs asker before
   route-stays asker before now seats led other =
-      ap (λ marks. route_of marks asker now) is.marks ∙ route-same
-      (record { node = node; down = processor } ∷ post.world.marks) asker before now seats led ∙ rw other refl
+      ap (λ downs. route_of downs asker now) is.downs ∙ route-same
+      (record { node = node; down = processor } ∷ post.world.downs) asker before now seats led ∙ rw other refl
 
   rerouted : (number : ℕ) (before : Pair) → slice_get post.world.processes number ≡ Some before
       → processor ≡ led_at before
       → is_rerouted post.world node processor number ≡ true
   rerouted number before there same =
-      let new : has_noted post.world.marks node (led_at before) ≡ false =
-      subst (λ p. has_noted post.world.marks node p ≡ false) same is.unmarked in
+      let new : has_noted post.world.downs node (led_at before) ≡ false =
+      subst (λ p. has_noted post.world.downs node p ≡ false) same is.unmarked in
       rw (there, new, eq-eqb (led_at before) processor (sym same)) refl
 
   -- another node finds an opener where it did, and so does this one, unless the opener is found elsewhere
@@ -247,7 +247,7 @@ module _ (site : Site) (fit : IsFit site) (out : IsLaidOut site) (events later :
             (sent_again site post.world next node processor)
             → IsServed site After asker one n opener now
         owed {asker = asker} {n = n} words mine among =
-            is_owed words (sent-owed asker (route_of next.marks asker now) (Asking (request_of opener n words))
+            is_owed words (sent-owed asker (route_of next.downs asker now) (Asking (request_of opener n words))
             (subst (λ p. IsAmong (record { node = p; message = Asking (request_of opener n words) }) Sent) mine
             (among-right _ sendings (sent_again site post.world next node processor) among))
             (rw there_now refl))
@@ -275,7 +275,7 @@ module _ (site : Site) (fit : IsFit site) (out : IsLaidOut site) (events later :
       was = turned opener.server now there
 
       route : (node == asker && processor == led_at was.before) ≡ false
-          → route_of next.marks asker now ≡ route_of post.world.marks asker was.before
+          → route_of next.downs asker now ≡ route_of post.world.downs asker was.before
       route other = route-stays asker was.before now (λ k. (was.goes k).0) was.led other
 
       still : IsAwaited site post.world asker one n → (node == asker && processor == led_at was.before) ≡ false
@@ -283,7 +283,7 @@ module _ (site : Site) (fit : IsFit site) (out : IsLaidOut site) (events later :
           → IsServed site After asker one n opener now
       still old other (route_stopped rests) =
           route_stopped (rw (is.stopped, route other) rests)
-      still old other (is_owed words letter) = elim (eqb_tells (route_of post.world.marks asker was.before) processor) [
+      still old other (is_owed words letter) = elim (eqb_tells (route_of post.world.downs asker was.before) processor) [
         | inl to ↦ route_stopped (rw (is.stopped, route other, to.1)
             (rests-stopped post.world.stopped processor is.down))
         | inr apart ↦ is_owed words (rw (route other)
@@ -307,5 +307,5 @@ module _ (site : Site) (fit : IsFit site) (out : IsLaidOut site) (events later :
       by : WasAwaited site post.world sendings asker one n → IsServed site After asker one n opener now
       by (was_awaited old) = either old (node == asker && processor == led_at was.before) refl
       by (is_asked words asks) =
-          is_owed words (sent-owed asker (route_of next.marks asker now) (Asking (request_of opener n words))
+          is_owed words (sent-owed asker (route_of next.downs asker now) (Asking (request_of opener n words))
           (among-left _ sendings (sent_again site post.world next node processor) (asks opener opens)) (rw there refl))

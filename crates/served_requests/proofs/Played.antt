@@ -6,7 +6,7 @@ use Rattle.tal_tree.specs.declared.site.Who.{Who}
 use Rattle.schedule.specs.declared.event.Event.{Event}
 use Rattle.world_semantics.specs.Messages.{Message, Sending, Cause, Handing, Stopping, NotingDown, Reloading}
 use Rattle.world_semantics.specs.Rules.{Change, by_own, by_checkpoint, by_request, by_early_request, by_enter, by_print}
-use Rattle.world_semantics.specs.Rules.{by_stop, by_mark, by_reload, most_reloads, reloaded_from, without_marks}
+use Rattle.world_semantics.specs.Rules.{by_stop, by_mark, by_reload, most_reloads, reloaded_from, without_downs}
 use Rattle.world_semantics.specs.World.{World, boot, has_noted, is_running}
 use Rattle.letter_laws.specs.takeover_laws.specs.Fit.{IsFit}
 use Rattle.letter_laws.specs.takeover_laws.proofs.Changing.{acts_by, causes-one, passes-one}
@@ -38,13 +38,13 @@ same-letter same = (cc, cc)
 record IsReload (site : Site) (w next : World) (processor : ℕ) : Type 0 where
   times : ℕ
   down : slice_get w.stopped processor ≡ Some true
-  all : (node : ℕ) → is_running w.stopped node ≡ true → has_noted w.marks node processor ≡ true
+  all : (node : ℕ) → is_running w.stopped node ≡ true → has_noted w.downs node processor ≡ true
   counted : slice_get w.reloads processor ≡ Some times
   less : times < most_reloads
   left : next ≡ record w {
     stopped = slice_set w.stopped processor false;
     reloads = slice_set w.reloads processor (times + 1);
-    marks = without_marks processor w.marks;
+    downs = without_downs processor w.downs;
     processes = reloaded_from site processor 0 w.processes;
   }
 
@@ -101,14 +101,14 @@ module _ (site : Site) (fit : IsFit site) (out : IsLaidOut site) where
       (reload-serves site out post.world processor is.times good.roles good.stopped good.steady good.seated is.down
       is.all is.counted is.less post.owed post.sent served)
 
-  marks-served : (node events : ℕ) (post next : Post) → events < 4294967295 → IsGood site events post.world
+  downs-served : (node events : ℕ) (post next : Post) → events < 4294967295 → IsGood site events post.world
       → IsKnown site post
       → AreServed site post → NotesLetters site node post next → AreServed site next
-  marks-served node events post next few good known served no_mark = served
-  marks-served node events post next few good known served
+  downs-served node events post next few good known served no_mark = served
+  downs-served node events post next few good known served
       (one_mark {sendings = sendings} {next = w} processor change more) =
       let after = change-good site fit events post.world w (NotingDown node processor) sendings few good change in
-      marks-served node (events + 0) (post_after_down site node processor sendings w post) next (omega (arith, few))
+      downs-served node (events + 0) (post_after_down site node processor sendings w post) next (omega (arith, few))
       after
       (known-mark site fit events (events + 0) post w node processor sendings good after known change)
       (mark-served site fit out events (events + 0) post good (seats post known) known served node processor sendings w
@@ -151,13 +151,13 @@ module _ (site : Site) (fit : IsFit site) (out : IsLaidOut site) where
       of plays_repeat = served
       of plays_drive = served
       of plays_no_tick = served
-      of (plays_tick {node = node} {next = last} runs marks) =
-          marks-served node events post last few good known served marks
-      of (plays_tick_stop {node = node} {between = between} {next = last} processor runs other change marks) =
+      of (plays_tick {node = node} {next = last} runs downs) =
+          downs-served node events post last few good known served downs
+      of (plays_tick_stop {node = node} {between = between} {next = last} processor runs other change downs) =
           let after = change-good site fit events post.world between (Stopping processor) [] few good change in
-          marks-served node (events + 0) (record post { world = between }) last (omega (arith, few)) after
+          downs-served node (events + 0) (record post { world = between }) last (omega (arith, few)) after
           (known-stop site fit events (events + 0) post between processor good after known change)
-          (stop-served events post between processor good known served change) marks
+          (stop-served events post between processor good known served change) downs
       of (plays_fail {processor = processor} {next = w} change) =
           stop-served events post w processor good known served change
       of (plays_no_fail idle) = served

@@ -51,29 +51,29 @@ led_at pair = (copy_of pair.led pair).processor
 
 -- the route to a process of which this copy leads
 abbrev led_by : List Down → ℕ → Pair → Which → ℕ
-led_by marks node pair k =
-    if has_noted marks node (copy_of k pair).processor then (copy_of (other_of k) pair).processor
+led_by downs node pair k =
+    if has_noted downs node (copy_of k pair).processor then (copy_of (other_of k) pair).processor
     else (copy_of k pair).processor
 
 -- where the same copy leads in both, the routes are the same
-pub route-same : (marks : List Down) (node : ℕ) (before now : Pair) → SameSeats before now → now.led ≡ before.led
-    → route_of marks node now ≡ route_of marks node before
-route-same marks node before now same led = ap (led_by marks node now) led ∙ seated before.led
+pub route-same : (downs : List Down) (node : ℕ) (before now : Pair) → SameSeats before now → now.led ≡ before.led
+    → route_of downs node now ≡ route_of downs node before
+route-same downs node before now same led = ap (led_by downs node now) led ∙ seated before.led
   where
-    seated : (k : Which) → led_by marks node now k ≡ led_by marks node before k
+    seated : (k : Which) → led_by downs node now k ≡ led_by downs node before k
     seated k = rw (same k, same (other_of k)) refl
 
 -- a route leads to one of the two copies
-pub route-where : (marks : List Down) (node : ℕ) (pair : Pair)
-    → (k : Which) × ((copy_of k pair).processor ≡ route_of marks node pair)
-route-where marks node pair = by (has_noted marks node (copy_of pair.led pair).processor)
+pub route-where : (downs : List Down) (node : ℕ) (pair : Pair)
+    → (k : Which) × ((copy_of k pair).processor ≡ route_of downs node pair)
+route-where downs node pair = by (has_noted downs node (copy_of pair.led pair).processor)
   where
     by : (marked : Bool) → (k : Which) × ((copy_of k pair).processor
         ≡ (if marked then (copy_of (other_of pair.led) pair).processor else (copy_of pair.led pair).processor))
     by true = (other_of pair.led, refl)
     by false = (pair.led, refl)
 
-pub seat-within : {stopped : List Bool} {marks : List Down} {pair : Pair} (k : Which) → IsSeated stopped marks pair
+pub seat-within : {stopped : List Bool} {downs : List Down} {pair : Pair} (k : Which) → IsSeated stopped downs pair
     → (copy_of k pair).processor < length stopped
 seat-within First seated = seated.first
 seat-within Second seated = seated.second
@@ -94,17 +94,17 @@ pub rests-stopped : (stopped : List Bool) (processor : ℕ) → slice_get stoppe
 rests-stopped stopped processor is = rw is refl
 
 -- a change that is neither a mark nor a reload leaves the marks as they were
-pub marks-stay : {site : Site} {w next : World} {cause : Cause} {sendings : List Sending}
-    → Change site w cause sendings next → KeepsRoutes cause → next.marks ≡ w.marks
-marks-stay (by_own number k pair there role causes advances enters fr) keeps = refl
-marks-stay (by_checkpoint number pair there passes) keeps = refl
-marks-stay (by_request request k pair among there role) keeps = refl
-marks-stay (by_early_request request k pair among there role) keeps = refl
-marks-stay (by_enter number terminal opener there even next opens) keeps = refl
-marks-stay (by_print number terminal reply there odd among opens last) keeps = refl
-marks-stay (by_stop processor runs whole) keeps = refl
-marks-stay (by_mark node processor stopped runs new) keeps = absurd keeps
-marks-stay (by_reload processor stopped all counted less) keeps = absurd keeps
+pub downs-stay : {site : Site} {w next : World} {cause : Cause} {sendings : List Sending}
+    → Change site w cause sendings next → KeepsRoutes cause → next.downs ≡ w.downs
+downs-stay (by_own number k pair there role causes advances enters fr) keeps = refl
+downs-stay (by_checkpoint number pair there passes) keeps = refl
+downs-stay (by_request request k pair among there role) keeps = refl
+downs-stay (by_early_request request k pair among there role) keeps = refl
+downs-stay (by_enter number terminal opener there even next opens) keeps = refl
+downs-stay (by_print number terminal reply there odd among opens last) keeps = refl
+downs-stay (by_stop processor runs whole) keeps = refl
+downs-stay (by_mark node processor stopped runs new) keeps = absurd keeps
+downs-stay (by_reload processor stopped all counted less) keeps = absurd keeps
 
 -- what has stopped stays so, but by a reload
 pub stopped-stays : {site : Site} {w next : World} {cause : Cause} {sendings : List Sending}
@@ -124,13 +124,13 @@ stopped-stays (by_reload other stopped all counted less) no_reload processor is 
 pub home-before : (w next : World) (node asker : ℕ) (one : Who)
     → ((number file : ℕ) → one ≡ who.File number file → (now : Pair) → slice_get next.processes number ≡ Some now
     → (before : Pair) × (slice_get w.processes number ≡ Some before)
-    × (route_of next.marks node now ≡ route_of w.marks node before))
+    × (route_of next.downs node now ≡ route_of w.downs node before))
     → home_of next node one ≡ Some asker → home_of w node one ≡ Some asker
 home-before w next node asker (who.Terminal terminal) routes home = home
 home-before w next node asker (who.File number file) routes home = by (slice_get next.processes number) refl home
   where
     by : (now : Option Pair) → slice_get next.processes number ≡ now
-        → option_map (λ pair. route_of next.marks node pair) now ≡ Some asker
+        → option_map (λ pair. route_of next.downs node pair) now ≡ Some asker
         → route_to w node number ≡ Some asker
     by None there home = absurd (cc)
     by (Some now) there home = let was = routes number file refl now there in rw (was.1, ← was.2) home

@@ -178,9 +178,9 @@ module _ (site : Site) (fit : IsFit site) (events : ℕ) (w : World) (good : IsG
   with-led First copy pair = refl
   with-led Second copy pair = refl
 
-  passes-led : {number : ℕ} {marks : List Down} {kept after : List Act} {pair next : Pair} {cause : Cause}
+  passes-led : {number : ℕ} {downs : List Down} {kept after : List Act} {pair next : Pair} {cause : Cause}
       {sendings : List Sending}
-      → Passes number marks kept pair cause sendings next after → next.led ≡ pair.led
+      → Passes number downs kept pair cause sendings next after → next.led ≡ pair.led
   passes-led (by_send k role at unsent unmarked) = with-led k _ _
   passes-led (by_pass_again k role at may less) = with-led k _ _
   passes-led (by_pass k role at may most) = with-led k _ _

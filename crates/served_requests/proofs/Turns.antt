@@ -34,7 +34,7 @@ use Rattle.world_semantics.proofs.Lists.{some-same}
 use Rattle.letter_laws.specs.process_histories.proofs.Counts.{take-free}
 use Rattle.letter_laws.specs.process_histories.proofs.Steady.{IsSteady, IsCalm, done-steady, calm-away, inner-calm}
 use Rattle.letter_laws.specs.process_histories.proofs.Steady.{took-calm, asked-same}
-use Rattle.letter_laws.specs.process_histories.proofs.Steady.{got-calm, answered-calm, marked-calm, device-calm}
+use Rattle.letter_laws.specs.process_histories.proofs.Steady.{got-calm, answered-calm, checkpointed-calm, device-calm}
 use Rattle.letter_laws.specs.takeover_laws.specs.Fit.{IsFit}
 use Rattle.letter_laws.specs.takeover_laws.proofs.Kept.{IsGood}
 use Rattle.letter_laws.specs.awaited_requests.specs.Served.{request_of}
@@ -200,7 +200,7 @@ module _ (site : Site) (fit : IsFit site) (events : ℕ) (w : World) (good : IsG
 
   pub passes-turn : (number : ℕ) (pair : Pair) → slice_get w.processes number ≡ Some pair
       → {next : Pair} {kept : List Act} {cause : Cause} {sendings : List Sending}
-      → Passes number w.marks w.kept pair cause sendings next kept → (k : Which)
+      → Passes number w.downs w.kept pair cause sendings next kept → (k : Which)
       → Goes site number cause sendings pair k (copy_of k next)
   passes-turn number pair there = go
     where
@@ -220,7 +220,7 @@ module _ (site : Site) (fit : IsFit site) (events : ℕ) (w : World) (good : IsG
           acts = λ r. r;
           table = λ r. refl;
           awaits = λ r awaits. absurd (calm-away _
-              (marked-calm (copy_of k pair).core.state (steady number pair k there role) at) awaits);
+              (checkpointed-calm (copy_of k pair).core.state (steady number pair k there role) at) awaits);
           waits = refl;
         }),
       )
@@ -241,7 +241,7 @@ module _ (site : Site) (fit : IsFit site) (events : ℕ) (w : World) (good : IsG
       )
 
       go : {next : Pair} {kept : List Act} {cause : Cause} {sendings : List Sending}
-          → Passes number w.marks w.kept pair cause sendings next kept
+          → Passes number w.downs w.kept pair cause sendings next kept
           → (k : Which) → Goes site number cause sendings pair k (copy_of k next)
       go {cause = cause} {sendings = sendings} (by_send k role at unsent unmarked) =
           each (Goes site number cause sendings pair) k (after_sending (copy_of k pair))

@@ -23,7 +23,8 @@ use Rattle.process_semantics.specs.State.{next_of, words_of}
 use Rattle.process_semantics.specs.declared.point.Point.TheVariants as point
 use Rattle.told_reports.specs.report_reader.specs.Telling.{has_sectors}
 use Rattle.whole_states.proofs.Awake.{awake-whole}
-use Rattle.whole_states.proofs.Calls.{answered-awake, asked-whole, got-awake, marked-awake, start-awake, took-awake}
+use Rattle.whole_states.proofs.Calls.{answered-awake, asked-whole, got-awake, checkpointed-awake, start-awake}
+use Rattle.whole_states.proofs.Calls.{took-awake}
 use Rattle.whole_states.proofs.Inner.{inner-awake}
 use Rattle.whole_states.specs.Whole.{IsWhole}
 use Rattle.told_reports.specs.Words.{AreWords}
@@ -148,7 +149,7 @@ marked-kept (kind.Disc sectors mirrored) (Serves count s) at is = is
 marked-kept (kind.Pair code) (Runs program s) at is = record {
   regular = is.regular;
   numbers = is.numbers;
-  whole = awake-whole (marked-awake program s at is.whole);
+  whole = awake-whole (checkpointed-awake program s at is.whole);
   words = done-words s is.words;
 }
 marked-kept (kind.Disc sectors mirrored) (Runs program s) at is = absurd is

@@ -12,7 +12,7 @@ use Rattle.node.specs.packet_wires.specs.Wires.{Wires, all_posted, cut_off}
 use Rattle.node.specs.event_parts.specs.Parts.{carried_out}
 use Rattle.node.specs.event_parts.proofs.Adds.{adds-all-posted}
 use Rattle.node.specs.event_parts.proofs.Turns.{carried-then}
-use Rattle.site_machine.specs.Needs.{AreWithin, MarksWithin}
+use Rattle.site_machine.specs.Needs.{AreWithin, DownsWithin}
 use Rattle.site_machine.specs.Told.{after_part, sent_all}
 
 pub marked-steps : (s marked cut after : Packeted) (node processor : ℕ) (sendings : List Sending) (done : Done)
@@ -44,7 +44,7 @@ mark-some node processor s done some =
 -- what a mark sends keeps to the layout, where a processor is to be marked
 pub marks-within : (node processor : ℕ) (t s : Packeted) → t ≡ s → (test : Bool)
     → down_done node processor t.world ≡ (if test then Some (world_at_down node processor t.world) else None)
-    → test ≡ true → MarksWithin s.site s.world
+    → test ≡ true → DownsWithin s.site s.world
     → AreWithin (world_at_down node processor s.world).world ((world_at_down node processor s.world).sendings
     ++ sent_again s.site s.world (world_at_down node processor s.world).world node processor)
 marks-within node processor t s same test tells is within =

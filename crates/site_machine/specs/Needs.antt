@@ -33,8 +33,8 @@ AreWithinIfAny w None = Unit {0}
 AreWithinIfAny w (Some sendings) = AreWithin w sendings
 
 -- and so does all that a mark sends, and what is sent again
-abbrev pub MarksWithin : Site → World → Type 0
-MarksWithin site w = (node processor : ℕ) (done : Done) → down_done node processor w ≡ Some done
+abbrev pub DownsWithin : Site → World → Type 0
+DownsWithin site w = (node processor : ℕ) (done : Done) → down_done node processor w ≡ Some done
     → AreWithin done.world (done.sendings ++ sent_again site w done.world node processor)
 
 -- whatever changes the world next, what that sends keeps to the layout. A line that is pulled stops its processor first
@@ -47,8 +47,8 @@ pub record SendsWithin (site : Site) (w : World) : Type 0 where
       → handed_done site node message w ≡ Some done → AreWithin done.world done.sendings
   pub changed : (node : ℕ) (change : ChangeMessage) (done : Done) → Fits site (Changing change)
       → change_done site node change w ≡ Some done → AreWithin done.world done.sendings
-  pub marked : MarksWithin site w
-  pub pulled : (processor : ℕ) (done : Done) → stop_done processor w ≡ Some done → MarksWithin site done.world
+  pub marked : DownsWithin site w
+  pub pulled : (processor : ℕ) (done : Done) → stop_done processor w ≡ Some done → DownsWithin site done.world
 
 -- a message that was read, if one was, keeps to the layout
 abbrev pub IsReadWithin : Option NodeMessage → Type 0

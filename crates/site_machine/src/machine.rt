@@ -222,10 +222,10 @@ impl Machine {
     }
 
     /// Which node has marked which processor.
-    pub fn marks(&self) -> &Downs
-        ensures { result.now ≡ self.now.state.world.marks }
+    pub fn downs(&self) -> &Downs
+        ensures { result.now ≡ self.now.state.world.downs }
     {
-        self.whole.world.marks()
+        self.whole.world.downs()
     }
 
     /// The processes in their places, both copies of each.

@@ -6,7 +6,7 @@ ghost use Rattle.node.specs.event_parts.specs.Parts.{carried_out};
 ghost use Rattle.node.specs.packet_wires.specs.Play.{after_marked, marks};
 ghost use Rattle.node.specs.packet_wires.specs.Wires.{cut_off};
 ghost use Rattle.open_links.specs.world_copies.specs.Room.{AllWatchersHaveRoom};
-ghost use Rattle.site_machine.specs.Needs.{AreWithin, MarksWithin};
+ghost use Rattle.site_machine.specs.Needs.{AreWithin, DownsWithin};
 ghost use Rattle.site_machine.specs.Told.{after_part};
 
 use crate::whole::MachineParts;
@@ -18,7 +18,7 @@ impl MachineParts {
     pub(crate) fn mark(&mut self, node: u8, processor: u8) -> Result<(), NoMemory>
         requires watching { AllWatchersHaveRoom self.old.world.processes }
         requires numbered { CanPush self.old.wires.nodes }
-        requires within { MarksWithin self.old.site self.old.world }
+        requires within { DownsWithin self.old.site self.old.world }
         ensures { OnOk result (self.new ≡ after_part (marks node processor) self.old) }
     {
         if self.world.is_to_mark(node, processor) {

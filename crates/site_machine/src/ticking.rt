@@ -6,7 +6,7 @@ ghost use Rattle.node.specs.machine_states.specs.States.{Settles};
 ghost use Rattle.node.specs.packet_wires.specs.Play.{ended, marks_and_declares, play, pulled, pulls};
 ghost use Rattle.node.specs.packet_wires.specs.Wires.{declares, ticked};
 ghost use Rattle.open_links.specs.world_copies.specs.Room.{AllWatchersHaveRoom};
-ghost use Rattle.site_machine.specs.Needs.{IsReady, MarksWithin};
+ghost use Rattle.site_machine.specs.Needs.{IsReady, DownsWithin};
 ghost use Rattle.site_machine.specs.Told.{after_part, in_tick};
 
 use crate::whole::MachineParts;
@@ -100,7 +100,7 @@ impl MachineParts {
     fn mark_and_declare(&mut self, node: u8, processor: u8) -> Result<(), NoMemory>
         requires watching { AllWatchersHaveRoom self.old.world.processes }
         requires numbered { CanPush self.old.wires.nodes }
-        requires within { MarksWithin self.old.site self.old.world }
+        requires within { DownsWithin self.old.site self.old.world }
         ensures { OnOk result (self.new ≡ after_part (marks_and_declares node processor) self.old) }
     {
         self.mark(node, processor)?;

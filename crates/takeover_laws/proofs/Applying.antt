@@ -13,7 +13,7 @@ use Rattle.process_semantics.specs.declared.point.Point.{Point}
 use Rattle.world_semantics.specs.checkpoint_image.specs.declared.message.ImageMessage.{ImageMessage}
 use Rattle.world_semantics.specs.checkpoint_image.specs.declared.message.TakenMessage.{TakenMessage}
 use Rattle.world_semantics.specs.declared.role.Role.TheVariants.{Watching}
-use Rattle.world_semantics.specs.Core.{Core, Deed, Checkpointed, marks, after_passing, carried, put_in}
+use Rattle.world_semantics.specs.Core.{Core, Deed, Checkpointed, checkpoints, after_passing, carried, put_in}
 use Rattle.world_semantics.specs.Core.{imaged_core}
 use Rattle.world_semantics.specs.declared.which.Which.TheVariants.{Second}
 use Rattle.world_semantics.specs.World.{Copy, Pair, receives}
@@ -40,7 +40,7 @@ use Rattle.takeover_laws.specs.Invariant.{IsDated, has_renewed, is_blank}
 use Rattle.takeover_laws.proofs.Repeating.{unmarked-join, short-join, repeatable-unmarked, held-unmarked, held-idle}
 use Rattle.takeover_laws.proofs.Repeating.{held-length, held-short, repeatable-join}
 use Rattle.takeover_laws.proofs.Settled.{IsSettled, settled-held}
-use Rattle.takeover_laws.proofs.Checkpoints.{away-imaged, mark-imaged}
+use Rattle.takeover_laws.proofs.Checkpoints.{away-imaged, checkpoint-imaged}
 use Rattle.takeover_laws.proofs.Checkpoints.{taken-most, taken-dated}
 use Rattle.takeover_laws.proofs.Passed.{HasPassed, same-ledger, kept-at, kept-count, applied-at, behind-at}
 
@@ -226,7 +226,7 @@ module _ (site : Site) (regular : AreRegular site) (kept : List Act) (shown : Li
             (own_acts number (kept_at_checkpoint number pair.first kept))
             (own_acts number (pair.first.held ++ kept)) [] g refl tt
             (kept-count site regular kept shown ledger number spec there booked pair.first more settled)
-            (rw now (one_more done (marks at)))) (sym g.same) g.was_sent g.told)
+            (rw now (one_more done (checkpoints at)))) (sym g.same) g.was_sent g.told)
             (now-dated pair message applied _ _ _ g.from g.dated);
       })
 
@@ -312,7 +312,7 @@ module _ (site : Site) (regular : AreRegular site) (kept : List Act) (shown : Li
           → process.point pair.first.core.state ≢ point.Await → applied ≡ imaged_core pair.first.core
           → Passed (kept_at number pair.first kept) (after_applying number Second message applied kept pair)
       which point.AtCheckpoint at g off got =
-          level-applied pair message applied held more g is holds done at (got ∙ mark-imaged pair.first.core at)
+          level-applied pair message applied held more g is holds done at (got ∙ checkpoint-imaged pair.first.core at)
       which point.Inner at g off got = level-renewed pair message applied held more g is holds done
           (λ e. (let b = sym at ∙ e in cc)) off (got ∙ away-imaged pair.first.core point.Inner at (λ e. cc))
       which point.Take at g off got = level-renewed pair message applied held more g is holds done
@@ -366,7 +366,8 @@ module _ (site : Site) (regular : AreRegular site) (kept : List Act) (shown : Li
       (has_applied (given-watches pair message applied [] (Checkpointed ∷ before)
       (pair.first.position + own_acts number (Step number ∷ [])) pair.first.position pair.first.held g split tt
       (let one = own-one number (Step number) [] (own-step number) in omega (arith, pos, one))
-      (rw (got ∙ mark-imaged pair.first.core at) (one_more done (marks at)))) (sym g.same) g.was_sent g.told)
+      (rw (got ∙ checkpoint-imaged pair.first.core at) (one_more done (checkpoints at)))) (sym g.same) g.was_sent
+      g.told)
       (now-dated pair message applied _ _ _ g.from g.dated)))
   applies-behind pair message applied few receiving sent era next put less
       (with_other role (is_behind since then before is split one all pos done is_sent) (is_blank b) dated) =

@@ -18,7 +18,7 @@ use Rattle.world_semantics.specs.disc_device.specs.Sectors.{Stored}
 use Rattle.world_semantics.specs.checkpoint_image.specs.Receive.{is_place}
 use Rattle.world_semantics.specs.checkpoint_image.specs.declared.receive.OpenerBlock.{OpenerBlock}
 use Rattle.world_semantics.specs.Core.{Core, Deed, Went, Checkpointed, Took, Asked, Got, Answered, Acted, Advances}
-use Rattle.world_semantics.specs.Core.{goes, marks, takes, asks, gets, answers, acts, next_on}
+use Rattle.world_semantics.specs.Core.{goes, checkpoints, takes, asks, gets, answers, acts, next_on}
 use Rattle.world_semantics.specs.Own.{found_on, is_new_write}
 use Rattle.world_semantics.proofs.Lists.{some-same}
 use Rattle.plain_histories.specs.process_histories.specs.Devices.{after_call, sectors_after, FoundWhatStood}
@@ -97,7 +97,7 @@ same-deed (gets {file = one} {words = said} at named) (gets {file = other} {word
     let file : one ≡ other = named ∙ sym named' in
     let all : said ≡ words = got one said words refl (ap (λ f. Got f words) (sym file)) in cc
 same-deed (takes block at there) (takes block' here there') again got did = absurd again
-same-deed (marks at) (marks here) again got did = absurd again
+same-deed (checkpoints at) (checkpoints here) again got did = absurd again
 same-deed (acts {call = one} {found = found} at is) (acts {call = other} {found = old} here same) again got did =
     let call : one ≡ other = is ∙ sym same in
     let all : found ≡ old = did one found old refl (ap (λ c. Acted c old) (sym call)) in cc
@@ -185,7 +185,7 @@ module _ (site : Site) (regular : AreRegular site) (number : ℕ) (spec : Proces
       → HasDone site number spec before core → Advances (openers_of site number) core deed next
       → IsSentBy site ledger number core deed
   sent-by ledger since before split done (goes at) = tt
-  sent-by ledger since before split done (marks at) = tt
+  sent-by ledger since before split done (checkpoints at) = tt
   sent-by ledger since before split done (takes block at known) = tt
   sent-by ledger since before split done (gets at named) = tt
   sent-by ledger since before split done (acts at is) = tt
@@ -212,7 +212,7 @@ module _ (site : Site) (regular : AreRegular site) (number : ℕ) (spec : Proces
       → HasDone site number spec (ledger.deeds number) core → Advances (openers_of site number) core deed next
       → IsNew ledger number spec deed
   new-call ledger done (goes at) = tt
-  new-call ledger done (marks at) = tt
+  new-call ledger done (checkpoints at) = tt
   new-call ledger done (takes block at known) = tt
   new-call ledger done (gets at named) = tt
   new-call ledger done (asks at named said) = tt
@@ -228,7 +228,7 @@ module _ (site : Site) (regular : AreRegular site) (number : ℕ) (spec : Proces
       → HasDone site number spec before core → Advances (openers_of site number) core deed next
       → ((c : DeviceCall) (found : List ℤ) → deed ≡ Acted c found → AreIdle since) → IsOld ledger number spec deed
   old-call ledger since before split done (goes at) idle = tt
-  old-call ledger since before split done (marks at) idle = tt
+  old-call ledger since before split done (checkpoints at) idle = tt
   old-call ledger since before split done (takes block at known) idle = tt
   old-call ledger since before split done (gets at named) idle = tt
   old-call ledger since before split done (asks at named said) idle = tt
@@ -261,7 +261,7 @@ module _ (site : Site) (regular : AreRegular site) (number : ℕ) (spec : Proces
         → Advances (openers_of site number) core deed next
         → IsBacked site ledger number spec core deed → IsAllowed site ledger number spec deed
     allowed-by done (goes at) back = tt
-    allowed-by done (marks at) back = tt
+    allowed-by done (checkpoints at) back = tt
     allowed-by done (asks at named said) back = tt
     allowed-by done (answers opener block at hand known stood said) back = tt
     allowed-by done (acts at is) back = back

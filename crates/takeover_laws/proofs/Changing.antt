@@ -41,9 +41,9 @@ causes-one (by_device stood) = refl
 causes-one (by_write new) = refl
 causes-one (by_reply among is last said) = refl
 
-pub passes-one : {number : ℕ} {marks : List Down} {kept after : List Act} {pair next : Pair} {cause : Cause}
+pub passes-one : {number : ℕ} {downs : List Down} {kept after : List Act} {pair next : Pair} {cause : Cause}
     {sendings : List Sending}
-    → Passes number marks kept pair cause sendings next after → acts_by cause ≡ 1
+    → Passes number downs kept pair cause sendings next after → acts_by cause ≡ 1
 passes-one (by_send k role at sent unmarked) = refl
 passes-one (by_pass_again k role at may less) = refl
 passes-one (by_pass k role at may most) = refl
@@ -88,9 +88,9 @@ kept-at-most number copy kept =
     rw (own-append number (acts_at number (point_at copy)) (copy.held ++ kept), own-append number copy.held kept)
     (omega (arith, held, step))
 
-pub passes-held : {number : ℕ} {marks : List Down} {kept after : List Act} {pair next : Pair} {cause : Cause}
+pub passes-held : {number : ℕ} {downs : List Down} {kept after : List Act} {pair next : Pair} {cause : Cause}
     {sendings : List Sending}
-    → Passes number marks kept pair cause sendings next after
+    → Passes number downs kept pair cause sendings next after
     → length next.first.held + length next.second.held + own_acts number after
     ≤ length pair.first.held + length pair.second.held + own_acts number kept + 1
 passes-held (by_send First role at sent unmarked) = omega arith
@@ -112,9 +112,9 @@ passes-held {number = n} {kept = kept} {pair = pair} (by_apply Second message ap
 passes-held (by_acknowledge First taken role sent among era is) = omega arith
 passes-held (by_acknowledge Second taken role sent among era is) = omega arith
 
-pub passes-sectors : {number : ℕ} {marks : List Down} {kept after : List Act} {pair next : Pair} {cause : Cause}
+pub passes-sectors : {number : ℕ} {downs : List Down} {kept after : List Act} {pair next : Pair} {cause : Cause}
     {sendings : List Sending}
-    → Passes number marks kept pair cause sendings next after → next.sectors ≡ pair.sectors
+    → Passes number downs kept pair cause sendings next after → next.sectors ≡ pair.sectors
 passes-sectors (by_send First role at sent unmarked) = refl
 passes-sectors (by_send Second role at sent unmarked) = refl
 passes-sectors (by_pass_again First role at may less) = refl
@@ -130,9 +130,9 @@ passes-sectors (by_apply Second message applied role sent era is put at) = refl
 passes-sectors (by_acknowledge First taken role sent among era is) = refl
 passes-sectors (by_acknowledge Second taken role sent among era is) = refl
 
-pub passes-waiting : {number : ℕ} {marks : List Down} {kept after : List Act} {pair next : Pair} {cause : Cause}
+pub passes-waiting : {number : ℕ} {downs : List Down} {kept after : List Act} {pair next : Pair} {cause : Cause}
     {sendings : List Sending}
-    → Passes number marks kept pair cause sendings next after → (k : Which)
+    → Passes number downs kept pair cause sendings next after → (k : Which)
     → (copy_of k next).waiting ≡ (copy_of k pair).waiting
 passes-waiting (by_send First role at sent unmarked) First = refl
 passes-waiting (by_send First role at sent unmarked) Second = refl

@@ -129,5 +129,6 @@ away-imaged core point.Device is away = rw is refl
 away-imaged core point.Ended is away = rw is refl
 
 -- and at one of that after it
-pub mark-imaged : (core : Core) → process.point core.state ≡ point.AtCheckpoint → imaged_core core ≡ after_passing core
-mark-imaged core is = rw is refl
+pub checkpoint-imaged : (core : Core) → process.point core.state ≡ point.AtCheckpoint → imaged_core core ≡
+    after_passing core
+checkpoint-imaged core is = rw is refl

@@ -134,9 +134,9 @@ module _ (site : Site) (fit : IsFit site) where
                     (λ t. (let is = eqb-true pair.first.processor processor t in
                     let off : pair.second.processor ≢ processor = λ e. apart (is ∙ sym e) in (
                       r.first_gone (rw is down),
-                      survivor w.stopped w.marks processor pair.second.processor pair.second.role down steady.one off
+                      survivor w.stopped w.downs processor pair.second.processor pair.second.role down steady.one off
                           two all
-                          (subst (λ p. Waits w.stopped w.marks pair.second.role pair.second.processor p) is
+                          (subst (λ p. Waits w.stopped w.downs pair.second.role pair.second.processor p) is
                           waits.second)
                           r.second_lost,
                       not-equal pair.second.processor processor off,
@@ -144,9 +144,9 @@ module _ (site : Site) (fit : IsFit site) where
                     (λ t. (let is = eqb-true pair.second.processor processor t in
                     let off : pair.first.processor ≢ processor = λ e. apart (e ∙ sym is) in (
                       r.second_gone (rw is down),
-                      survivor w.stopped w.marks processor pair.first.processor pair.first.role down steady.one off one
+                      survivor w.stopped w.downs processor pair.first.processor pair.first.role down steady.one off one
                           all
-                          (subst (λ p. Waits w.stopped w.marks pair.first.role pair.first.processor p) is waits.first)
+                          (subst (λ p. Waits w.stopped w.downs pair.first.role pair.first.processor p) is waits.first)
                           r.first_lost,
                       not-equal pair.first.processor processor off,
                     )))

@@ -11,7 +11,7 @@ use Rattle.world_semantics.specs.Kept.{acts_of}
 use Rattle.world_semantics.specs.Messages.{Sending, Cause}
 use Rattle.world_semantics.specs.Rules.{Change}
 use Rattle.world_semantics.specs.World.{World, boot}
-use Rattle.world_semantics.proofs.Growing.{AreStopped, change-marks}
+use Rattle.world_semantics.proofs.Growing.{AreStopped, change-downs}
 use Rattle.world_semantics.proofs.Roles.{AllRoles, change-roles, roles-begin}
 use Rattle.world_semantics.proofs.Steady.{IsSeated, IsSteady, change-seated, change-steady, seats-begin, steady-begins}
 use Rattle.plain_histories.proofs.Possible.{booked-ran}
@@ -65,18 +65,18 @@ module _ (site : Site) (fit : IsFit site) where
       → IsGood site (events + acts_by cause) next
   change-good events w next cause sendings few good change = record {
     roles = change-roles w next cause sendings change good.roles;
-    stopped = change-marks w next cause sendings change good.stopped;
+    stopped = change-downs w next cause sendings change good.stopped;
     steady = change-steady w next cause sendings good.stopped change good.steady;
     seated = change-seated w next cause sendings change good.seated;
     invariant = change-keeps site fit events w next cause sendings few good.roles good.stopped good.steady good.seated
         good.invariant change;
   }
 
-  marks-good : (events : ℕ) {node : ℕ} {w end : World} {sendings : List Sending} → events < 4294967295
+  downs-good : (events : ℕ) {node : ℕ} {w end : World} {sendings : List Sending} → events < 4294967295
       → IsGood site events w → NotesDowns site node w sendings end → IsGood site events end
-  marks-good events few good marks_none = good
-  marks-good events few good (marks_one {w = w} {next = next} processor change more) =
-      marks-good events few (more-good events (omega arith) (change-good events w next _ _ few good change)) more
+  downs-good events few good marks_none = good
+  downs-good events few good (marks_one {w = w} {next = next} processor change more) =
+      downs-good events few (more-good events (omega arith) (change-good events w next _ _ few good change)) more
 
   follows-good : (events : ℕ) {event : Event} (w next : World) (sendings : List Sending) → events < 4294967295
       → IsGood site events w → Follows site w event sendings next
@@ -95,9 +95,9 @@ module _ (site : Site) (fit : IsFit site) where
   follows-good events w next sendings few good turns_drive = more-good (events + 1) (omega arith) good
   follows-good events w next sendings few good ticks_none = more-good (events + 1) (omega arith) good
   follows-good events w next sendings few good (ticks running marked) =
-      more-good (events + 1) (omega arith) (marks-good events few good marked)
+      more-good (events + 1) (omega arith) (downs-good events few good marked)
   follows-good events w next sendings few good (ticks_stop {between = between} processor running other change marked) =
-      more-good (events + 1) (omega arith) (marks-good events few
+      more-good (events + 1) (omega arith) (downs-good events few
       (more-good events (omega arith) (change-good events w between _ _ few good change)) marked)
   follows-good events w next sendings few good (fails change) =
       more-good (events + 1) (omega arith) (change-good events w next _ _ few good change)

@@ -7,7 +7,7 @@ use Rattle.tal_tree.specs.declared.site.Site.{Site}
 use Rattle.tal_tree.specs.declared.site.ProcessSpec.{ProcessSpec}
 use Rattle.process_semantics.specs.declared.point.Point.TheVariants as point
 use Rattle.process_semantics.specs.Process as process
-use Rattle.world_semantics.specs.Core.{Core, Deed, Checkpointed, marks, after_passing}
+use Rattle.world_semantics.specs.Core.{Core, Deed, Checkpointed, checkpoints, after_passing}
 use Rattle.world_semantics.specs.World.{Copy, Pair}
 use Rattle.world_semantics.specs.Kept.{own_acts}
 use Rattle.world_semantics.specs.Passes.{kept_at_checkpoint}
@@ -49,7 +49,7 @@ module _ (site : Site) (regular : AreRegular site) (kept : List Act) (shown : Li
   kept-at copy held more is holds done at =
       rw is (settled-more site regular ledger number spec there (held ++ kept) shown more Checkpointed
       {after = after_passing copy.core}
-      (settled-held site regular ledger number spec there booked holds done) done (marks at) tt)
+      (settled-held site regular ledger number spec there booked holds done) done (checkpoints at) tt)
 
   pub kept-count : (copy : Copy) (more : List Deed)
       → IsSettled site (kept_at_checkpoint number copy kept) shown ledger number (Checkpointed ∷ more)

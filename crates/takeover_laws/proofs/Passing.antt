@@ -10,7 +10,7 @@ use Rattle.process_semantics.specs.declared.point.Point.TheVariants as point
 use Rattle.process_semantics.specs.Process as process
 use Rattle.world_semantics.specs.checkpoint_image.specs.declared.message.TakenMessage.{TakenMessage}
 use Rattle.world_semantics.specs.declared.role.Role.TheVariants.{Acting, Watching, Gone}
-use Rattle.world_semantics.specs.Core.{Deed, Checkpointed, marks, after_passing, carried_by}
+use Rattle.world_semantics.specs.Core.{Deed, Checkpointed, checkpoints, after_passing, carried_by}
 use Rattle.world_semantics.specs.declared.which.Which.TheVariants.{First, Second}
 use Rattle.world_semantics.specs.World.{Copy, Pair, Down, has_noted, may_pass, receives}
 use Rattle.world_semantics.specs.Kept.{own_acts}
@@ -64,7 +64,7 @@ module _ (site : Site) (regular : AreRegular site) (stopped : List Bool) (marked
   passed-lead copy more done at settled =
       is_level {more = []} refl none_held
       (kept-count site regular kept shown ledger number spec there booked copy more settled)
-      (one_more done (marks at)) (λ sent. absurd (cc))
+      (one_more done (checkpoints at)) (λ sent. absurd (cc))
 
   -- where the other copy watches, its processor isn't marked, so only an acknowledgement lets the first pass
   no-pass : (pair : Pair) → (slice_get stopped pair.second.processor ≡ Some true → pair.second.role ≡ Gone)
@@ -243,7 +243,8 @@ module _ (site : Site) (regular : AreRegular site) (stopped : List Bool) (marked
   passes-again pair lost at may less (with_other role (is_applied before is split pos done) other dated) =
       unchanged _ (with_other role
       (is_level {more = []} is none_held (let more = ap (length {A = Deed}) split in omega (arith, pos, more))
-      (subst (λ g. HasDone site number spec g (after_passing pair.first.core)) (sym split) (one_more done (marks at)))
+      (subst (λ g. HasDone site number spec g (after_passing pair.first.core)) (sym split)
+      (one_more done (checkpoints at)))
       (λ s. absurd (cc)))
       (by other) (dated-first pair _ refl dated))
     where

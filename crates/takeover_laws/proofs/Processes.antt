@@ -243,13 +243,13 @@ module _ (site : Site) (fit : IsFit site) where
   pub checkpoint-keeps : (events : ℕ) (w : World) (inv : Invariant site events w) (number : ℕ) (pair next : Pair)
       {cause : Cause} {sendings : List Sending} {kept : List Act} → events < 4294967295
       → AllRoles w → AreStopped w → slice_get w.processes number ≡ Some pair
-      → Passes number w.marks w.kept pair cause sendings next kept
+      → Passes number w.downs w.kept pair cause sendings next kept
       → Invariant site (events + 1) (record (with_pair number next w) { kept = kept })
   checkpoint-keeps events w inv number pair next {cause = cause} {sendings = sendings} {kept = kept} few roles stopped
       at passes =
       let was = inv.processes number pair at in
       let all = was.2.count in
-      let on = led-pass site fit.regular w.stopped w.marks w.kept w.shown inv.ledger number was.0
+      let on = led-pass site fit.regular w.stopped w.downs w.kept w.shown inv.ledger number was.0
       (fit.disciplined number was.0 was.1) was.1 inv.booked (booked-short fit.requests inv.booked)
       stopped pair next kept cause sendings (roles number pair at) (omega (arith, all, few)) was.2.led passes in
       let deeds : (with_deeds number on.deeds inv.ledger).deeds number ≡ on.deeds ++ inv.ledger.deeds number =

@@ -15,7 +15,7 @@ use Rattle.tal_table.specs.whole_states.specs.Whole.{IsWhole}
 use Rattle.tal_table.specs.whole_states.proofs.Calls.{took-awake}
 use Rattle.tal_table.specs.whole_states.proofs.Processes.{stays-whole, start-process, inner-process, got-process}
 use Rattle.tal_table.specs.whole_states.proofs.Processes.{answered-process}
-use Rattle.tal_table.specs.whole_states.proofs.Processes.{marked-process}
+use Rattle.tal_table.specs.whole_states.proofs.Processes.{checkpointed-process}
 use Rattle.tal_table.specs.process_images.proofs.Programs.{program-stood}
 use Rattle.tal_interp.specs.Sound.{IsLoadable, IsSound}
 use Rattle.tal_table.specs.process_images.proofs.FewFrames.{frames-few}
@@ -54,9 +54,10 @@ module _ (e : Execution) (sound : IsSound e) where
   answered-sound at = keeps _ (stays-whole (Runs e.program (after_answered e.state))
       (answered-process (Runs e.program e.state) at whole))
 
-  pub marked-sound : point_of e.program e.state ≡ AtCheckpoint → IsSound (record e { state = after_checkpoint e.state })
-  marked-sound at = keeps _ (stays-whole (Runs e.program (after_checkpoint e.state))
-      (marked-process (Runs e.program e.state) at whole))
+  pub checkpointed-sound : point_of e.program e.state ≡ AtCheckpoint → IsSound
+      (record e { state = after_checkpoint e.state })
+  checkpointed-sound at = keeps _ (stays-whole (Runs e.program (after_checkpoint e.state))
+      (checkpointed-process (Runs e.program e.state) at whole))
 
   pub few-frames : length e.state.frames ≤ length e.program.procedures
   few-frames = frames-few e.program sound.loaded.ordered e.state.frames sound.whole.frames

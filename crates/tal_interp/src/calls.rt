@@ -148,7 +148,7 @@ impl Interpreter {
         ensures state { self.new ≡ record self.old { state = after_answered self.old.state } }
     {
         let words = self.answer();
-        self.marked();
+        self.checkpointed();
         self.set_in_hand(false);
         words
     }
@@ -181,7 +181,7 @@ impl Interpreter {
     }
 
     /// The step at a checkpoint, which goes on.
-    pub(crate) fn marked(&mut self)
+    pub(crate) fn checkpointed(&mut self)
         ensures { self.new ≡ record self.old { state = after_checkpoint self.old.state } }
     {
         if let Some(node) = self.node() {

@@ -123,8 +123,8 @@ impl Behaviour for TalProcess {
         self.interpreter.table.everything()
     }
 
-    fn marked(&mut self) {
-        self.interpreter.marked();
+    fn checkpointed(&mut self) {
+        self.interpreter.checkpointed();
     }
 
     fn image(&self, alloc: Global, listed: &Listed) -> Result<List<i16>, NoMemory> {

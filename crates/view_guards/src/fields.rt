@@ -10,7 +10,7 @@ ghost use Rattle.tal_tree.specs.declared.statement.Statement.{Statement};
 ghost use Rattle.world_semantics.specs.declared.role.Role.TheVariants.{Acting, Watching};
 ghost use Rattle.world_semantics.specs.World.{World};
 ghost use Rattle.world_semantics.specs.Core.{Core, next_on};
-ghost use Rattle.machine_views.specs.Views.{awaited_view_at, awaited_view, copy_view, image_of_everything, marks_in};
+ghost use Rattle.machine_views.specs.Views.{awaited_view_at, awaited_view, copy_view, image_of_everything, downs_in};
 ghost use Rattle.machine_views.specs.Views.{sector_views, terminal_view, view_of};
 ghost use Rattle.machine_views.specs.site_machine.specs.Stopped.{stopped_from};
 ghost use Rattle.view_guards.specs.Copies.{acting, core_of, framed, watching};
@@ -81,7 +81,7 @@ pub fn a_terminal_is_told_field_by_field()
 pub fn a_world_is_told_part_by_part()
     ensures stopped { (w : World) → (view_of w).stopped ≡ stopped_from 0 w.stopped }
     ensures reloads { (w : World) → (view_of w).reloads ≡ w.reloads }
-    ensures down { (w : World) → (view_of w).down ≡ marks_in w.marks }
+    ensures down { (w : World) → (view_of w).down ≡ downs_in w.downs }
     ensures terminals { (w : World) → (view_of
         (record w {
           terminals = record { entered = 5; printed = 4 } ∷ record { entered = 0; printed = 0 }

@@ -84,6 +84,7 @@ pub answered-awake : (program : Program) (s : ProgramState) → point_of program
     → IsAwake program (after_answered s)
 answered-awake program s at is = hand-awake false (done-awake (awake-at program s point.Answer at (λ same. cc) is))
 
-pub marked-awake : (program : Program) (s : ProgramState) → point_of program s ≡ point.AtCheckpoint → IsWhole program s
+pub checkpointed-awake : (program : Program) (s : ProgramState) → point_of program s ≡ point.AtCheckpoint → IsWhole
+    program s
     → IsAwake program (after_checkpoint s)
-marked-awake program s at is = done-awake (awake-at program s point.AtCheckpoint at (λ same. cc) is)
+checkpointed-awake program s at is = done-awake (awake-at program s point.AtCheckpoint at (λ same. cc) is)

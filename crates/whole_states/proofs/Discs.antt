@@ -33,13 +33,18 @@ took-disc {s} words at few is = record {
   number = is.number;
 }
 
-mark-device : (request reply : Option (List ℤ)) → IsDiscAt AtCheckpoint request reply → IsDiscAt Device request reply
-mark-device None reply fits = absurd fits
-mark-device (Some request) None fits = fits
-mark-device (Some request) (Some reply) fits = absurd fits
+checkpoint-device : (request reply : Option (List ℤ)) → IsDiscAt AtCheckpoint request reply → IsDiscAt Device request
+    reply
+checkpoint-device None reply fits = absurd fits
+checkpoint-device (Some request) None fits = fits
+checkpoint-device (Some request) (Some reply) fits = absurd fits
 
-pub marked-disc : {s : DiscState} → s.label ≡ AtCheckpoint → IsWholeDisc s → IsWholeDisc (disc_checkpointed s)
-marked-disc {s} at is = record { fits = mark-device s.request s.reply (disc-at AtCheckpoint at is); number = is.number }
+pub checkpointed-disc : {s : DiscState} → s.label ≡ AtCheckpoint → IsWholeDisc s → IsWholeDisc (disc_checkpointed s)
+checkpointed-disc {s} at is = record {
+  fits = checkpoint-device s.request s.reply (disc-at AtCheckpoint at is);
+  number
+      = is.number;
+}
 
 pub answered-disc : {s : DiscState} → IsWholeDisc s → IsWholeDisc (disc_answered s)
 answered-disc is = record { fits = tt; number = is.number }

@@ -14,8 +14,9 @@ use Rattle.process_semantics.specs.declared.point.Point.TheVariants as point
 use Rattle.whole_states.specs.Listing.{MayList, files_of}
 use Rattle.whole_states.specs.Processes.{IsRegularKind, IsWholeDisc, IsWholeProcess}
 use Rattle.whole_states.proofs.Awake.{IsAwake, awake-whole, awake-away, waits-at}
-use Rattle.whole_states.proofs.Calls.{start-awake, took-awake, asked-whole, got-awake, answered-awake, marked-awake}
-use Rattle.whole_states.proofs.Discs.{disc-at, start-disc, took-disc, marked-disc, device-disc, answered-disc}
+use Rattle.whole_states.proofs.Calls.{start-awake, took-awake, asked-whole, got-awake, answered-awake}
+use Rattle.whole_states.proofs.Calls.{checkpointed-awake}
+use Rattle.whole_states.proofs.Discs.{disc-at, start-disc, took-disc, checkpointed-disc, device-disc, answered-disc}
 use Rattle.whole_states.proofs.Inner.{inner-awake}
 use Rattle.whole_states.proofs.Named.{frames-listed, file-there, asked-there}
 
@@ -72,10 +73,10 @@ pub answered-process : (s : ProcessState) → process.point s ≡ point.Answer �
 answered-process (Runs program s) at is = (is.0, answered-awake program s at is.1)
 answered-process (Serves sectors s) at is = answered-disc is
 
-pub marked-process : (s : ProcessState) → process.point s ≡ point.AtCheckpoint → IsWholeProcess s
+pub checkpointed-process : (s : ProcessState) → process.point s ≡ point.AtCheckpoint → IsWholeProcess s
     → IsAwakeProcess (process.after_checkpoint s)
-marked-process (Runs program s) at is = (is.0, marked-awake program s at is.1)
-marked-process (Serves sectors s) at is = marked-disc at is
+checkpointed-process (Runs program s) at is = (is.0, checkpointed-awake program s at is.1)
+checkpointed-process (Serves sectors s) at is = checkpointed-disc at is
 
 pub device-process : (s : ProcessState) (found : List ℤ) → process.point s ≡ point.Device → length found ≤ 8
     → ((sectors : ℕ) (disc : DiscState) → s ≡ Serves sectors disc → HasNext disc.last_write) → IsWholeProcess s

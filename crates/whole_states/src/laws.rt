@@ -24,7 +24,7 @@ pub fn states_stay_whole()
     ensures got { (s : ProcessState) (words : List ℤ) → point s ≡ Await → IsWholeProcess s
         → IsWholeProcess (after_got s words) }
     ensures answered { (s : ProcessState) → point s ≡ Answer → IsWholeProcess s → IsWholeProcess (after_answered s) }
-    ensures marked { (s : ProcessState) → point s ≡ AtCheckpoint → IsWholeProcess s
+    ensures checkpointed { (s : ProcessState) → point s ≡ AtCheckpoint → IsWholeProcess s
         → IsWholeProcess (after_checkpoint s) }
     ensures device { (s : ProcessState) (found : List ℤ) → point s ≡ Device → length found ≤ 8
         → ((sectors : ℕ) (disc : DiscState) → s ≡ Serves sectors disc → HasNext disc.last_write) → IsWholeProcess s
@@ -41,7 +41,7 @@ pub fn hands_are_known()
     ensures inner { (s : ProcessState) → in_hand (after_inner s) ≡ in_hand s }
     ensures asked { (s : ProcessState) → in_hand (after_asked s) ≡ in_hand s }
     ensures got { (s : ProcessState) (words : List ℤ) → in_hand (after_got s words) ≡ in_hand s }
-    ensures marked { (s : ProcessState) → in_hand (after_checkpoint s) ≡ in_hand s }
+    ensures checkpointed { (s : ProcessState) → in_hand (after_checkpoint s) ≡ in_hand s }
     ensures device { (s : ProcessState) (found : List ℤ) → in_hand (after_device s found) ≡ in_hand s }
 {}
 
@@ -54,7 +54,7 @@ pub fn only_asking_awaits()
     ensures got { (s : ProcessState) (words : List ℤ) → IsWholeProcess s → point s ≡ Await
         → point (after_got s words) ≡ Await → ⊥ }
     ensures answered { (s : ProcessState) → IsWholeProcess s → point s ≡ Answer → point (after_answered s) ≡ Await → ⊥ }
-    ensures marked { (s : ProcessState) → IsWholeProcess s → point s ≡ AtCheckpoint
+    ensures checkpointed { (s : ProcessState) → IsWholeProcess s → point s ≡ AtCheckpoint
         → point (after_checkpoint s) ≡ Await → ⊥ }
     ensures device { (s : ProcessState) (found : List ℤ) → point s ≡ Device → point (after_device s found) ≡ Await → ⊥ }
 {}

@@ -26,11 +26,11 @@ some-map f (Some x) = refl
 pub runs-found : (site : Site) (places : List Placed) (w : World) (k : ℕ) (before : Placed)
     → w.processes ≡ pairs_in places
     → slice_get places k ≡ Some before → before.site ≡ site → before.number ≡ k
-    → is_some (run_done site k w) ≡ is_some (step_of before.site before.number before.pair w.marks (records_of w))
+    → is_some (run_done site k w) ≡ is_some (step_of before.site before.number before.pair w.downs (records_of w))
 runs-found site places w k before pairs there same_site same_number =
     ap (λ pair. is_some (run_pair site k w pair))
     (ap (λ pairs. slice_get pairs k) pairs ∙ pair-at places k
     ∙ ap (option_map (λ (placed : Placed). placed.pair)) there)
-    ∙ some-map (in_world k w) (step_of site k before.pair w.marks (records_of w))
-    ∙ ap₂ (λ at number. is_some (step_of at number before.pair w.marks (records_of w))) (sym same_site)
+    ∙ some-map (in_world k w) (step_of site k before.pair w.downs (records_of w))
+    ∙ ap₂ (λ at number. is_some (step_of at number before.pair w.downs (records_of w))) (sym same_site)
     (sym same_number)

@@ -30,7 +30,7 @@ pair-there {places = places} {k = k} found =
 
 -- the change where it runs
 abbrev pub step_where_run : SiteWorld → Placed → Option Stepped
-step_where_run s before = step_of before.site before.number before.pair s.world.marks (records_of s.world)
+step_where_run s before = step_of before.site before.number before.pair s.world.downs (records_of s.world)
 
 -- the change where a message comes to it
 abbrev pub step_where_told : SiteWorld → ℕ → Placed → Message → Option Stepped
@@ -41,7 +41,7 @@ pub run-found : {s : SiteWorld} {places : List Placed} {k : ℕ} {before : Place
 run-found {s} {places} {k} {before} found =
     ap (run_pair s.site k s.world) (pair-there found)
     ∙ ap₂ (λ site number. option_map (in_world k s.world)
-    (step_of site number before.pair s.world.marks (records_of s.world)))
+    (step_of site number before.pair s.world.downs (records_of s.world)))
     (sym found.site) (sym found.number)
 
 pub told-found : {s : SiteWorld} {places : List Placed} {k : ℕ} {before : Placed} (node : ℕ) (message : Message)

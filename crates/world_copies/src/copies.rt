@@ -26,7 +26,7 @@ pub struct WorldCopies {
     pub(crate) places: List<Option<Address>>,
     pub(crate) stopped: Processors,
     pub(crate) reloads: ReloadCounts,
-    pub(crate) marks: Downs,
+    pub(crate) downs: Downs,
     pub(crate) processes: Vec<ProcessCopies>,
     pub(crate) terminals: Vec<Terminal>,
     pub(crate) records: Records,
@@ -49,7 +49,7 @@ impl Model for WorldCopies {
       world = record {
         stopped = m.stopped;
         reloads = m.reloads;
-        marks = m.marks;
+        downs = m.downs;
         requests = m.records.requests;
         replies = m.records.replies;
         processes = pairs_in m.processes.items;
@@ -109,17 +109,17 @@ impl WorldCopies {
     }
 
     /// Which node has marked which processor.
-    pub fn marks(&self) -> &Downs
-        ensures { result.now ≡ self.now.world.marks }
+    pub fn downs(&self) -> &Downs
+        ensures { result.now ≡ self.now.world.downs }
     {
-        &self.marks
+        &self.downs
     }
 
     /// Whether a node has marked a processor.
     pub fn has_marked(&self, node: u8, processor: u8) -> bool
-        ensures { result ≡ has_noted self.now.world.marks node processor }
+        ensures { result ≡ has_noted self.now.world.downs node processor }
     {
-        self.marks.has(node, processor)
+        self.downs.has(node, processor)
     }
 
     /// The processes in their places, both copies of each.

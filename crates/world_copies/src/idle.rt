@@ -69,7 +69,7 @@ impl WorldCopies {
         if number >= self.processes.len() {
             return false;
         }
-        self.processes[number].can_run(&self.marks)
+        self.processes[number].can_run(&self.downs)
     }
 
     /// Whether no copy that acts waits at a checkpoint.
@@ -129,7 +129,7 @@ impl WorldCopies {
         if processor >= self.stopped.len() {
             return true;
         }
-        !self.stopped.as_slice()[processor] || self.marks.has_at(node, processor)
+        !self.stopped.as_slice()[processor] || self.downs.has_at(node, processor)
     }
 }
 

@@ -31,7 +31,7 @@ impl WorldCopies {
     fn may_mark(&self, node: u8, processor: u8) -> bool
         ensures { result ≡ may_note node processor self.now.world }
     {
-        self.is_running(node) && !self.marks.has(node, processor)
+        self.is_running(node) && !self.downs.has(node, processor)
     }
 
     /// A node marks a processor that has stopped. The answer is what takes over tells again, and what the node sends
@@ -74,10 +74,10 @@ impl WorldCopies {
 
     fn note_mark(&mut self, node: u8, processor: u8) -> Result<(), NoMemory>
         ensures { OnOk result (self.new ≡ record self.old {
-          world = record self.old.world { marks = record { node = node; down = processor } ∷ self.old.world.marks };
+          world = record self.old.world { downs = record { node = node; down = processor } ∷ self.old.world.downs };
         }) }
     {
-        self.marks.add(node, processor)?;
+        self.downs.add(node, processor)?;
         Ok(())
     }
 }

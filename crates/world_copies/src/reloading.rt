@@ -5,7 +5,7 @@ ghost use Rattle.process_copies.specs.computed_changes.specs.Stopped.{reloaded_w
 ghost use Rattle.process_copies.specs.number_ranges.specs.HasRoom.{WorldHasRoom};
 ghost use Rattle.process_copies.specs.Reloading.{blanks_of, placed_reloaded};
 ghost use Rattle.process_copies.specs.Starting.{IsStartable};
-ghost use Rattle.world_semantics.specs.Rules.{most_reloads, reloaded_from, without_marks};
+ghost use Rattle.world_semantics.specs.Rules.{most_reloads, reloaded_from, without_downs};
 ghost use Rattle.world_semantics.specs.World.{is_noted_by_all, noted_from};
 ghost use Rattle.world_copies.specs.Room.{AllHaveRoom};
 ghost use Rattle.world_copies.specs.Seen.{ArePlaced, pairs_in};
@@ -116,31 +116,31 @@ impl WorldCopies {
           world = record self.old.world {
             stopped = slice_set self.old.world.stopped processor false;
             reloads = slice_set self.old.world.reloads processor times;
-            marks = without_marks processor self.old.world.marks;
+            downs = without_downs processor self.old.world.downs;
           };
         } }
     {
         self.stopped.reload(processor);
         self.reloads.set(processor, times);
-        self.marks.remove(processor);
+        self.downs.remove(processor);
     }
 
     /// Whether each node that runs has marked a processor.
     fn is_noted_by_all(&self, processor: u8) -> bool
         ensures { result ≡ is_noted_by_all self.now.world processor }
     {
-        have_noted(&self.marks, processor, self.stopped.as_slice())
-            && (!self.is_running(TERMINAL_NODE) || self.marks.has(TERMINAL_NODE, processor))
+        have_noted(&self.downs, processor, self.stopped.as_slice())
+            && (!self.is_running(TERMINAL_NODE) || self.downs.has(TERMINAL_NODE, processor))
     }
 }
 
 /// Whether each of these processors that runs has marked a processor.
-fn have_noted(marks: &Downs, processor: u8, stopped: &[bool]) -> bool
-    ensures { result ≡ noted_from marks.now processor 0 stopped.now }
+fn have_noted(downs: &Downs, processor: u8, stopped: &[bool]) -> bool
+    ensures { result ≡ noted_from downs.now processor 0 stopped.now }
 {
     let down = usize::from(processor);
     for (node, has_stopped) in stopped.iter().enumerate() {
-        if !*has_stopped && !marks.has_at(node, down) {
+        if !*has_stopped && !downs.has_at(node, down) {
             return false;
         }
     }

@@ -11,12 +11,12 @@ use tal_tree::Who;
 use world_semantics::Which;
 
 /// The processor to which a node sends what is for a process, by its marks.
-fn route_of(marks: &Downs, node: u8, process: &ProcessCopies) -> u8
-    ensures { result ≡ route_of marks.now node process.now.pair }
+fn route_of(downs: &Downs, node: u8, process: &ProcessCopies) -> u8
+    ensures { result ≡ route_of downs.now node process.now.pair }
 {
     let led = process.led();
     let processor = process.processor(led);
-    if marks.has(node, processor) {
+    if downs.has(node, processor) {
         process.processor(other_of(led))
     } else {
         processor
@@ -76,7 +76,7 @@ impl WorldCopies {
         if place >= self.processes.len() {
             return None;
         }
-        Some(route_of(&self.marks, node, &self.processes[place]))
+        Some(route_of(&self.downs, node, &self.processes[place]))
     }
 
     /// The processor of the other copy of a process, seen from the node of one of them.

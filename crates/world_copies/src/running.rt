@@ -21,7 +21,7 @@ impl WorldCopies {
         if place >= self.processes.len() {
             return Ok(StepOutcome::Impossible);
         }
-        let step = self.processes[place].run(self.alloc, &self.marks, &mut self.records)?;
+        let step = self.processes[place].run(self.alloc, &self.downs, &mut self.records)?;
         Ok(step)
     }
 }

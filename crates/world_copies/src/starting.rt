@@ -38,7 +38,7 @@ impl WorldCopies {
             places,
             stopped,
             reloads,
-            marks: Downs::new(alloc),
+            downs: Downs::new(alloc),
             processes,
             terminals,
             records,

@@ -139,7 +139,7 @@ own-copies Second pair r c a e fr Second = acts r c a e fr
 
 passes-copies : {site : Site} {w : World} {number : ℕ} {kept : List Act} {pair next : Pair} {cause : Cause}
     {sendings : List Sending}
-    → Passes number w.marks w.kept pair cause sendings next kept → BothBecome site w number pair cause next
+    → Passes number w.downs w.kept pair cause sendings next kept → BothBecome site w number pair cause next
 passes-copies (by_send First r p s m) First = sends r p (inl refl)
 passes-copies (by_send First r p s m) Second = stays
 passes-copies (by_send Second r p s m) First = stays

@@ -67,17 +67,17 @@ SeenFromSecond pair =
     Seen pair.second.role pair.second.era pair.second.number pair.second.sent pair.second.acknowledged pair.first.role
     pair.first.era pair.first.number pair.checkpoints pair.takens
 
-told-to-pass : (marks : List Down) (stopped : List Bool) (pair : Pair)
-    → ((mark : Down) → IsAmong mark marks → slice_get stopped mark.down ≡ Some true)
-    → RolesOf stopped pair → receives pair.second.role ≡ true → may_pass marks First pair ≡ true
+told-to-pass : (downs : List Down) (stopped : List Bool) (pair : Pair)
+    → ((mark : Down) → IsAmong mark downs → slice_get stopped mark.down ≡ Some true)
+    → RolesOf stopped pair → receives pair.second.role ≡ true → may_pass downs First pair ≡ true
     → pair.first.acknowledged ≡ true
-told-to-pass marks stopped pair are roles watches may = by-test pair.first.acknowledged refl may
+told-to-pass downs stopped pair are roles watches may = by-test pair.first.acknowledged refl may
   where
     by-test : (told : Bool) → pair.first.acknowledged ≡ told
-        → (told || has_noted marks pair.first.processor pair.second.processor) ≡ true → told ≡ true
+        → (told || has_noted downs pair.first.processor pair.second.processor) ≡ true → told ≡ true
     by-test true t m = refl
     by-test false t m = let gone = roles.second_gone
-        (marked-down stopped marks pair.first.processor pair.second.processor are m) in absurd (cc)
+        (marked-down stopped downs pair.first.processor pair.second.processor are m) in absurd (cc)
 
 sent-one-more : {era number : ℕ} {told : Bool} {other taken : ℕ} {checkpoints : List ImageMessage}
     {takens : List TakenMessage} (new : ImageMessage)
@@ -177,10 +177,10 @@ dated-taken {era = era} {takens = takens} new now d =
 acting-not : {role : Role} → role ≡ Acting → receives role ≡ true → ⊥
 acting-not a r = cc
 
-pub passes-behind : {number : ℕ} {marks : List Down} {kept after : List Act} {pair next : Pair} {cause : Cause}
+pub passes-behind : {number : ℕ} {downs : List Down} {kept after : List Act} {pair next : Pair} {cause : Cause}
     {sendings : List Sending} (stopped : List Bool)
-    → ((mark : Down) → IsAmong mark marks → slice_get stopped mark.down ≡ Some true) → RolesOf stopped pair
-    → Passes number marks kept pair cause sendings next after → SeenFromFirst pair → SeenFromFirst next
+    → ((mark : Down) → IsAmong mark downs → slice_get stopped mark.down ≡ Some true) → RolesOf stopped pair
+    → Passes number downs kept pair cause sendings next after → SeenFromFirst pair → SeenFromFirst next
 passes-behind {pair = pair} stopped are roles (by_send First r p s m) ok = record {
   behind = λ w. sent-one-more _ refl
       (subst (λ sent. Behind pair.first.era pair.first.number sent pair.first.acknowledged pair.second.era
@@ -195,24 +195,24 @@ passes-behind {pair = pair} stopped are roles (by_send Second r p s m) ok = reco
   receiving = λ w. absurd (acting-not r w);
   one = ok.one;
 }
-passes-behind {marks = marks} {pair = pair} stopped are roles (by_pass_again First r p m l) ok = record {
-  behind = λ w. passed (told-to-pass marks stopped pair are roles w m) (ok.behind w);
+passes-behind {downs = downs} {pair = pair} stopped are roles (by_pass_again First r p m l) ok = record {
+  behind = λ w. passed (told-to-pass downs stopped pair are roles w m) (ok.behind w);
   acting = ok.acting;
   receiving = ok.receiving;
   one = ok.one;
 }
 passes-behind stopped are roles (by_pass_again Second r p m l) ok =
     record { behind = λ w. absurd (acting-not r w); acting = ok.acting; receiving = ok.receiving; one = ok.one }
-passes-behind {marks = marks} {pair = pair} stopped are roles (by_pass First r p m l) ok = record {
-  behind = λ w. passed (told-to-pass marks stopped pair are roles w m) (ok.behind w);
+passes-behind {downs = downs} {pair = pair} stopped are roles (by_pass First r p m l) ok = record {
+  behind = λ w. passed (told-to-pass downs stopped pair are roles w m) (ok.behind w);
   acting = ok.acting;
   receiving = ok.receiving;
   one = ok.one;
 }
 passes-behind stopped are roles (by_pass Second r p m l) ok =
     record { behind = λ w. absurd (acting-not r w); acting = ok.acting; receiving = ok.receiving; one = ok.one }
-passes-behind {marks = marks} {pair = pair} stopped are roles (by_end First r s p m) ok = record {
-  behind = λ w. passed (told-to-pass marks stopped pair are roles w m) (ok.behind w);
+passes-behind {downs = downs} {pair = pair} stopped are roles (by_end First r s p m) ok = record {
+  behind = λ w. passed (told-to-pass downs stopped pair are roles w m) (ok.behind w);
   acting = ok.acting;
   receiving = ok.receiving;
   one = ok.one;

@@ -43,7 +43,7 @@ own-sent w message same e (by_reply {reply = reply} i o n u) = rw (sym (same-han
 passes-sent : {number at : ℕ} {kept after : List Act} {pair next : Pair} {cause : Cause} {sendings : List Sending}
     (w : World) (message : Message)
     → slice_get w.processes number ≡ Some pair → cause ≡ Handing at message
-    → Passes number w.marks kept pair cause sendings next after → WasSent w message
+    → Passes number w.downs kept pair cause sendings next after → WasSent w message
 passes-sent w message there e (by_send k role p s m) = absurd (cc)
 passes-sent w message there e (by_pass_again k role p m l) = absurd (cc)
 passes-sent w message there e (by_pass k role p m l) = absurd (cc)
@@ -135,9 +135,9 @@ own-node e (by_device n) = absurd (cc)
 own-node e (by_write n) = absurd (cc)
 own-node e (by_reply i o n u) = (same-handing e).0
 
-passes-node : {number at : ℕ} {marks : List Down} {kept after : List Act} {pair next : Pair} {cause : Cause}
+passes-node : {number at : ℕ} {downs : List Down} {kept after : List Act} {pair next : Pair} {cause : Cause}
     {sendings : List Sending} {message : Message} (stopped : List Bool)
-    → RolesOf stopped pair → cause ≡ Handing at message → Passes number marks kept pair cause sendings next after
+    → RolesOf stopped pair → cause ≡ Handing at message → Passes number downs kept pair cause sendings next after
     → slice_get stopped at ≡ Some true → ⊥
 passes-node stopped ok e (by_send k role p s m) stop = cc
 passes-node stopped ok e (by_pass_again k role p m l) stop = cc

@@ -331,9 +331,9 @@ not-asking (by_device n) e = cc
 not-asking (by_write n) e = cc
 not-asking (by_reply i o n u) e = cc
 
-passes-no-request : {number at : ℕ} {marks : List Down} {kept after : List Act} {pair next : Pair} {cause : Cause}
+passes-no-request : {number at : ℕ} {downs : List Down} {kept after : List Act} {pair next : Pair} {cause : Cause}
     {sendings : List Sending} {request : Request}
-    → Passes number marks kept pair cause sendings next after → cause ≡ Handing at (Asking request) → ⊥
+    → Passes number downs kept pair cause sendings next after → cause ≡ Handing at (Asking request) → ⊥
 passes-no-request (by_send k r p s m) e = cc
 passes-no-request (by_pass_again k r p m l) e = cc
 passes-no-request (by_pass k r p m l) e = cc

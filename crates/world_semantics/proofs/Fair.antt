@@ -37,7 +37,7 @@ use Rattle.world_semantics.proofs.Runs.{holds-on}
 use Rattle.world_semantics.proofs.Waiting.{chosen-rest, waits-all}
 use Rattle.world_semantics.proofs.Growing.{causes-grow}
 use Rattle.world_semantics.proofs.Hands.{Stands, start-free, start-hand, take-hand, took-stands, inner-stands}
-use Rattle.world_semantics.proofs.Hands.{asked-stands, got-stands, answered-stands, mark-stands, device-stands}
+use Rattle.world_semantics.proofs.Hands.{asked-stands, got-stands, answered-stands, checkpoint-stands, device-stands}
 use Rattle.world_semantics.proofs.Hands.{restored-stands, map-some}
 use Rattle.world_semantics.proofs.KeptReplies.{KeptSent, kept-more, kept-begin, kept-nothing, kept-taking}
 use Rattle.world_semantics.proofs.KeptReplies.{kept-answering}
@@ -195,7 +195,7 @@ passed-fair : (number : ℕ) (replies : List Reply) (core : Core) (waiting : Lis
     → FairCopy number replies (after_passing core) waiting
 passed-fair number replies core waiting ok =
     record {
-      core = record { stands = mark-stands core.state _ ok.core.stands; kept = ok.core.kept };
+      core = record { stands = checkpoint-stands core.state _ ok.core.stands; kept = ok.core.kept };
       waiting = ok.waiting;
     }
 
@@ -208,9 +208,9 @@ sent-kept number replies new sent k ok message (inl same) =
     subst (λ (m : ImageMessage). KeptSent number replies m.image.receive) (sym same) k
 sent-kept number replies new sent k ok message (inr j) = ok message j
 
-passes-fair : {number : ℕ} {marks : List Down} {kept after : List Act} {pair next : Pair} {cause : Cause}
+passes-fair : {number : ℕ} {downs : List Down} {kept after : List Act} {pair next : Pair} {cause : Cause}
     {sendings : List Sending} (replies : List Reply)
-    → Passes number marks kept pair cause sendings next after → FairPair number replies pair
+    → Passes number downs kept pair cause sendings next after → FairPair number replies pair
     → FairPair number replies next
 passes-fair {number = n} {pair = p} replies (by_send First r t s m) ok =
     record {

@@ -14,7 +14,7 @@ use Rattle.world_semantics.specs.Own.{by_reply}
 use Rattle.world_semantics.specs.Passes.{Passes, by_send, by_pass_again, by_pass, by_apply, by_acknowledge}
 use Rattle.world_semantics.specs.Passes.{by_apply_behind, by_end, point_at}
 use Rattle.world_semantics.specs.Rules.{Change, by_own, by_checkpoint, by_request, by_early_request, by_enter, by_print}
-use Rattle.world_semantics.specs.Rules.{by_stop, by_mark, by_reload, without_marks}
+use Rattle.world_semantics.specs.Rules.{by_stop, by_mark, by_reload, without_downs}
 use Rattle.world_semantics.specs.Laws.{HasGrown}
 use Rattle.world_semantics.proofs.Lists.{grown-none, grown-one, grown-more, grown-by, grown-both}
 use Rattle.world_semantics.proofs.Runs.{IsKept}
@@ -70,9 +70,9 @@ enters-grows {kept = kept} (repeats e l) = grown-none kept
 enters-grows {kept = kept} (begins e l t) = grown-none kept
 enters-grows {act = act} {kept = kept} (keeps e l t) = grown-one act kept
 
-pub passes-grow : {number : ℕ} {marks : List Down} {kept after : List Act} {pair next : Pair} {cause : Cause}
+pub passes-grow : {number : ℕ} {downs : List Down} {kept after : List Act} {pair next : Pair} {cause : Cause}
     {sendings : List Sending}
-    → Passes number marks kept pair cause sendings next after → HasGrown kept after
+    → Passes number downs kept pair cause sendings next after → HasGrown kept after
 passes-grow {kept = kept} (by_send k r p s m) = grown-none kept
 passes-grow {kept = kept} (by_pass_again k r p m l) = grown-none kept
 passes-grow {kept = kept} (by_pass k r p m l) = grown-more _ _ kept
@@ -154,30 +154,30 @@ runs-again (s ∷ stopped) zero (suc processor) n = refl
 runs-again (s ∷ stopped) (suc x) zero n = refl
 runs-again (s ∷ stopped) (suc x) (suc processor) n = runs-again stopped x processor (λ same. n (ap suc same))
 
-pub marks-left : (x : ℕ) (marks : List Down) (m : Down) → IsAmong m (without_marks x marks)
-    → IsAmong m marks × (m.down ≡ x → ⊥)
-marks-left x marks m i =
-    let both = among-filter m (λ mark. not (mark.down == x)) marks i in
+pub downs-left : (x : ℕ) (downs : List Down) (m : Down) → IsAmong m (without_downs x downs)
+    → IsAmong m downs × (m.down ≡ x → ⊥)
+downs-left x downs m i =
+    let both = among-filter m (λ mark. not (mark.down == x)) downs i in
     (both.0, λ same. (let t : (m.down == x) ≡ true = eq-eqb m.down x same in let f = both.1 in cc))
 
 -- only processors that have stopped are marked
 abbrev pub AreStopped : World → Type 0
-AreStopped w = (m : Down) → IsAmong m w.marks → slice_get w.stopped m.down ≡ Some true
+AreStopped w = (m : Down) → IsAmong m w.downs → slice_get w.stopped m.down ≡ Some true
 
-pub change-marks : {site : Site} (w next : World) (cause : Cause) (sendings : List Sending)
+pub change-downs : {site : Site} (w next : World) (cause : Cause) (sendings : List Sending)
     → Change site w cause sendings next → AreStopped w → AreStopped next
-change-marks w next cause sendings (by_own number k pair there acts c a e f) ok = ok
-change-marks w next cause sendings (by_checkpoint number pair there p) ok = ok
-change-marks w next cause sendings (by_request request k pair i there r) ok = ok
-change-marks w next cause sendings (by_early_request request k pair i there r) ok = ok
-change-marks w next cause sendings (by_enter number terminal opener t e r o) ok = ok
-change-marks w next cause sendings (by_print number terminal reply t e i o n) ok = ok
-change-marks w next cause sendings (by_stop processor r h) ok = λ m i. stop-stays w.stopped processor m.down (ok m i)
-change-marks w next cause sendings (by_mark node processor s r n) ok = added
+change-downs w next cause sendings (by_own number k pair there acts c a e f) ok = ok
+change-downs w next cause sendings (by_checkpoint number pair there p) ok = ok
+change-downs w next cause sendings (by_request request k pair i there r) ok = ok
+change-downs w next cause sendings (by_early_request request k pair i there r) ok = ok
+change-downs w next cause sendings (by_enter number terminal opener t e r o) ok = ok
+change-downs w next cause sendings (by_print number terminal reply t e i o n) ok = ok
+change-downs w next cause sendings (by_stop processor r h) ok = λ m i. stop-stays w.stopped processor m.down (ok m i)
+change-downs w next cause sendings (by_mark node processor s r n) ok = added
   where
-    added : (m : Down) → (m ≡ record { node = node; down = processor }) ⊎ IsAmong m w.marks
+    added : (m : Down) → (m ≡ record { node = node; down = processor }) ⊎ IsAmong m w.downs
         → slice_get w.stopped m.down ≡ Some true
     added m (inl same) = ap (λ (x : Down). slice_get w.stopped x.down) same ∙ s
     added m (inr i) = ok m i
-change-marks w next cause sendings (by_reload processor s m t l) ok = λ mark i.
-    (let left = marks-left processor w.marks mark i in runs-again w.stopped processor mark.down left.1 ∙ ok mark left.0)
+change-downs w next cause sendings (by_reload processor s m t l) ok = λ mark i.
+    (let left = downs-left processor w.downs mark i in runs-again w.stopped processor mark.down left.1 ∙ ok mark left.0)

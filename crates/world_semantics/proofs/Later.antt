@@ -46,9 +46,9 @@ one-sent : (new : ImageMessage) (k : Which) (copy : Copy) (pair : Pair)
 one-sent new First copy pair = record { checkpoints = grown-one new pair.checkpoints; takens = grown-none pair.takens }
 one-sent new Second copy pair = record { checkpoints = grown-one new pair.checkpoints; takens = grown-none pair.takens }
 
-passes-later : {number : ℕ} {marks : List Down} {kept after : List Act} {pair next : Pair} {cause : Cause}
+passes-later : {number : ℕ} {downs : List Down} {kept after : List Act} {pair next : Pair} {cause : Cause}
     {sendings : List Sending}
-    → Passes number marks kept pair cause sendings next after → IsLaterPair pair next
+    → Passes number downs kept pair cause sendings next after → IsLaterPair pair next
 passes-later {pair = p} (by_send k r t s m) = one-sent _ k _ p
 passes-later {pair = p} (by_pass_again k r t m l) = copy-set k _ p
 passes-later {pair = p} (by_pass k r t m l) = copy-set k _ p

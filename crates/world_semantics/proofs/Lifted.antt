@@ -7,7 +7,8 @@ use Rattle.world_semantics.specs.World.{Pair, World, Which, copy_of, with_copy}
 use Rattle.world_semantics.specs.Passes.{copy_at_checkpoint}
 use Rattle.world_semantics.specs.Records.{records_of}
 use Rattle.world_semantics.specs.Shares.{passing_where, share_of, with_share}
-use Rattle.world_semantics.specs.Running.{Done, Own, Stepped, in_world, mark_step, own_step, sending_step, step_as}
+use Rattle.world_semantics.specs.Running.{Done, Own, Stepped, in_world, step_at_checkpoint, own_step, sending_step}
+use Rattle.world_semantics.specs.Running.{step_as}
 use Rattle.world_semantics.specs.Running.{step_at, step_of_copy, ending_step, free_step, renewing_step, step_if}
 
 abbrev pub lifted : ℕ → World → Option Stepped → Option Done
@@ -31,8 +32,9 @@ passed_done number k pair w again = in_world number w (record {
   sendings = [];
 })
 
-abbrev pub mark_done : ℕ → Which → Pair → World → Bool → Bool → Option Done
-mark_done number k pair w free sent = lifted number w (mark_step number k pair (records_of w) free sent)
+abbrev pub done_at_checkpoint : ℕ → Which → Pair → World → Bool → Bool → Option Done
+done_at_checkpoint number k pair w free sent = lifted number w
+    (step_at_checkpoint number k pair (records_of w) free sent)
 
 -- what a copy has sent comes to its end
 abbrev pub ended_done : ℕ → Which → Pair → World → Done
@@ -42,17 +44,17 @@ abbrev pub made_if : ℕ → World → Bool → Stepped → Option Done
 made_if number w may step = lifted number w (step_if may step)
 
 abbrev pub renewing_at : ℕ → Which → Pair → World → Point → Option Done
-renewing_at number k pair w stands = lifted number w (renewing_step number k pair w.marks (records_of w) stands)
+renewing_at number k pair w stands = lifted number w (renewing_step number k pair w.downs (records_of w) stands)
 
 abbrev pub free_at : Site → ℕ → Which → Pair → World → Point → Bool → Bool → Option Done
 free_at site number k pair w stands sent renewal =
-    lifted number w (free_step site number k pair w.marks (records_of w) stands sent renewal)
+    lifted number w (free_step site number k pair w.downs (records_of w) stands sent renewal)
 
 abbrev pub run_at : Site → ℕ → Which → Pair → World → Point → Option Done
-run_at site number k pair w stands = lifted number w (step_at site number k pair w.marks (records_of w) stands)
+run_at site number k pair w stands = lifted number w (step_at site number k pair w.downs (records_of w) stands)
 
 abbrev pub run_as : Site → ℕ → Which → Pair → World → Role → Option Done
-run_as site number k pair w role = lifted number w (step_as site number k pair w.marks (records_of w) role)
+run_as site number k pair w role = lifted number w (step_as site number k pair w.downs (records_of w) role)
 
 abbrev pub run_copy : Site → ℕ → Pair → World → Which → Option Done
-run_copy site number pair w k = lifted number w (step_of_copy site number pair w.marks (records_of w) k)
+run_copy site number pair w k = lifted number w (step_of_copy site number pair w.downs (records_of w) k)

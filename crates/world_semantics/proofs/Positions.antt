@@ -120,9 +120,9 @@ step-most number point.Ended = omega arith
 same-count : (n : ℕ) → n ≤ n
 same-count n = omega arith
 
-passes-bounds : {number : ℕ} {marks : List Down} {kept after : List Act} {pair next : Pair} {cause : Cause}
+passes-bounds : {number : ℕ} {downs : List Down} {kept after : List Act} {pair next : Pair} {cause : Cause}
     {sendings : List Sending}
-    → Passes number marks kept pair cause sendings next after → BoundsOf kept number pair → BoundsOf after number next
+    → Passes number downs kept pair cause sendings next after → BoundsOf kept number pair → BoundsOf after number next
 passes-bounds (by_send First r p s m) ok = record { first = ok.first; second = ok.second; base = ok.base }
 passes-bounds (by_send Second r p s m) ok = record { first = ok.first; second = ok.second; base = ok.base }
 passes-bounds (by_pass_again First r p m l) ok = record { first = omega (arith, l); second = ok.second; base = ok.base }

@@ -25,7 +25,8 @@ use Rattle.world_semantics.specs.Records.{records_of}
 use Rattle.world_semantics.specs.Running.{Done, Own, Stepped, first_step, own_at, run_done, run_pair, step_of_copy}
 use Rattle.world_semantics.specs.Running.{ending_step, in_world, sending_step}
 use Rattle.world_semantics.specs.Shares.{after_entering, share_after_act, share_of}
-use Rattle.world_semantics.proofs.Lifted.{lifted, mark_done, own_done, own_made, passed_done, run_as, run_at, run_copy}
+use Rattle.world_semantics.proofs.Lifted.{lifted, done_at_checkpoint, own_done, own_made, passed_done, run_as}
+use Rattle.world_semantics.proofs.Lifted.{run_at, run_copy}
 use Rattle.world_semantics.proofs.Lifted.{ended_done, free_at, made_if, sent_done}
 use Rattle.world_semantics.proofs.Lists.{some-same}
 use Rattle.world_semantics.proofs.Running.{enters-as, enters-only, own-can, own-only}
@@ -42,7 +43,7 @@ either-not false b e = e
 
 passed-may : (site : Site) (number : ℕ) (k : Which) (pair : Pair) (w : World)
     → slice_get w.processes number ≡ Some pair → (copy_of k pair).role ≡ Acting
-    → process.point (copy_of k pair).core.state ≡ point.AtCheckpoint → may_pass w.marks k pair ≡ true
+    → process.point (copy_of k pair).core.state ≡ point.AtCheckpoint → may_pass w.downs k pair ≡ true
     → (again : Bool) → nat_lt (copy_of k pair).position (own_acts number w.kept) ≡ again
     → MayRun site number w (passed_done number k pair w again)
 passed-may site number k pair w there role p m true e =
@@ -53,8 +54,8 @@ passed-may site number k pair w there role p m false e =
 mark-may : (site : Site) (number : ℕ) (k : Which) (pair : Pair) (w : World) → slice_get w.processes number ≡ Some pair
     → (copy_of k pair).role ≡ Acting
     → process.point (copy_of k pair).core.state ≡ point.AtCheckpoint → (free sent : Bool)
-    → may_pass w.marks k pair ≡ free → (copy_of k pair).sent ≡ sent
-    → (done : Done) → mark_done number k pair w free sent ≡ Some done → MayRun site number w done
+    → may_pass w.downs k pair ≡ free → (copy_of k pair).sent ≡ sent
+    → (done : Done) → done_at_checkpoint number k pair w free sent ≡ Some done → MayRun site number w done
 mark-may site number k pair w there role p true sent m s done e =
     subst (MayRun site number w) (some-same e)
     (passed-may site number k pair w there role p m (nat_lt (copy_of k pair).position (own_acts number w.kept))
@@ -91,11 +92,11 @@ send-may : (site : Site) (number : ℕ) (k : Which) (pair : Pair) (w : World) �
     → (copy_of k pair).role ≡ Acting
     → (copy_of k pair).sent ≡ false → (copy_of k pair).renewal ≡ true
     → (process.point (copy_of k pair).core.state ≡ point.Await → ⊥)
-    → (done : Done) → made_if number w (not (has_noted w.marks (copy_of k pair).processor
+    → (done : Done) → made_if number w (not (has_noted w.downs (copy_of k pair).processor
     (copy_of (other_of k) pair).processor)) (sending_step number k pair (records_of w)) ≡ Some done
     → MayRun site number w done
 send-may site number k pair w there role s r away done e =
-    let is = made-if number w (not (has_noted w.marks (copy_of k pair).processor
+    let is = made-if number w (not (has_noted w.downs (copy_of k pair).processor
     (copy_of (other_of k) pair).processor)) (sending_step number k pair (records_of w)) done e in
     subst (MayRun site number w) is.1 (by_checkpoint number pair there
     (by_send k role (inr (r, away)) s (not-true _ is.0)))
@@ -107,7 +108,7 @@ free-may : (site : Site) (number : ℕ) (k : Which) (pair : Pair) (w : World) �
     → (copy_of k pair).renewal ≡ renewal → (done : Done) → free_at site number k pair w p sent renewal ≡ Some done
     → MayRun site number w done
 free-may site number k pair w there role p away stands true renewal s r done e =
-    let is = made-if number w (may_pass w.marks k pair) (ending_step number k pair (records_of w)) done e in
+    let is = made-if number w (may_pass w.downs k pair) (ending_step number k pair (records_of w)) done e in
     subst (MayRun site number w) is.1 (by_checkpoint number pair there
     (by_end k role s (λ m. away (sym stands ∙ m)) is.0))
 free-may site number k pair w there role p away stands false false s r done e =
@@ -132,7 +133,7 @@ at-may : (site : Site) (number : ℕ) (k : Which) (pair : Pair) (w : World) → 
     → (p : Point) → process.point (copy_of k pair).core.state ≡ p → (done : Done)
     → run_at site number k pair w p ≡ Some done → MayRun site number w done
 at-may site number k pair w there role point.AtCheckpoint stands done e =
-    mark-may site number k pair w there role stands (may_pass w.marks k pair) (copy_of k pair).sent refl refl done e
+    mark-may site number k pair w there role stands (may_pass w.downs k pair) (copy_of k pair).sent refl refl done e
 at-may site number k pair w there role point.Inner stands done e =
     free-may site number k pair w there role point.Inner (λ m. cc) stands (copy_of k pair).sent
     (copy_of k pair).renewal refl refl done e
@@ -176,8 +177,8 @@ pair-may : (site : Site) (number : ℕ) (w : World) (pair : Option Pair) → sli
     → run_pair site number w pair ≡ Some done → MayRun site number w done
 pair-may site number w None there done e = absurd (cc)
 pair-may site number w (Some pair) there done e =
-    two-may site number w (step_of_copy site number pair w.marks (records_of w) First)
-    (step_of_copy site number pair w.marks (records_of w) Second) done
+    two-may site number w (step_of_copy site number pair w.downs (records_of w) First)
+    (step_of_copy site number pair w.downs (records_of w) Second) done
     (λ one. as-may site number First pair w there pair.first.role refl one)
     (λ one. as-may site number Second pair w there pair.second.role refl one) e
 
@@ -226,19 +227,19 @@ own-run site number k pair w point.Ended o s r e = free-run site number k pair w
 not-none : {A : Type 0} {o : Option A} {x : A} → o ≡ Some x → o ≡ None → ⊥
 not-none e n = cc
 
-free-or : (marks : List Down) (k : Which) (pair : Pair) → IsSettled (copy_of k pair) → (copy_of k pair).sent ≡ false
-    → has_noted marks (copy_of k pair).processor (copy_of (other_of k) pair).processor ≡ false
-    → may_pass marks k pair ≡ false
-free-or marks k pair settled s m = rw (settled s, m) refl
+free-or : (downs : List Down) (k : Which) (pair : Pair) → IsSettled (copy_of k pair) → (copy_of k pair).sent ≡ false
+    → has_noted downs (copy_of k pair).processor (copy_of (other_of k) pair).processor ≡ false
+    → may_pass downs k pair ≡ false
+free-or downs k pair settled s m = rw (settled s, m) refl
 
 mark-some : (number : ℕ) (k : Which) (pair : Pair) (w : World) (free : Bool)
-    → mark_done number k pair w free false ≡ None → ⊥
+    → done_at_checkpoint number k pair w free false ≡ None → ⊥
 mark-some number k pair w true e = cc
 mark-some number k pair w false e = cc
 
 pass-ran : (site : Site) (number : ℕ) (w : World) (pair : Pair) → slice_get w.processes number ≡ Some pair
     → {cause : Cause} {sendings : List Sending} {next : Pair}
-    {kept : List Act} → cause ≡ Running number → Passes number w.marks w.kept pair cause sendings next kept
+    {kept : List Act} → cause ≡ Running number → Passes number w.downs w.kept pair cause sendings next kept
     → Ran site number w (record {
       world = record w { processes = slice_set w.processes number next; kept = kept };
       sendings = sendings;
@@ -249,9 +250,10 @@ pass-ran site number w pair there r (by_send k role (inl p) s m) = record {
   there = there;
   role = role;
   exact = λ settled.
-      ap (run_at site number k pair w) p ∙ ap (λ sent. mark_done number k pair w (may_pass w.marks k pair) sent) s
-      ∙ ap (λ free. mark_done number k pair w free false) (free-or w.marks k pair settled s m);
-  some = rw (p, s) (mark-some number k pair w (may_pass w.marks k pair));
+      ap (run_at site number k pair w) p ∙ ap (λ sent. done_at_checkpoint number k pair w (may_pass w.downs k pair)
+      sent) s
+      ∙ ap (λ free. done_at_checkpoint number k pair w free false) (free-or w.downs k pair settled s m);
+  some = rw (p, s) (mark-some number k pair w (may_pass w.downs k pair));
 }
 pass-ran site number w pair there r (by_send k role (inr both) s m) =
     which (process.point (copy_of k pair).core.state) refl
@@ -278,9 +280,10 @@ pass-ran site number w pair there r (by_send k role (inr both) s m) =
       there = there;
       role = role;
       exact = λ settled.
-          ap (run_at site number k pair w) p ∙ ap (λ sent. mark_done number k pair w (may_pass w.marks k pair) sent) s
-          ∙ ap (λ free. mark_done number k pair w free false) (free-or w.marks k pair settled s m);
-      some = rw (p, s) (mark-some number k pair w (may_pass w.marks k pair));
+          ap (run_at site number k pair w) p ∙ ap (λ sent. done_at_checkpoint number k pair w
+          (may_pass w.downs k pair) sent) s
+          ∙ ap (λ free. done_at_checkpoint number k pair w free false) (free-or w.downs k pair settled s m);
+      some = rw (p, s) (mark-some number k pair w (may_pass w.downs k pair));
     }
 
     elsewhere : run_at site number k pair w (process.point (copy_of k pair).core.state)
@@ -382,9 +385,9 @@ own-number r (by_device e) = same-number r
 own-number r (by_write e) = same-number r
 own-number r (by_reply i o m e) = absurd (cc)
 
-pass-number : {number one : ℕ} {marks : List Down} {kept after : List Act} {pair next : Pair} {cause : Cause}
+pass-number : {number one : ℕ} {downs : List Down} {kept after : List Act} {pair next : Pair} {cause : Cause}
     {sendings : List Sending}
-    → cause ≡ Running number → Passes one marks kept pair cause sendings next after → one ≡ number
+    → cause ≡ Running number → Passes one downs kept pair cause sendings next after → one ≡ number
 pass-number r (by_send k role p s m) = same-number r
 pass-number r (by_pass_again k role p m l) = same-number r
 pass-number r (by_pass k role p m l) = same-number r
@@ -446,8 +449,8 @@ run-idle site number w none sendings next c =
     let ran = change-ran number w next (Running number) sendings refl c in
     let two : run_pair site number w (Some ran.pair) ≡ None = ap (run_pair site number w) (sym ran.there) ∙ none in
     let copy = copy-none site number ran.pair w ran.k
-    (none-of-two number w (step_of_copy site number ran.pair w.marks (records_of w) First)
-    (step_of_copy site number ran.pair w.marks (records_of w) Second) two) in
+    (none-of-two number w (step_of_copy site number ran.pair w.downs (records_of w) First)
+    (step_of_copy site number ran.pair w.downs (records_of w) Second) two) in
     ran.some (ap (run_as site number ran.k ran.pair w) (sym ran.role) ∙ copy)
 
 not-acting : (site : Site) (number : ℕ) (k : Which) (pair : Pair) (w : World) (role : Role) → (role ≡ Acting → ⊥)
@@ -473,11 +476,11 @@ pair-only : (site : Site) (number : ℕ) (pair : Pair) (w : World) (done : Done)
     → (copy_of k pair).role ≡ Acting → run_copy site number pair w k ≡ Some done
     → run_pair site number w (Some pair) ≡ Some done
 pair-only site number pair w done First alone role e =
-    first-made number w (step_of_copy site number pair w.marks (records_of w) First)
-    (step_of_copy site number pair w.marks (records_of w) Second) done e
+    first-made number w (step_of_copy site number pair w.downs (records_of w) First)
+    (step_of_copy site number pair w.downs (records_of w) Second) done e
 pair-only site number pair w done Second alone role e =
-    second-made number w (step_of_copy site number pair w.marks (records_of w) First)
-    (step_of_copy site number pair w.marks (records_of w) Second) done
+    second-made number w (step_of_copy site number pair w.downs (records_of w) First)
+    (step_of_copy site number pair w.downs (records_of w) Second) done
     (not-acting site number First pair w pair.first.role (λ a. alone a role)) e
 
 -- where at most one copy acts, and none is acknowledged that hasn't sent, the computed change alone is permitted

@@ -13,7 +13,7 @@ use Rattle.world_semantics.specs.Follows.{Leads, IsRun}
 use Rattle.world_semantics.specs.Laws.{IsLaterPair, IsLaterTerminal, IsPlaced, KeepsUp}
 use Rattle.world_semantics.proofs.Lists.{some-same}
 use Rattle.world_semantics.proofs.Runs.{leads-keep, holds-on}
-use Rattle.world_semantics.proofs.Growing.{Grows, growth, AreStopped, change-marks}
+use Rattle.world_semantics.proofs.Growing.{Grows, growth, AreStopped, change-downs}
 use Rattle.world_semantics.proofs.Roles.{RolesOf, AllRoles, roles-begin, change-roles}
 use Rattle.world_semantics.proofs.Positions.{AllBounds, bounds-begin, change-bounds}
 use Rattle.world_semantics.proofs.Later.{pairs-go-on, terminals-go-on}
@@ -30,8 +30,8 @@ use Rattle.world_semantics.specs.Passes.{by_pass_again, by_send}
 use Rattle.world_semantics.specs.Rules.{Change, by_checkpoint, by_early_request, by_enter, by_mark, by_own, by_print}
 use Rattle.world_semantics.specs.Rules.{by_reload, by_request, by_stop}
 
-pub run-marks : {site : Site} {events : List Event} {w : World} → IsRun site events w → AreStopped w
-run-marks run = holds-on AreStopped change-marks run (λ m i. absurd i)
+pub run-downs : {site : Site} {events : List Event} {w : World} → IsRun site events w → AreStopped w
+run-downs run = holds-on AreStopped change-downs run (λ m i. absurd i)
 
 pub run-roles : {site : Site} {events : List Event} {w : World} → IsRun site events w → AllRoles w
 run-roles {site = site} run = holds-on AllRoles change-roles run (roles-begin site)
@@ -41,15 +41,15 @@ run-bounds {site = site} run = holds-on AllBounds change-bounds run (bounds-begi
 
 -- with the marks, what is steady
 record AreSteady (w : World) : Type 0 where
-  pub marks : AreStopped w
+  pub downs : AreStopped w
   pub steady : IsSteady w
 
 pub run-steady : {site : Site} {events : List Event} {w : World} → IsRun site events w → IsSteady w
 run-steady {site = site} run =
     (holds-on AreSteady (λ w next cause sendings change ok. record {
-      marks = change-marks w next cause sendings change ok.marks;
-      steady = change-steady w next cause sendings ok.marks change ok.steady;
-    }) run (record { marks = λ m i. absurd i; steady = steady-begins site })).steady
+      downs = change-downs w next cause sendings change ok.downs;
+      steady = change-steady w next cause sendings ok.downs change ok.steady;
+    }) run (record { downs = λ m i. absurd i; steady = steady-begins site })).steady
 
 pub leads-grow : {site : Site} {events : List Event} {w end : World} → Leads site w events end → Grows w end
 leads-grow {site = site} l = leads-keep (growth site) l
@@ -92,9 +92,9 @@ own-not (by_device n) e = cc
 own-not (by_write n) e = cc
 own-not (by_reply i o n u) e = cc
 
-passes-not : {number x : ℕ} {marks : List Down} {kept after : List Act} {pair next : Pair} {cause : Cause}
+passes-not : {number x : ℕ} {downs : List Down} {kept after : List Act} {pair next : Pair} {cause : Cause}
     {sendings : List Sending}
-    → Passes number marks kept pair cause sendings next after → cause ≡ Reloading x → ⊥
+    → Passes number downs kept pair cause sendings next after → cause ≡ Reloading x → ⊥
 passes-not (by_send k r p s m) e = cc
 passes-not (by_pass_again k r p m l) e = cc
 passes-not (by_pass k r p m l) e = cc
@@ -106,7 +106,7 @@ passes-not (by_acknowledge k taken r s i era n) e = cc
 -- what a reload needs
 pub record Reloads (w : World) (x : ℕ) : Type 0 where
   pub down : slice_get w.stopped x ≡ Some true
-  pub all : (node : ℕ) → is_running w.stopped node ≡ true → has_noted w.marks node x ≡ true
+  pub all : (node : ℕ) → is_running w.stopped node ≡ true → has_noted w.downs node x ≡ true
 
 same-reload : {x y : ℕ} → Reloading x ≡ Reloading y → x ≡ y
 same-reload e = cc
@@ -133,7 +133,7 @@ not-equal a b apart = by (a == b) refl
 
 pub record AllKept (site : Site) (w : World) : Type 0 where
   pub roles : AllRoles w
-  pub marks : AreStopped w
+  pub downs : AreStopped w
   pub steady : IsSteady w
   pub seated : IsSeated site w
   pub seen : AllSeen w
@@ -152,15 +152,15 @@ survives site placed w ok x is number pair at =
     let waits = ok.steady.pairs number pair at in (
       λ t. (let same = eqb-true pair.first.processor x t in
           let off : pair.second.processor ≢ x = λ e. apart (same ∙ sym e) in (
-            survivor w.stopped w.marks x pair.second.processor pair.second.role is.down ok.steady.one off two is.all
-                (subst (λ p. Waits w.stopped w.marks pair.second.role pair.second.processor p) same waits.second)
+            survivor w.stopped w.downs x pair.second.processor pair.second.role is.down ok.steady.one off two is.all
+                (subst (λ p. Waits w.stopped w.downs pair.second.role pair.second.processor p) same waits.second)
                 r.second_lost,
             not-equal pair.second.processor x off,
           )),
       λ t. (let same = eqb-true pair.second.processor x t in
           let off : pair.first.processor ≢ x = λ e. apart (e ∙ sym same) in (
-            survivor w.stopped w.marks x pair.first.processor pair.first.role is.down ok.steady.one off one is.all
-                (subst (λ p. Waits w.stopped w.marks pair.first.role pair.first.processor p) same waits.first)
+            survivor w.stopped w.downs x pair.first.processor pair.first.role is.down ok.steady.one off one is.all
+                (subst (λ p. Waits w.stopped w.downs pair.first.role pair.first.processor p) same waits.first)
                 r.first_lost,
             not-equal pair.first.processor x off,
           )),
@@ -170,17 +170,17 @@ pub change-kept : (site : Site) → IsPlaced site → (w next : World) (cause : 
     → Change site w cause sendings next → AllKept site w → AllKept site next
 change-kept site placed w next cause sendings change ok = record {
   roles = change-roles w next cause sendings change ok.roles;
-  marks = change-marks w next cause sendings change ok.marks;
-  steady = change-steady w next cause sendings ok.marks change ok.steady;
+  downs = change-downs w next cause sendings change ok.downs;
+  steady = change-steady w next cause sendings ok.downs change ok.steady;
   seated = change-seated w next cause sendings change ok.seated;
-  seen = change-seen w next cause sendings change ok.roles ok.marks
+  seen = change-seen w next cause sendings change ok.roles ok.downs
       (λ x is. survives site placed w ok x (reload-needs w next cause sendings change x is)) ok.seen;
 }
 
 pub run-kept : {site : Site} {events : List Event} {w : World} → IsPlaced site → IsRun site events w → AllKept site w
 run-kept {site = site} placed run = holds-on (AllKept site) (change-kept site placed) run (record {
   roles = roles-begin site;
-  marks = λ mark i. absurd i;
+  downs = λ mark i. absurd i;
   steady = steady-begins site;
   seated = seats-begin site;
   seen = all-begin (λ n p. BothSeen p) site (begin-seen site);

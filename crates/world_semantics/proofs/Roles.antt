@@ -98,9 +98,9 @@ second-watches {second = role} r ok = record {
   single = λ a b. absurd (cc);
 }
 
-passes-roles : {number : ℕ} {marks : List Down} {kept after : List Act} {pair next : Pair} {cause : Cause}
+passes-roles : {number : ℕ} {downs : List Down} {kept after : List Act} {pair next : Pair} {cause : Cause}
     {sendings : List Sending} (stopped : List Bool)
-    → Passes number marks kept pair cause sendings next after → RolesOf stopped pair → RolesOf stopped next
+    → Passes number downs kept pair cause sendings next after → RolesOf stopped pair → RolesOf stopped next
 passes-roles stopped (by_send First r p s m) ok = ok
 passes-roles stopped (by_send Second r p s m) ok = ok
 passes-roles stopped (by_pass_again First r p m l) ok = ok

@@ -16,11 +16,11 @@ pub record IsKept (site : Site) (R : World → World → Type 0) : Type 0 where
   pub both : (u v w : World) → R u v → R v w → R u w
   pub change : (w next : World) (cause : Cause) (sendings : List Sending) → Change site w cause sendings next → R w next
 
-marks-keep : {site : Site} {R : World → World → Type 0} → IsKept site R
+downs-keep : {site : Site} {R : World → World → Type 0} → IsKept site R
     → {node : _} {w end : World} {sendings : List Sending} → NotesDowns site node w sendings end → R w end
-marks-keep k (marks_none {w = w}) = k.same w
-marks-keep k (marks_one {w = w} {next = next} {end = end} processor c m) =
-    k.both w next end (k.change w next _ _ c) (marks-keep k m)
+downs-keep k (marks_none {w = w}) = k.same w
+downs-keep k (marks_one {w = w} {next = next} {end = end} processor c m) =
+    k.both w next end (k.change w next _ _ c) (downs-keep k m)
 
 pub follows-keeps : {site : Site} {R : World → World → Type 0} → IsKept site R
     → {w next : World} {event : Event} {sendings : List Sending}
@@ -36,9 +36,9 @@ follows-keeps k {w = w} loses = k.same w
 follows-keeps k {w = w} doubles = k.same w
 follows-keeps k {w = w} turns_drive = k.same w
 follows-keeps k {w = w} ticks_none = k.same w
-follows-keeps k (ticks r m) = marks-keep k m
+follows-keeps k (ticks r m) = downs-keep k m
 follows-keeps k {w = w} {next = next} (ticks_stop {between = between} processor r d c m) =
-    k.both w between next (k.change w between _ _ c) (marks-keep k m)
+    k.both w between next (k.change w between _ _ c) (downs-keep k m)
 follows-keeps k {w = w} {next = next} (fails c) = k.change w next _ _ c
 follows-keeps k {w = w} (cannot_fail n) = k.same w
 follows-keeps k {w = w} {next = next} (reloads c) = k.change w next _ _ c

@@ -69,9 +69,9 @@ own-sends w r p (by_device n) message i = absurd i
 own-sends w r p (by_write n) message i = absurd i
 own-sends w r p (by_reply j o n u) message i = absurd i
 
-passes-sends : {number : ℕ} {marks : List _} {kept after : List Act} {pair next : Pair} {cause : Cause}
+passes-sends : {number : ℕ} {downs : List _} {kept after : List Act} {pair next : Pair} {cause : Cause}
     {sendings : List Sending} (w : World)
-    → slice_get w.processes number ≡ Some next → Passes number marks kept pair cause sendings next after
+    → slice_get w.processes number ≡ Some next → Passes number downs kept pair cause sendings next after
     → (sending : Sending) → IsAmong sending sendings
     → WasSent w sending.message
 passes-sends {number = n} {pair = pair} w there (by_send First role p s m) sending i =

@@ -44,9 +44,9 @@ own-settled First pair core waiting sectors e ok =
 own-settled Second pair core waiting sectors e ok =
     record { first = ok.first; second = enters-settled core waiting e ok.second }
 
-passes-settled : {number : ℕ} {marks : List Down} {kept after : List Act} {pair next : Pair} {cause : Cause}
+passes-settled : {number : ℕ} {downs : List Down} {kept after : List Act} {pair next : Pair} {cause : Cause}
     {sendings : List Sending}
-    → Passes number marks kept pair cause sendings next after → AreSettled pair → AreSettled next
+    → Passes number downs kept pair cause sendings next after → AreSettled pair → AreSettled next
 passes-settled (by_send First r p s m) ok = record { first = λ _. refl; second = ok.second }
 passes-settled (by_send Second r p s m) ok = record { first = ok.first; second = λ _. refl }
 passes-settled (by_pass_again First r p m l) ok = record { first = λ _. refl; second = ok.second }

@@ -22,7 +22,7 @@ use Rattle.world_semantics.specs.Passes.{by_pass_again, by_send}
 use Rattle.world_semantics.specs.Rules.{Change, new_core, by_checkpoint, by_early_request, by_enter, by_mark, by_own}
 use Rattle.world_semantics.specs.Rules.{by_print, by_reload, by_request, by_stop, pair_after_down, pair_at_down}
 use Rattle.world_semantics.specs.Rules.{reloaded_at, reloaded_by, stopped_pair, taker, takes_over}
-use Rattle.world_semantics.specs.Rules.{without_marks}
+use Rattle.world_semantics.specs.Rules.{without_downs}
 use Rattle.world_semantics.specs.World.{Copy, Down, First, Pair, Second, Which, World, boot, copy_of, has_noted}
 use Rattle.world_semantics.specs.World.{is_pair_of, is_running, is_watching, is_whole, other_of, pairs_at_boot}
 use Rattle.world_semantics.specs.World.{receives, runs_by, with_copy}
@@ -38,22 +38,22 @@ OneStopped stopped = (x y : ℕ) → slice_get stopped x ≡ Some true → slice
 
 -- a copy to another one: where it is blank nothing has stopped, and where it watches its node hasn't marked the other
 -- one's processor
-pub record Waits (stopped : List Bool) (marks : List Down) (role : Role) (here there : ℕ) : Type 0 where
+pub record Waits (stopped : List Bool) (downs : List Down) (role : Role) (here there : ℕ) : Type 0 where
   pub blank : role ≡ Blank → AreNoneStopped stopped
-  pub unmarked : role ≡ Watching → has_noted marks here there ≡ true → ⊥
+  pub unmarked : role ≡ Watching → has_noted downs here there ≡ true → ⊥
 
-pub record PairWaits (stopped : List Bool) (marks : List Down) (one : ℕ) (lead : Role) (two : ℕ) (other : Role) :
+pub record PairWaits (stopped : List Bool) (downs : List Down) (one : ℕ) (lead : Role) (two : ℕ) (other : Role) :
     Type 0 where
-  pub first : Waits stopped marks lead one two
-  pub second : Waits stopped marks other two one
+  pub first : Waits stopped downs lead one two
+  pub second : Waits stopped downs other two one
 
 abbrev pub WaitsOf : List Bool → List Down → Pair → Type 0
-WaitsOf stopped marks pair =
-    PairWaits stopped marks pair.first.processor pair.first.role pair.second.processor pair.second.role
+WaitsOf stopped downs pair =
+    PairWaits stopped downs pair.first.processor pair.first.role pair.second.processor pair.second.role
 
 pub record IsSteady (w : World) : Type 0 where
   pub one : OneStopped w.stopped
-  pub pairs : (number : ℕ) (pair : Pair) → slice_get w.processes number ≡ Some pair → WaitsOf w.stopped w.marks pair
+  pub pairs : (number : ℕ) (pair : Pair) → slice_get w.processes number ≡ Some pair → WaitsOf w.stopped w.downs pair
 
 pub steady-begins : (site : Site) → IsSteady (boot site)
 steady-begins site = record {
@@ -65,9 +65,9 @@ steady-begins site = record {
 }
 
 -- a mark that was made is of a processor that has stopped
-pub marked-down : (stopped : List Bool) (marks : List Down) (node processor : ℕ)
-    → ((mark : Down) → IsAmong mark marks → slice_get stopped mark.down ≡ Some true)
-    → has_noted marks node processor ≡ true → slice_get stopped processor ≡ Some true
+pub marked-down : (stopped : List Bool) (downs : List Down) (node processor : ℕ)
+    → ((mark : Down) → IsAmong mark downs → slice_get stopped mark.down ≡ Some true)
+    → has_noted downs node processor ≡ true → slice_get stopped processor ≡ Some true
 marked-down stopped [] node processor down e = absurd (cc)
 marked-down stopped (mark ∷ rest) node processor down e =
     by ((mark.node == node) && (mark.down == processor)) refl e
@@ -84,38 +84,38 @@ marked-down stopped (mark ∷ rest) node processor down e =
 
 -- acts and checkpoints
 
-own-waits : (stopped : List Bool) (marks : List Down) (k : Which) (pair : Pair) (core : Core) (waiting : List Request)
+own-waits : (stopped : List Bool) (downs : List Down) (k : Which) (pair : Pair) (core : Core) (waiting : List Request)
     (sectors : List Stored) {number : ℕ} {act : Act}
     {kept after : List Act} {entered : Copy} → Enters number act kept (copy_of k pair) entered after
-    → WaitsOf stopped marks pair
-    → WaitsOf stopped marks (with_copy k (record entered { core = core; waiting = waiting })
+    → WaitsOf stopped downs pair
+    → WaitsOf stopped downs (with_copy k (record entered { core = core; waiting = waiting })
     (record pair { sectors = sectors }))
-own-waits stopped marks First pair core waiting sectors (holds_on e) ok = ok
-own-waits stopped marks First pair core waiting sectors (repeats e l) ok = ok
-own-waits stopped marks First pair core waiting sectors (begins e l t) ok = ok
-own-waits stopped marks First pair core waiting sectors (keeps e l t) ok = ok
-own-waits stopped marks Second pair core waiting sectors (holds_on e) ok = ok
-own-waits stopped marks Second pair core waiting sectors (repeats e l) ok = ok
-own-waits stopped marks Second pair core waiting sectors (begins e l t) ok = ok
-own-waits stopped marks Second pair core waiting sectors (keeps e l t) ok = ok
+own-waits stopped downs First pair core waiting sectors (holds_on e) ok = ok
+own-waits stopped downs First pair core waiting sectors (repeats e l) ok = ok
+own-waits stopped downs First pair core waiting sectors (begins e l t) ok = ok
+own-waits stopped downs First pair core waiting sectors (keeps e l t) ok = ok
+own-waits stopped downs Second pair core waiting sectors (holds_on e) ok = ok
+own-waits stopped downs Second pair core waiting sectors (repeats e l) ok = ok
+own-waits stopped downs Second pair core waiting sectors (begins e l t) ok = ok
+own-waits stopped downs Second pair core waiting sectors (keeps e l t) ok = ok
 
-now-watches : {stopped : List Bool} {marks : List Down} {here there : ℕ} (role : Role)
-    → ((mark : Down) → IsAmong mark marks → slice_get stopped mark.down ≡ Some true)
-    → receives role ≡ true → Waits stopped marks role here there → Waits stopped marks Watching here there
-now-watches {marks = marks} Watching down r ok = ok
+now-watches : {stopped : List Bool} {downs : List Down} {here there : ℕ} (role : Role)
+    → ((mark : Down) → IsAmong mark downs → slice_get stopped mark.down ≡ Some true)
+    → receives role ≡ true → Waits stopped downs role here there → Waits stopped downs Watching here there
+now-watches {downs = downs} Watching down r ok = ok
 now-watches Acting down r ok = absurd (cc)
 now-watches Gone down r ok = absurd (cc)
-now-watches {stopped = stopped} {marks = marks} {here = here} {there = there} Blank down r ok =
+now-watches {stopped = stopped} {downs = downs} {here = here} {there = there} Blank down r ok =
     record {
       blank = λ b. absurd (cc);
       unmarked = λ w m.
-          ok.blank refl there (marked-down stopped marks here there down m);
+          ok.blank refl there (marked-down stopped downs here there down m);
     }
 
-passes-wait : {number : ℕ} {marks : List Down} {kept after : List Act} {pair next : Pair} {cause : Cause}
+passes-wait : {number : ℕ} {downs : List Down} {kept after : List Act} {pair next : Pair} {cause : Cause}
     {sendings : List Sending} (stopped : List Bool)
-    → ((mark : Down) → IsAmong mark marks → slice_get stopped mark.down ≡ Some true)
-    → Passes number marks kept pair cause sendings next after → WaitsOf stopped marks pair → WaitsOf stopped marks next
+    → ((mark : Down) → IsAmong mark downs → slice_get stopped mark.down ≡ Some true)
+    → Passes number downs kept pair cause sendings next after → WaitsOf stopped downs pair → WaitsOf stopped downs next
 passes-wait stopped down (by_send First r p s m) ok = ok
 passes-wait stopped down (by_send Second r p s m) ok = ok
 passes-wait stopped down (by_pass_again First r p m l) ok = ok
@@ -135,11 +135,11 @@ passes-wait {pair = pair} stopped down (by_apply Second message applied r i e n 
 passes-wait stopped down (by_acknowledge First taken r s i e n) ok = ok
 passes-wait stopped down (by_acknowledge Second taken r s i e n) ok = ok
 
-waiting-wait : (stopped : List Bool) (marks : List Down) (k : Which) (pair : Pair) (waiting : List Request)
-    → WaitsOf stopped marks pair
-    → WaitsOf stopped marks (with_copy k (record (copy_of k pair) { waiting = waiting }) pair)
-waiting-wait stopped marks First pair waiting ok = ok
-waiting-wait stopped marks Second pair waiting ok = ok
+waiting-wait : (stopped : List Bool) (downs : List Down) (k : Which) (pair : Pair) (waiting : List Request)
+    → WaitsOf stopped downs pair
+    → WaitsOf stopped downs (with_copy k (record (copy_of k pair) { waiting = waiting }) pair)
+waiting-wait stopped downs First pair waiting ok = ok
+waiting-wait stopped downs Second pair waiting ok = ok
 
 -- Stops
 
@@ -178,9 +178,9 @@ stops-one (s ∷ stopped) (suc x) zero none e = absurd (none zero e)
 stops-one (s ∷ stopped) (suc x) (suc y) none e = ap suc (stops-one stopped x y (λ k. none (suc k)) e)
 
 -- a copy after a stop in a whole world
-stop-one : {stopped after : List Bool} {marks : List Down} {here there : ℕ} (role : Role) (gone : Bool)
-    → (role ≡ Blank → ⊥) → Waits stopped marks role here there
-    → Waits after marks (if gone then Gone else role) here there
+stop-one : {stopped after : List Bool} {downs : List Down} {here there : ℕ} (role : Role) (gone : Bool)
+    → (role ≡ Blank → ⊥) → Waits stopped downs role here there
+    → Waits after downs (if gone then Gone else role) here there
 stop-one role true not_blank ok = record { blank = λ b. absurd (cc); unmarked = λ w m. cc }
 stop-one role false not_blank ok = record { blank = λ b. absurd (not_blank b); unmarked = ok.unmarked }
 
@@ -212,12 +212,12 @@ not-here node processor here there rest other e = by (node == here) (processor =
     by true false is same e = e
     by false b is same e = e
 
-blank-stays : {stopped : List Bool} {marks more : List Down} {here there : ℕ} {role : Role}
-    → (role ≡ Watching → has_noted more here there ≡ true → has_noted marks here there ≡ true)
-    → Waits stopped marks role here there → Waits stopped more role here there
+blank-stays : {stopped : List Bool} {downs more : List Down} {here there : ℕ} {role : Role}
+    → (role ≡ Watching → has_noted more here there ≡ true → has_noted downs here there ≡ true)
+    → Waits stopped downs role here there → Waits stopped more role here there
 blank-stays up ok = record { blank = ok.blank; unmarked = λ w m. ok.unmarked w (up w m) }
 
-acts-waits : {stopped : List Bool} {marks : List Down} {here there : ℕ} → Waits stopped marks Acting here there
+acts-waits : {stopped : List Bool} {downs : List Down} {here there : ℕ} → Waits stopped downs Acting here there
 acts-waits = record { blank = λ b. absurd (cc); unmarked = λ w m. cc }
 
 watching-back : (role : Role) → role ≡ Watching → is_watching role ≡ true
@@ -241,50 +241,50 @@ takes-back node processor k pair w n p =
       eq-eqb (copy_of (other_of k) pair).processor processor p,
     ) refl
 
-mark-waits : (stopped : List Bool) (marks : List Down) (node x : ℕ) → slice_get stopped x ≡ Some true
-    → is_running stopped node ≡ true → (pair : Pair) → WaitsOf stopped marks pair
-    → WaitsOf stopped (record { node = node; down = x } ∷ marks) (pair_at_down node x pair)
-mark-waits stopped marks node x s r pair ok =
+mark-waits : (stopped : List Bool) (downs : List Down) (node x : ℕ) → slice_get stopped x ≡ Some true
+    → is_running stopped node ≡ true → (pair : Pair) → WaitsOf stopped downs pair
+    → WaitsOf stopped (record { node = node; down = x } ∷ downs) (pair_at_down node x pair)
+mark-waits stopped downs node x s r pair ok =
     by (takes_over node x First pair) (takes_over node x Second pair) refl refl
   where
     apart : node ≡ x → ⊥
     apart same = not-running node (slice_get stopped node) r (ap (slice_get stopped) same ∙ s)
 
     by : (a b : Bool) → takes_over node x First pair ≡ a → takes_over node x Second pair ≡ b
-        → WaitsOf stopped (record { node = node; down = x } ∷ marks)
+        → WaitsOf stopped (record { node = node; down = x } ∷ downs)
         (pair_after_down (if a then Some First else if b then Some Second else None) pair)
     by true b one two = record {
       first = acts-waits;
-      second = blank-stays (λ w m. not-here node x pair.second.processor pair.first.processor marks
+      second = blank-stays (λ w m. not-here node x pair.second.processor pair.first.processor downs
           (λ n p. (let f = (both-true (is_watching pair.first.role && pair.first.processor == node)
           (pair.second.processor == x) one) in
           let at = both-true (is_watching pair.first.role) (pair.first.processor == node) f.0 in
           apart (sym n ∙ eqb-true pair.second.processor x f.1))) m) ok.second;
     }
     by false true one two = record {
-      first = blank-stays (λ w m. not-here node x pair.first.processor pair.second.processor marks
+      first = blank-stays (λ w m. not-here node x pair.first.processor pair.second.processor downs
           (λ n p. (let t = takes-back node x First pair w n p in cc)) m) ok.first;
       second = acts-waits;
     }
     by false false one two = record {
-      first = blank-stays (λ w m. not-here node x pair.first.processor pair.second.processor marks
+      first = blank-stays (λ w m. not-here node x pair.first.processor pair.second.processor downs
           (λ n p. (let t = takes-back node x First pair w n p in cc)) m) ok.first;
-      second = blank-stays (λ w m. not-here node x pair.second.processor pair.first.processor marks
+      second = blank-stays (λ w m. not-here node x pair.second.processor pair.first.processor downs
           (λ n p. (let t = takes-back node x Second pair w n p in cc)) m) ok.second;
     }
 
 -- Reloads
 
-left-marked : (x : ℕ) (marks : List Down) (here there : ℕ) → has_noted (without_marks x marks) here there ≡ true
-    → has_noted marks here there ≡ true
+left-marked : (x : ℕ) (downs : List Down) (here there : ℕ) → has_noted (without_downs x downs) here there ≡ true
+    → has_noted downs here there ≡ true
 left-marked x [] here there e = e
-left-marked x (mark ∷ marks) here there e =
-    by ((mark.node == here) && (mark.down == there)) (not (mark.down == x)) (left-marked x marks here there) refl e
+left-marked x (mark ∷ downs) here there e =
+    by ((mark.node == here) && (mark.down == there)) (not (mark.down == x)) (left-marked x downs here there) refl e
   where
-    by : (a b : Bool) → (has_noted (without_marks x marks) here there ≡ true → has_noted marks here there ≡ true)
+    by : (a b : Bool) → (has_noted (without_downs x downs) here there ≡ true → has_noted downs here there ≡ true)
         → ((mark.node == here) && (mark.down == there)) ≡ a
-        → has_noted (if b then mark ∷ without_marks x marks else without_marks x marks) here there ≡ true
-        → (a || has_noted marks here there) ≡ true
+        → has_noted (if b then mark ∷ without_downs x downs else without_downs x downs) here there ≡ true
+        → (a || has_noted downs here there) ≡ true
     by true b rest is e = refl
     by false true rest is e = rest (rw is at e)
     by false false rest is e = rest e
@@ -298,25 +298,25 @@ now-none stopped x one s y e = by (y == x) refl
         runs-now stopped x (subst (λ z. slice_get (slice_set stopped x false) z ≡ Some true) (eqb-true y x same) e)
     by false other = apart-of y x other (one y x (sym (runs-again stopped x y (apart-of y x other)) ∙ e) s)
 
-blank-waits : {stopped : List Bool} {marks : List Down} {here there : ℕ} → AreNoneStopped stopped
-    → Waits stopped marks Blank here there
+blank-waits : {stopped : List Bool} {downs : List Down} {here there : ℕ} → AreNoneStopped stopped
+    → Waits stopped downs Blank here there
 blank-waits none = record { blank = λ b. none; unmarked = λ w m. cc }
 
-reload-waits : (stopped : List Bool) (marks : List Down) (x : ℕ) → AreNoneStopped (slice_set stopped x false)
+reload-waits : (stopped : List Bool) (downs : List Down) (x : ℕ) → AreNoneStopped (slice_set stopped x false)
     → (site : Site) (number : ℕ) (spec : Option ProcessSpec) (pair : Pair)
-    → WaitsOf stopped marks pair → WaitsOf (slice_set stopped x false) (without_marks x marks)
+    → WaitsOf stopped downs pair → WaitsOf (slice_set stopped x false) (without_downs x downs)
     (reloaded_at site x number spec pair)
-reload-waits stopped marks x none site number spec pair ok = by (pair.first.processor == x) (pair.second.processor == x)
+reload-waits stopped downs x none site number spec pair ok = by (pair.first.processor == x) (pair.second.processor == x)
   where
     core : Core
     core = new_core site number spec pair.first.core
 
-    stays : {here there : ℕ} {role : Role} → Waits stopped marks role here there
-        → Waits (slice_set stopped x false) (without_marks x marks) role here there
+    stays : {here there : ℕ} {role : Role} → Waits stopped downs role here there
+        → Waits (slice_set stopped x false) (without_downs x downs) role here there
     stays {here = here} {there = there} w =
-        record { blank = λ b. none; unmarked = λ r m. w.unmarked r (left-marked x marks here there m) }
+        record { blank = λ b. none; unmarked = λ r m. w.unmarked r (left-marked x downs here there m) }
 
-    by : (a b : Bool) → WaitsOf (slice_set stopped x false) (without_marks x marks) (reloaded_by core pair a b)
+    by : (a b : Bool) → WaitsOf (slice_set stopped x false) (without_downs x downs) (reloaded_by core pair a b)
     by false false = record { first = stays ok.first; second = stays ok.second }
     by true false = record { first = blank-waits none; second = stays ok.second }
     by false true = record { first = stays ok.first; second = blank-waits none }
@@ -327,26 +327,26 @@ pub change-steady : {site : Site} (w next : World) (cause : Cause) (sendings : L
 change-steady w next cause sendings down (by_own number k pair there acts c a e f) ok =
     record {
       one = ok.one;
-      pairs = set-all (λ n p. WaitsOf w.stopped w.marks p) w.processes number _ ok.pairs
-          (own-waits w.stopped w.marks k pair _ _ _ e (ok.pairs number pair there));
+      pairs = set-all (λ n p. WaitsOf w.stopped w.downs p) w.processes number _ ok.pairs
+          (own-waits w.stopped w.downs k pair _ _ _ e (ok.pairs number pair there));
     }
 change-steady w next cause sendings down (by_checkpoint number pair there p) ok =
     record {
       one = ok.one;
-      pairs = set-all (λ n p. WaitsOf w.stopped w.marks p) w.processes number _ ok.pairs
+      pairs = set-all (λ n p. WaitsOf w.stopped w.downs p) w.processes number _ ok.pairs
           (passes-wait w.stopped down p (ok.pairs number pair there));
     }
 change-steady w next cause sendings down (by_request request k pair i there r) ok =
     record {
       one = ok.one;
-      pairs = set-all (λ n p. WaitsOf w.stopped w.marks p) w.processes request.process _ ok.pairs
-          (waiting-wait w.stopped w.marks k pair _ (ok.pairs request.process pair there));
+      pairs = set-all (λ n p. WaitsOf w.stopped w.downs p) w.processes request.process _ ok.pairs
+          (waiting-wait w.stopped w.downs k pair _ (ok.pairs request.process pair there));
     }
 change-steady w next cause sendings down (by_early_request request k pair i there r) ok =
     record {
       one = ok.one;
-      pairs = set-all (λ n p. WaitsOf w.stopped w.marks p) w.processes request.process _ ok.pairs
-          (waiting-wait w.stopped w.marks k pair _ (ok.pairs request.process pair there));
+      pairs = set-all (λ n p. WaitsOf w.stopped w.downs p) w.processes request.process _ ok.pairs
+          (waiting-wait w.stopped w.downs k pair _ (ok.pairs request.process pair there));
     }
 change-steady w next cause sendings down (by_enter number terminal opener t e r o) ok =
     record { one = ok.one; pairs = ok.pairs }
@@ -354,7 +354,7 @@ change-steady w next cause sendings down (by_print number terminal reply t e i o
     record { one = ok.one; pairs = ok.pairs }
 change-steady w next cause sendings down (by_stop x r h) ok = record {
   one = λ a b s t. stops-one w.stopped x a (whole-runs w h) s ∙ sym (stops-one w.stopped x b (whole-runs w h) t);
-  pairs = map-all (λ n p. WaitsOf (slice_set w.stopped x true) w.marks p) (stopped_pair x) w.processes (λ n p there.
+  pairs = map-all (λ n p. WaitsOf (slice_set w.stopped x true) w.downs p) (stopped_pair x) w.processes (λ n p there.
       (let both = whole-pair w h n p there in
       record {
         first = stop-one p.first.role (p.first.processor == x) (first-not-blank p.first.role p.second.role both)
@@ -365,14 +365,14 @@ change-steady w next cause sendings down (by_stop x r h) ok = record {
 }
 change-steady w next cause sendings down (by_mark node x s r n) ok = record {
   one = ok.one;
-  pairs = map-all (λ n p. WaitsOf w.stopped (record { node = node; down = x } ∷ w.marks) p) (pair_at_down node x)
+  pairs = map-all (λ n p. WaitsOf w.stopped (record { node = node; down = x } ∷ w.downs) p) (pair_at_down node x)
       w.processes
-      (λ n p there. mark-waits w.stopped w.marks node x s r p (ok.pairs n p there));
+      (λ n p there. mark-waits w.stopped w.downs node x s r p (ok.pairs n p there));
 }
 change-steady {site = site} w next cause sendings down (by_reload x s m t l) ok = record {
   one = λ a b e f. absurd (now-none w.stopped x ok.one s a e);
-  pairs = reload-all (λ n p. WaitsOf (slice_set w.stopped x false) (without_marks x w.marks) p) site x w.processes
-      (λ n p there. reload-waits w.stopped w.marks x (now-none w.stopped x ok.one s) site n
+  pairs = reload-all (λ n p. WaitsOf (slice_set w.stopped x false) (without_downs x w.downs) p) site x w.processes
+      (λ n p there. reload-waits w.stopped w.downs x (now-none w.stopped x ok.one s) site n
       (slice_get site.processes n) p (ok.pairs n p there));
 }
 
@@ -434,9 +434,9 @@ own-seats site n Second pair core waiting sectors (repeats e l) ok = ok
 own-seats site n Second pair core waiting sectors (begins e l t) ok = ok
 own-seats site n Second pair core waiting sectors (keeps e l t) ok = ok
 
-passes-seats : (site : Site) (n : ℕ) {number : ℕ} {marks : List Down} {kept after : List Act} {pair next : Pair}
+passes-seats : (site : Site) (n : ℕ) {number : ℕ} {downs : List Down} {kept after : List Act} {pair next : Pair}
     {cause : Cause} {sendings : List Sending}
-    → Passes number marks kept pair cause sendings next after
+    → Passes number downs kept pair cause sendings next after
     → SeatOf site n pair.first.processor pair.second.processor
     → SeatOf site n next.first.processor next.second.processor
 passes-seats site n (by_send First r p s m) ok = ok
@@ -534,14 +534,14 @@ there-is (x ∷ xs) zero less = (x, refl)
 there-is (x ∷ xs) (suc k) less = there-is xs k (omega (arith, less))
 
 -- where all that run have marked a processor, the other copy of a process that was there acts
-pub survivor : (stopped : List Bool) (marks : List Down) (x y : ℕ) (role : Role) → slice_get stopped x ≡ Some true
+pub survivor : (stopped : List Bool) (downs : List Down) (x y : ℕ) (role : Role) → slice_get stopped x ≡ Some true
     → OneStopped stopped → (y ≡ x → ⊥) → y < length stopped
-    → ((node : ℕ) → is_running stopped node ≡ true → has_noted marks node x ≡ true) → Waits stopped marks role y x
+    → ((node : ℕ) → is_running stopped node ≡ true → has_noted downs node x ≡ true) → Waits stopped downs role y x
     → (role ≡ Gone → slice_get stopped y ≡ Some true) → role ≡ Acting
-survivor stopped marks x y Acting s one apart less all waits lost = refl
-survivor stopped marks x y Gone s one apart less all waits lost = absurd (apart (one y x (lost refl) s))
-survivor stopped marks x y Blank s one apart less all waits lost = absurd (waits.blank refl x s)
-survivor stopped marks x y Watching s one apart less all waits lost = by (there-is stopped y less)
+survivor stopped downs x y Acting s one apart less all waits lost = refl
+survivor stopped downs x y Gone s one apart less all waits lost = absurd (apart (one y x (lost refl) s))
+survivor stopped downs x y Blank s one apart less all waits lost = absurd (waits.blank refl x s)
+survivor stopped downs x y Watching s one apart less all waits lost = by (there-is stopped y less)
   where
     by : ((b : Bool) × (slice_get stopped y ≡ Some b)) → Watching ≡ Acting
     by (true, at) = absurd (apart (one y x at s))

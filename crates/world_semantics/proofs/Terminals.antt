@@ -76,9 +76,9 @@ own-enters-none (by_device n) e = cc
 own-enters-none (by_write n) e = cc
 own-enters-none (by_reply i o n u) e = cc
 
-passes-enter-none : {number terminal : ℕ} {marks : List Down} {kept after : List Act} {pair next : Pair}
+passes-enter-none : {number terminal : ℕ} {downs : List Down} {kept after : List Act} {pair next : Pair}
     {cause : Cause} {sendings : List Sending}
-    → Passes number marks kept pair cause sendings next after → cause ≡ Entering terminal → ⊥
+    → Passes number downs kept pair cause sendings next after → cause ≡ Entering terminal → ⊥
 passes-enter-none (by_send k r p s m) e = cc
 passes-enter-none (by_pass_again k r p m l) e = cc
 passes-enter-none (by_pass k r p m l) e = cc

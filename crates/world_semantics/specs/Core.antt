@@ -104,7 +104,7 @@ core_acting found core = record core { state = process.after_device core.state f
 -- a deed is possible where the process stands at its point, and leads to the step of its core
 pub data Advances (openers : List OpenerSpec) (core : Core) : Deed → Core → Type 0 where
   goes : process.point core.state ≡ point.Inner → Advances openers core Went (core_going core)
-  marks : process.point core.state ≡ point.AtCheckpoint → Advances openers core Checkpointed (after_passing core)
+  checkpoints : process.point core.state ≡ point.AtCheckpoint → Advances openers core Checkpointed (after_passing core)
   takes : {place : ℕ} {words : List ℤ} (block : OpenerBlock) → process.point core.state ≡ point.Take
       → slice_get core.receive.openers place ≡ Some block
       → Advances openers core (Took place words) (core_taken place words block core)

@@ -98,38 +98,38 @@ after_applying number k message applied kept pair =
 -- era is its own and whose number is the next, and watches then. A copy that acts is told that what it has sent was
 -- taken. It passes its checkpoint, which it did already, or which is kept now with its held acts before it; elsewhere
 -- what it has sent comes to its end
-pub data Passes (number : ℕ) (marks : List Down) (kept : List Act) (pair : Pair) : Cause → List Sending → Pair
+pub data Passes (number : ℕ) (downs : List Down) (kept : List Act) (pair : Pair) : Cause → List Sending → Pair
     → List Act → Type 0 where
   by_send : (k : Which) → (copy_of k pair).role ≡ Acting → MaySend (copy_of k pair) → (copy_of k pair).sent ≡ false
-      → has_noted marks (copy_of k pair).processor (copy_of (other_of k) pair).processor ≡ false
-      → Passes number marks kept pair (Running number)
+      → has_noted downs (copy_of k pair).processor (copy_of (other_of k) pair).processor ≡ false
+      → Passes number downs kept pair (Running number)
       (sent_at (copy_of k pair).processor (Checkpointing (checkpoint_of number (copy_of k pair)) ∷ []))
       (with_copy k (after_sending (copy_of k pair))
       (record pair { checkpoints = checkpoint_of number (copy_of k pair) ∷ pair.checkpoints })) kept
   by_pass_again : (k : Which) → (copy_of k pair).role ≡ Acting
-      → process.point (copy_of k pair).core.state ≡ point.AtCheckpoint → may_pass marks k pair ≡ true
+      → process.point (copy_of k pair).core.state ≡ point.AtCheckpoint → may_pass downs k pair ≡ true
       → (copy_of k pair).position < own_acts number kept
-      → Passes number marks kept pair (Running number) []
+      → Passes number downs kept pair (Running number) []
       (with_copy k (record (copy_at_checkpoint (copy_of k pair)) { position = (copy_of k pair).position + 1 }) pair)
       kept
   by_pass : (k : Which) → (copy_of k pair).role ≡ Acting
-      → process.point (copy_of k pair).core.state ≡ point.AtCheckpoint → may_pass marks k pair ≡ true
+      → process.point (copy_of k pair).core.state ≡ point.AtCheckpoint → may_pass downs k pair ≡ true
       → own_acts number kept ≤ (copy_of k pair).position
-      → Passes number marks kept pair (Running number) []
+      → Passes number downs kept pair (Running number) []
       (with_copy k (record (copy_at_checkpoint (copy_of k pair))
       { position = own_acts number (kept_at_checkpoint number (copy_of k pair) kept); held = [] }) pair)
       (kept_at_checkpoint number (copy_of k pair) kept)
   by_end : (k : Which) → (copy_of k pair).role ≡ Acting → (copy_of k pair).sent ≡ true
       → point_at (copy_of k pair) ≢ point.AtCheckpoint
-      → may_pass marks k pair ≡ true
-      → Passes number marks kept pair (Running number) []
+      → may_pass downs k pair ≡ true
+      → Passes number downs kept pair (Running number) []
       (with_copy k (after_sent (copy_of k pair)) pair) kept
   by_apply_behind : (k : Which) (message : ImageMessage) (applied : Core) → receives (copy_of k pair).role ≡ true
       → IsAmong message pair.checkpoints
       → message.era ≡ (copy_of k pair).era → message.number ≡ (copy_of k pair).number + 1
       → put_in (copy_of k pair).core message.image ≡ Some applied
       → (copy_of (other_of k) pair).position < own_acts number kept
-      → Passes number marks kept pair (Handing (copy_of k pair).processor (Checkpointing message))
+      → Passes number downs kept pair (Handing (copy_of k pair).processor (Checkpointing message))
       (sent_at (copy_of k pair).processor (Taking (taken_of message) ∷ []))
       (after_applying_behind number k message applied pair) kept
   by_apply : (k : Which) (message : ImageMessage) (applied : Core) → receives (copy_of k pair).role ≡ true
@@ -137,12 +137,12 @@ pub data Passes (number : ℕ) (marks : List Down) (kept : List Act) (pair : Pai
       → message.era ≡ (copy_of k pair).era → message.number ≡ (copy_of k pair).number + 1
       → put_in (copy_of k pair).core message.image ≡ Some applied
       → own_acts number kept ≤ (copy_of (other_of k) pair).position
-      → Passes number marks kept pair (Handing (copy_of k pair).processor (Checkpointing message))
+      → Passes number downs kept pair (Handing (copy_of k pair).processor (Checkpointing message))
       (sent_at (copy_of k pair).processor (Taking (taken_of message) ∷ []))
       (after_applying number k message applied kept pair)
       (kept_at number (copy_of (other_of k) pair) kept)
   by_acknowledge : (k : Which) (taken : TakenMessage) → (copy_of k pair).role ≡ Acting → (copy_of k pair).sent ≡ true
       → IsAmong taken pair.takens
       → taken.era ≡ (copy_of k pair).era → taken.number ≡ (copy_of k pair).number
-      → Passes number marks kept pair (Handing (copy_of k pair).processor (Taking taken)) []
+      → Passes number downs kept pair (Handing (copy_of k pair).processor (Taking taken)) []
       (with_copy k (after_told (copy_of k pair)) pair) kept

@@ -160,8 +160,8 @@ reloaded_from site processor number (pair ∷ pairs) =
     ∷ reloaded_from site processor (number + 1) pairs
 
 -- the marks without those of a processor
-abbrev pub without_marks : ℕ → List Down → List Down
-without_marks processor marks = filter (λ mark. not (mark.down == processor)) marks
+abbrev pub without_downs : ℕ → List Down → List Down
+without_downs processor downs = filter (λ mark. not (mark.down == processor)) downs
 
 -- how often a processor can be loaded again
 abbrev pub most_reloads : ℕ
@@ -216,7 +216,7 @@ pub data Change (site : Site) (w : World) : Cause → List Sending → World →
       (after_own number k pair core entered after kept w)
   by_checkpoint : {cause : Cause} {sendings : List Sending} {next : Pair} {kept : List Act}
       → (number : ℕ) (pair : Pair) → slice_get w.processes number ≡ Some pair
-      → Passes number w.marks w.kept pair cause sendings next kept
+      → Passes number w.downs w.kept pair cause sendings next kept
       → Change site w cause sendings (record (with_pair number next w) { kept = kept })
   by_request : (request : Request) (k : Which) (pair : Pair) → IsAmong request w.requests
       → slice_get w.processes request.process ≡ Some pair
@@ -258,19 +258,19 @@ pub data Change (site : Site) (w : World) : Cause → List Sending → World →
       → Change site w (Stopping processor) []
       (record w { stopped = slice_set w.stopped processor true; processes = map (stopped_pair processor) w.processes })
   by_mark : (node processor : ℕ) → slice_get w.stopped processor ≡ Some true → is_running w.stopped node ≡ true
-      → has_noted w.marks node processor ≡ false
+      → has_noted w.downs node processor ≡ false
       → Change site w (NotingDown node processor) (flat_map (told_at_down node processor) w.processes)
       (record w {
-        marks = record { node = node; down = processor } ∷ w.marks;
+        downs = record { node = node; down = processor } ∷ w.downs;
         processes = map (pair_at_down node processor) w.processes;
       })
   by_reload : {times : ℕ} (processor : ℕ) → slice_get w.stopped processor ≡ Some true
-      → ((node : ℕ) → is_running w.stopped node ≡ true → has_noted w.marks node processor ≡ true)
+      → ((node : ℕ) → is_running w.stopped node ≡ true → has_noted w.downs node processor ≡ true)
       → slice_get w.reloads processor ≡ Some times → times < most_reloads
       → Change site w (Reloading processor) []
       (record w {
         stopped = slice_set w.stopped processor false;
         reloads = slice_set w.reloads processor (times + 1);
-        marks = without_marks processor w.marks;
+        downs = without_downs processor w.downs;
         processes = reloaded_from site processor 0 w.processes;
       })

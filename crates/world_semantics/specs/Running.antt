@@ -175,7 +175,7 @@ abbrev pub own_of : Site → ℕ → Which → Pair → Records → Point → Op
 own_of site number k pair records stands =
     own_at site number (copy_of k pair).core (around_with (copy_of k pair).waiting pair.sectors records) stands
 
--- Marks
+-- Checkpoints
 
 -- a copy sends its checkpoint
 abbrev pub sending_step : ℕ → Which → Pair → Records → Stepped
@@ -205,10 +205,10 @@ passing_step number k pair records = record {
 }
 
 -- at a checkpoint: it is passed where it may be, and else its checkpoint is sent if it wasn't
-abbrev pub mark_step : ℕ → Which → Pair → Records → Bool → Bool → Option Stepped
-mark_step number k pair records true sent = Some (passing_step number k pair records)
-mark_step number k pair records false true = None
-mark_step number k pair records false false = Some (sending_step number k pair records)
+abbrev pub step_at_checkpoint : ℕ → Which → Pair → Records → Bool → Bool → Option Stepped
+step_at_checkpoint number k pair records true sent = Some (passing_step number k pair records)
+step_at_checkpoint number k pair records false true = None
+step_at_checkpoint number k pair records false false = Some (sending_step number k pair records)
 
 -- Everything
 
@@ -227,39 +227,39 @@ step_if false step = None
 -- a copy that has to send everything does so at any point at which it awaits no reply, if its node hasn't marked the
 -- other copy's processor
 abbrev pub renewing_step : ℕ → Which → Pair → List Down → Records → Point → Option Stepped
-renewing_step number k pair marks records point.Await = None
-renewing_step number k pair marks records stands =
-    step_if (not (has_noted marks (copy_of k pair).processor (copy_of (other_of k) pair).processor))
+renewing_step number k pair downs records point.Await = None
+renewing_step number k pair downs records stands =
+    step_if (not (has_noted downs (copy_of k pair).processor (copy_of (other_of k) pair).processor))
     (sending_step number k pair records)
 
 -- elsewhere than at a checkpoint: what was sent comes to its end where it may, and else everything is sent if it has to
 -- be, and else the copy does an act of its own
 abbrev pub free_step : Site → ℕ → Which → Pair → List Down → Records → Point → Bool → Bool → Option Stepped
-free_step site number k pair marks records stands true renewal =
-    step_if (may_pass marks k pair) (ending_step number k pair records)
-free_step site number k pair marks records stands false true = renewing_step number k pair marks records stands
-free_step site number k pair marks records stands false false =
+free_step site number k pair downs records stands true renewal =
+    step_if (may_pass downs k pair) (ending_step number k pair records)
+free_step site number k pair downs records stands false true = renewing_step number k pair downs records stands
+free_step site number k pair downs records stands false false =
     option_map (own_step number k pair records) (own_of site number k pair records stands)
 
 -- Runs
 
 -- the step of a copy that acts and stands at this point; none where it can't go on
 abbrev pub step_at : Site → ℕ → Which → Pair → List Down → Records → Point → Option Stepped
-step_at site number k pair marks records point.AtCheckpoint =
-    mark_step number k pair records (may_pass marks k pair) (copy_of k pair).sent
-step_at site number k pair marks records stands =
-    free_step site number k pair marks records stands (copy_of k pair).sent (copy_of k pair).renewal
+step_at site number k pair downs records point.AtCheckpoint =
+    step_at_checkpoint number k pair records (may_pass downs k pair) (copy_of k pair).sent
+step_at site number k pair downs records stands =
+    free_step site number k pair downs records stands (copy_of k pair).sent (copy_of k pair).renewal
 
 abbrev pub step_as : Site → ℕ → Which → Pair → List Down → Records → Role → Option Stepped
-step_as site number k pair marks records Acting =
-    step_at site number k pair marks records (process.point (copy_of k pair).core.state)
-step_as site number k pair marks records Watching = None
-step_as site number k pair marks records Blank = None
-step_as site number k pair marks records Gone = None
+step_as site number k pair downs records Acting =
+    step_at site number k pair downs records (process.point (copy_of k pair).core.state)
+step_as site number k pair downs records Watching = None
+step_as site number k pair downs records Blank = None
+step_as site number k pair downs records Gone = None
 
 -- the step of one copy; none where it can't make one
 abbrev pub step_of_copy : Site → ℕ → Pair → List Down → Records → Which → Option Stepped
-step_of_copy site number pair marks records k = step_as site number k pair marks records (copy_of k pair).role
+step_of_copy site number pair downs records k = step_as site number k pair downs records (copy_of k pair).role
 
 abbrev pub first_step : Option Stepped → Option Stepped → Option Stepped
 first_step None other = other
@@ -267,12 +267,12 @@ first_step (Some step) other = Some step
 
 -- the step that a process makes where it runs: that of its copy that acts; none where it can't make one
 abbrev pub step_of : Site → ℕ → Pair → List Down → Records → Option Stepped
-step_of site number pair marks records =
-    first_step (step_of_copy site number pair marks records First) (step_of_copy site number pair marks records Second)
+step_of site number pair downs records =
+    first_step (step_of_copy site number pair downs records First) (step_of_copy site number pair downs records Second)
 
 abbrev pub run_pair : Site → ℕ → World → Option Pair → Option Done
 run_pair site number w None = None
-run_pair site number w (Some pair) = option_map (in_world number w) (step_of site number pair w.marks (records_of w))
+run_pair site number w (Some pair) = option_map (in_world number w) (step_of site number pair w.downs (records_of w))
 
 -- the change that a process makes where it runs; none where it can't make one
 abbrev pub run_done : Site → ℕ → World → Option Done

@@ -56,7 +56,7 @@ share_after_act number done kept share = entering_behind number done kept share 
 abbrev pub after_entering : ℕ → Act → List Act → Copy → Copy
 after_entering number done kept copy = with_share (share_after_act number done kept (share_of copy)).share copy
 
--- Marks
+-- Checkpoints
 
 -- the kept acts after the held acts and the step at the checkpoint were added
 abbrev pub kept_with_checkpoint : ℕ → List Act → Share → List Act

@@ -68,7 +68,7 @@ pub record Down : Type 0 where
 pub record World : Type 0 where
   pub stopped : List Bool
   pub reloads : List ℕ
-  pub marks : List Down
+  pub downs : List Down
   pub requests : List Request
   pub replies : List Reply
   pub processes : List Pair
@@ -119,7 +119,7 @@ abbrev pub boot : Site → World
 boot site = record {
   stopped = replicate site.processors false;
   reloads = replicate site.processors 0;
-  marks = [];
+  downs = [];
   requests = [];
   replies = [];
   processes = pairs_at_boot site 0 site.processes;
@@ -144,20 +144,20 @@ is_running stopped node = runs_by node (slice_get stopped node)
 
 -- whether a node has marked a processor
 abbrev pub has_noted : List Down → ℕ → ℕ → Bool
-has_noted marks node processor = list_any (λ mark. mark.node == node && mark.down == processor) marks
+has_noted downs node processor = list_any (λ mark. mark.node == node && mark.down == processor) downs
 
 -- whether each of these processors, from a number on, that runs has marked a processor
 abbrev pub noted_from : List Down → ℕ → ℕ → List Bool → Bool
-noted_from marks processor from [] = true
-noted_from marks processor from (true ∷ stopped) = noted_from marks processor (from + 1) stopped
-noted_from marks processor from (false ∷ stopped) =
-    has_noted marks from processor && noted_from marks processor (from + 1) stopped
+noted_from downs processor from [] = true
+noted_from downs processor from (true ∷ stopped) = noted_from downs processor (from + 1) stopped
+noted_from downs processor from (false ∷ stopped) =
+    has_noted downs from processor && noted_from downs processor (from + 1) stopped
 
 -- whether each node that runs has marked a processor
 abbrev pub is_noted_by_all : World → ℕ → Bool
 is_noted_by_all w processor =
-    noted_from w.marks processor 0 w.stopped
-    && (not (is_running w.stopped terminal_node) || has_noted w.marks terminal_node processor)
+    noted_from w.downs processor 0 w.stopped
+    && (not (is_running w.stopped terminal_node) || has_noted w.downs terminal_node processor)
 
 abbrev pub other_of : Which → Which
 other_of First = Second
@@ -175,8 +175,8 @@ with_copy Second copy pair = record pair { second = copy }
 -- whether a copy may go on after its checkpoint: its checkpoint was acknowledged, or its node has marked the other
 -- copy's processor
 abbrev pub may_pass : List Down → Which → Pair → Bool
-may_pass marks k pair =
-    (copy_of k pair).acknowledged || has_noted marks (copy_of k pair).processor (copy_of (other_of k) pair).processor
+may_pass downs k pair =
+    (copy_of k pair).acknowledged || has_noted downs (copy_of k pair).processor (copy_of (other_of k) pair).processor
 
 abbrev pub is_acting : Role → Bool
 is_acting Acting = true

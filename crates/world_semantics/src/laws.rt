@@ -16,15 +16,15 @@ ghost use Rattle.world_semantics.specs.Laws.{IsLater, IsLaterTerminal, HasGrown,
 /// In a run only processors that have stopped are marked.
 pub fn marked_have_stopped()
     ensures { (site : Site) (events : List Event) (w : World) (mark : Down) → IsRun site events w
-        → IsAmong mark w.marks → slice_get w.stopped mark.down ≡ Some true }
+        → IsAmong mark w.downs → slice_get w.stopped mark.down ≡ Some true }
 {}
 
 /// In a run at most one processor has stopped at any moment, and all marks name it.
 pub fn marks_name_one_processor()
     ensures stopped { (site : Site) (events : List Event) (w : World) (x y : ℕ) → IsRun site events w
         → slice_get w.stopped x ≡ Some true → slice_get w.stopped y ≡ Some true → x ≡ y }
-    ensures marks { (site : Site) (events : List Event) (w : World) (one other : Down) → IsRun site events w
-        → IsAmong one w.marks → IsAmong other w.marks → one.down ≡ other.down }
+    ensures downs { (site : Site) (events : List Event) (w : World) (one other : Down) → IsRun site events w
+        → IsAmong one w.downs → IsAmong other w.downs → one.down ≡ other.down }
 {}
 
 /// A processor that has stopped stays so until it is loaded again.

@@ -17,7 +17,7 @@ unfolding out-What shown-the_row-Statement-0 shown out int_wrap shape-the_row-St
     hidden
 not-hasty is = is.quiet (Answered 0 (pos 5 ∷ []) ∷ []) [] 0 (pos 5 ∷ []) _
     (one_more (one_more nothing_done (takes {words = pos 5 ∷ []} _ refl refl)) (answers _ _ refl refl refl refl refl))
-    ((λ mark. mark), tt)
+    ((λ checkpoint. checkpoint), tt)
 
 -- the words of the global that counts
 abbrev count_in : ProcessState → List ℤ
@@ -36,7 +36,7 @@ unfolding out-What shown-the_row-Statement-0 shown out int_wrap shape-the_row-St
     hidden
 not-forgetful is =
     differ (ap count_of (is.resume (Took 0 (pos 5 ∷ []) ∷ []) [] _ _
-    (one_more nothing_done (takes {words = pos 5 ∷ []} _ refl refl)) ((λ mark. mark), tt)
+    (one_more nothing_done (takes {words = pos 5 ∷ []} _ refl refl)) ((λ checkpoint. checkpoint), tt)
     (record { count = omega arith; short = (omega arith, tt) }) refl nothing_done))
 
 pub returns : goal.returns

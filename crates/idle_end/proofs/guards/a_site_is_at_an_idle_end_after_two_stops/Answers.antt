@@ -97,7 +97,7 @@ abbrev over : Post
 over = record backed {
   world = record backed.world {
     stopped = false ∷ true ∷ [];
-    marks = record { node = 16; down = 1 } ∷ record { node = 0; down = 1 } ∷ [];
+    downs = record { node = 16; down = 1 } ∷ record { node = 0; down = 1 } ∷ [];
     processes = over_pair ∷ [];
   };
 }
@@ -241,7 +241,7 @@ short (suc terminal) entered words next = absurd (cc)
 
 marked : (node processor : ℕ) → is_running last.world.stopped node ≡ true
     → slice_get last.world.stopped processor ≡ Some true
-    → has_noted last.world.marks node processor ≡ true
+    → has_noted last.world.downs node processor ≡ true
 marked node zero runs down = absurd (cc)
 marked zero (suc zero) runs down = refl
 marked (suc zero) (suc zero) runs down = absurd (cc)

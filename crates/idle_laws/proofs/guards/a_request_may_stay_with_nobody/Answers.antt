@@ -43,7 +43,7 @@ idle-by : (site : Site) (post : Post) (pair : Pair) → post.world.processes ≡
     → post.owed ≡ letter_to 1 ∷ [] → is_running post.world.stopped 1 ≡ false
     → ((number : ℕ) → (run_done site number post.world ≡ None) × (enter_done site number post.world ≡ None))
     → ((node processor : ℕ) → is_running post.world.stopped node ≡ true
-    → slice_get post.world.stopped processor ≡ Some true → has_noted post.world.marks node processor ≡ true)
+    → slice_get post.world.stopped processor ≡ Some true → has_noted post.world.downs node processor ≡ true)
     → IsIdle site post
 idle-by site post pair processes rest owed stopped none marked = record {
   enters = λ number sendings next change.
@@ -78,7 +78,7 @@ rest-there Second acts = cc
 
 -- of the nodes that run there is only that of the terminals
 only-there : (node processor : ℕ) → is_running (true ∷ []) node ≡ true → slice_get (true ∷ []) processor ≡ Some true
-    → has_noted one_is_there.0.world.marks node processor ≡ true
+    → has_noted one_is_there.0.world.downs node processor ≡ true
 only-there zero processor runs down = absurd (cc)
 only-there (suc node) zero runs down = rw (eqb-true (suc node) 16 runs) refl
 only-there (suc node) (suc processor) runs down = absurd (cc)

@@ -1,4 +1,5 @@
-use Rattle.path_steps.proofs.Stepping.{inner-steps, took-steps, asked-steps, got-steps, answered-steps, marked-steps}
+use Rattle.path_steps.proofs.Stepping.{inner-steps, took-steps, asked-steps, got-steps, answered-steps}
+use Rattle.path_steps.proofs.Stepping.{checkpointed-steps}
 use Rattle.path_steps.proofs.Stepping.{asked-room}
 use Rattle.path_steps.proofs.laws.steps_follow_paths.Goals as goal
 
@@ -9,6 +10,6 @@ returns c = record {
   asked = asked-steps;
   got = got-steps;
   answered = answered-steps;
-  marked = marked-steps;
+  checkpointed = checkpointed-steps;
   room = asked-room;
 }

@@ -6,7 +6,7 @@ use Rattle.tal_tree.specs.declared.site.Who.TheVariants as who
 use Rattle.gd_words.specs.declared.device.DeviceCall.TheVariants as call
 use Rattle.plain_semantics.specs.Machine.{next_request}
 use Rattle.process_histories.specs.whole_states.specs.Processes.{IsRegularKind}
-use Rattle.process_histories.specs.world_semantics.specs.Core.{Checkpointed, Took, Answered, Acted, marks, takes}
+use Rattle.process_histories.specs.world_semantics.specs.Core.{Checkpointed, Took, Answered, Acted, checkpoints, takes}
 use Rattle.process_histories.specs.world_semantics.specs.Core.{answers, acts}
 use Rattle.process_histories.specs.world_semantics.proofs.Lists.{some-same}
 use Rattle.process_histories.specs.Histories.{nothing_done, one_more}
@@ -25,22 +25,23 @@ took : AreBooked disc_site (Take 0 0 ∷ Enter 0 ∷ []) [] (with_deed 0 (Took 0
 took = deed_booked 0 disc (Took 0 (pos 2 ∷ pos 1 ∷ pos 5 ∷ [])) _ _ entered refl nothing_done (takes _ refl refl)
     (who.Terminal 0, refl, refl)
 
-marked : AreBooked disc_site (Step 0 ∷ Take 0 0 ∷ Enter 0 ∷ []) []
+checkpointed : AreBooked disc_site (Step 0 ∷ Take 0 0 ∷ Enter 0 ∷ []) []
     (with_deed 0 Checkpointed (with_deed 0 (Took 0 (pos 2 ∷ pos 1 ∷ pos 5 ∷ [])) asked))
-marked = deed_booked 0 disc Checkpointed _ _ took refl
-    (one_more nothing_done (takes {words = pos 2 ∷ pos 1 ∷ pos 5 ∷ []} _ refl refl)) (marks refl) tt
+checkpointed = deed_booked 0 disc Checkpointed _ _ took refl
+    (one_more nothing_done (takes {words = pos 2 ∷ pos 1 ∷ pos 5 ∷ []} _ refl refl)) (checkpoints refl) tt
 
 written : AreBooked disc_site (Step 0 ∷ Step 0 ∷ Take 0 0 ∷ Enter 0 ∷ []) (Write 0 1 (sector_with (pos 5)) ∷ [])
     (with_deed 0 (Acted (call.Write 1 (sector_with (pos 5)) 1) (sector_with (pos 0)))
     (with_deed 0 Checkpointed (with_deed 0 (Took 0 (pos 2 ∷ pos 1 ∷ pos 5 ∷ [])) asked)))
-written = deed_booked 0 disc (Acted (call.Write 1 (sector_with (pos 5)) 1) (sector_with (pos 0))) _ _ marked refl
-    (one_more (one_more nothing_done (takes {words = pos 2 ∷ pos 1 ∷ pos 5 ∷ []} _ refl refl)) (marks refl))
+written = deed_booked 0 disc (Acted (call.Write 1 (sector_with (pos 5)) 1) (sector_with (pos 0))) _ _ checkpointed refl
+    (one_more (one_more nothing_done (takes {words = pos 2 ∷ pos 1 ∷ pos 5 ∷ []} _ refl refl)) (checkpoints refl))
     (acts refl refl) refl
 
 answered : AreBooked disc_site (Step 0 ∷ Step 0 ∷ Step 0 ∷ Take 0 0 ∷ Enter 0 ∷ [])
     (Write 0 1 (sector_with (pos 5)) ∷ []) served
 answered = deed_booked 0 disc (Answered 0 (pos 0 ∷ [])) _ _ written refl
-    (one_more (one_more (one_more nothing_done (takes {words = pos 2 ∷ pos 1 ∷ pos 5 ∷ []} _ refl refl)) (marks refl))
+    (one_more (one_more (one_more nothing_done (takes {words = pos 2 ∷ pos 1 ∷ pos 5 ∷ []} _ refl refl))
+    (checkpoints refl))
     (acts {found = sector_with (pos 0)} refl refl)) (answers _ _ refl refl refl refl refl) tt
 
 regular : AreRegular disc_site

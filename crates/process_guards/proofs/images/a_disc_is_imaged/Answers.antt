@@ -6,7 +6,7 @@ pub returns : goal.returns
 unfolding int_wrap
 returns c = record {
   take = refl;
-  mark = refl;
+  checkpoint = refl;
   device = refl;
   answer = refl;
   empty = refl;

@@ -1,5 +1,5 @@
 use Rattle.whole_states.proofs.Processes.{stays-away, inner-process, took-away, asked-awaits, got-process}
-use Rattle.whole_states.proofs.Processes.{answered-process, marked-process, device-away}
+use Rattle.whole_states.proofs.Processes.{answered-process, checkpointed-process, device-away}
 use Rattle.whole_states.proofs.laws.only_asking_awaits.Goals as goal
 
 pub returns : goal.returns
@@ -9,6 +9,6 @@ returns c = record {
   took = took-away;
   got = λ s words is at. stays-away _ (got-process s words at is);
   answered = λ s is at. stays-away _ (answered-process s at is);
-  marked = λ s is at. stays-away _ (marked-process s at is);
+  checkpointed = λ s is at. stays-away _ (checkpointed-process s at is);
   device = device-away;
 }

@@ -1,5 +1,5 @@
 use Rattle.whole_states.proofs.Processes.{stays-whole, start-process, inner-process, took-process, asked-process}
-use Rattle.whole_states.proofs.Processes.{got-process, answered-process, marked-process, device-process}
+use Rattle.whole_states.proofs.Processes.{got-process, answered-process, checkpointed-process, device-process}
 use Rattle.whole_states.proofs.laws.states_stay_whole.Goals as goal
 
 pub returns : goal.returns
@@ -10,6 +10,6 @@ returns c = record {
   asked = asked-process;
   got = λ s words at is. stays-whole _ (got-process s words at is);
   answered = λ s at is. stays-whole _ (answered-process s at is);
-  marked = λ s at is. stays-whole _ (marked-process s at is);
+  checkpointed = λ s at is. stays-whole _ (checkpointed-process s at is);
   device = device-process;
 }

@@ -4,4 +4,4 @@ use Rattle.world_copies.proofs.reloading.have_noted.Given as goal
 
 abbrev pub invariant-loop-node : goal.invariant-loop-node
 invariant-loop-node l =
-    noted_from l.marks l.processor 0 l.stopped ≡ noted_from l.marks l.processor l.node (drop l.node l.stopped)
+    noted_from l.downs l.processor 0 l.stopped ≡ noted_from l.downs l.processor l.node (drop l.node l.stopped)

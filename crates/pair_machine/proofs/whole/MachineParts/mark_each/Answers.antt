@@ -1,7 +1,7 @@
 use Rattle.std.proofs.Common.{◌≡◌, ◌<◌, ◌∙◌, ap, length, subst, sym, arith}
 use Rattle.message_wires.specs.Play.{MachineState, notes_from}
 use Rattle.world_copies.specs.Room.{AllWatchersHaveRoom}
-use Rattle.pair_machine.proofs.Marks.{marks-step}
+use Rattle.pair_machine.proofs.Marks.{downs-step}
 use Rattle.pair_machine.proofs.Room.{mark-counted, mark-room}
 use Rattle.pair_machine.proofs.whole.MachineParts.mark_each.Goals as goal
 
@@ -28,7 +28,7 @@ loop-processor-preserved c =
     omega (arith, same, c.processors-processor-end.ensures, c.loop-processor-test.true) in
     record {
       left =
-          marks-step c.args.node c.loop-processor.processor count c.loop-processor.self c.mark.new.self within
+          downs-step c.args.node c.loop-processor.processor count c.loop-processor.self c.mark.new.self within
           c.in_ok-mark.ensures
           ∙ c.loop-processor.invariant.left;
       watching =

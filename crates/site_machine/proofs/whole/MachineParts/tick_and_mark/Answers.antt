@@ -6,7 +6,7 @@ use Rattle.node.specs.machine_states.specs.declared.effect.Effect.TheVariants as
 use Rattle.node.specs.packet_wires.specs.Play.{Packeted, ended, pulled}
 use Rattle.node.specs.event_parts.specs.Numbers.{CanPush}
 use Rattle.open_links.specs.world_copies.specs.Room.{AllWatchersHaveRoom}
-use Rattle.site_machine.specs.Needs.{MarksWithin}
+use Rattle.site_machine.specs.Needs.{DownsWithin}
 use Rattle.site_machine.specs.Told.{in_tick}
 use Rattle.site_machine.proofs.Stops.{stop-by}
 use Rattle.site_machine.proofs.Ticks.{first-settles, none-settles, ready-watching, running-pulled, stopped-pulled}
@@ -62,7 +62,7 @@ mark_and_declare-requires-2-clause-within c =
     c.requires.stopped ∙ ap (λ (b : Bool). Some b) c.if-stopped.false in
     let whole : is_whole c.args.self.now.world ≡ true =
     sym (ap (λ (s : Packeted). is_whole s.world) c.self.view_is) ∙ sym c.is_whole.ensures ∙ c.if-not-is_whole.false in
-    subst (λ (s : Packeted). MarksWithin s.site s.world)
+    subst (λ (s : Packeted). DownsWithin s.site s.world)
     (sym (c.stop.ensures ∙ ap (λ (s : Packeted). record s { world = stopped_world c.args.processor s.world })
     c.in_ok-tick_wires-2.ensures))
     (c.requires.ready.messages.pulled c.args.processor

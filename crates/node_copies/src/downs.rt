@@ -1,5 +1,5 @@
 ghost use Rattle.std.specs.Prelude.{◌≡◌, ◌==◌, ◌&&◌, [], ◌∷◌, OnOk};
-ghost use Rattle.kept_acts.specs.world_semantics.specs.Rules.{without_marks};
+ghost use Rattle.kept_acts.specs.world_semantics.specs.Rules.{without_downs};
 ghost use Rattle.kept_acts.specs.world_semantics.specs.World.{has_noted};
 
 use gd_words::NoMemory;
@@ -43,7 +43,7 @@ impl Model for Downs {
 
     ghost Value = { List world.Down };
 
-    ghost view = { λ marks. marks.items.items };
+    ghost view = { λ downs. downs.items.items };
 }
 
 impl Downs {
@@ -80,14 +80,14 @@ impl Downs {
 
     /// A processor is loaded again: no node has marked it any more.
     pub fn remove(&mut self, down: u8)
-        ensures { self.new ≡ without_marks down self.old }
+        ensures { self.new ≡ without_downs down self.old }
     {
         self.items.retain(|mark| mark.down != down);
     }
 }
 
-fn has_marked(marks: &[NotedDown], node: usize, down: usize) -> bool
-    ensures { result ≡ has_noted marks.now node down }
+fn has_marked(downs: &[NotedDown], node: usize, down: usize) -> bool
+    ensures { result ≡ has_noted downs.now node down }
 {
-    marks.iter().any(|mark| mark.is(node, down))
+    downs.iter().any(|mark| mark.is(node, down))
 }

@@ -1,6 +1,6 @@
 use Rattle.std.proofs.Common.{rules, ◌==◌, not, refl}
 use Rattle.std.proofs.lemmas.Fn.{filter_same}
-use Rattle.node_copies.proofs.marks.Downs.remove.Goals as goal
+use Rattle.node_copies.proofs.downs.Downs.remove.Goals as goal
 
 pub returns : goal.returns
 returns c =
