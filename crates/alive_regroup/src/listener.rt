@@ -18,19 +18,22 @@ pub struct Listener {
     up: [bool; 16],
     /// Whether a check changes nothing, if an alive packet came from each that is up.
     calm: bool,
+    /// Whether the next tick checks, and that is so of it.
+    checks_calmly: bool,
 }
 
 impl Model for Listener {
-    ghost use Rattle.std.specs.Prelude.{◌≡◌, true, map};
+    ghost use Rattle.std.specs.Prelude.{◌≡◌, ◌&&◌, true, map};
     ghost use Rattle.alive_regroup.specs.Listening.{is_calm, watch_after};
-    ghost use Rattle.alive_regroup.specs.Watching.{Watching, is_up};
+    ghost use Rattle.alive_regroup.specs.Watching.{Watching, does_check, is_up};
 
     ghost Value = { Watching };
 
     ghost view = { λ listener. watch_after listener.heard listener.watch };
 
     ghost invariant = { λ listener. (listener.up ≡ map is_up listener.watch.neighbours)
-        × (listener.calm ≡ true → is_calm listener.watch ≡ true) };
+        × (listener.calm ≡ true → is_calm listener.watch ≡ true)
+        × (listener.checks_calmly ≡ true → (is_calm listener.watch && does_check listener.watch) ≡ true) };
 }
 
 impl Listener {
@@ -47,11 +50,13 @@ impl Listener {
     {
         let up = watch.up();
         let calm = watch.is_calm();
+        let checks_calmly = calm && watch.does_check();
         Listener {
             watch,
             heard: [false; 16],
             up,
             calm,
+            checks_calmly,
         }
     }
 
@@ -114,16 +119,20 @@ impl Listener {
         ensures told { result ≡ told_by_tick self.old }
         ensures after { self.new ≡ after_tick self.old }
     {
-        if !self.watch.does_check() {
-            self.watch.wait();
-            return None;
-        }
-        if self.calm && !differ(&self.heard, &self.up) {
+        if self.checks_calmly && !differ(&self.heard, &self.up) {
             self.watch.pass();
             self.heard = [false; 16];
+            self.checks_calmly = false;
             return None;
         }
-        self.look()
+        if self.watch.does_check() {
+            return self.look();
+        }
+        self.watch.wait();
+        if !self.watch.never_checks() {
+            self.checks_calmly = self.calm;
+        }
+        None
     }
 
     /// A tick at which each processor is looked at.

@@ -1,4 +1,4 @@
-ghost use Rattle.std.specs.Prelude.{◌≡◌, ◌<◌, ◌+◌, Some, take, drop, true, false, map, not, slice_get};
+ghost use Rattle.std.specs.Prelude.{◌≡◌, ◌<◌, ◌+◌, Some, take, drop, true, false, map, nat_lt, not, slice_get};
 ghost use Rattle.std.specs.List.{list_all};
 ghost use Rattle.alive_regroup.specs.Sets.{has};
 ghost use Rattle.alive_regroup.specs.Watching.{Watching, neighbour_after_report};
@@ -132,6 +132,13 @@ impl Watch {
         ensures { result ≡ does_check self.now }
     {
         self.me < 16 && self.checks
+    }
+
+    /// Whether the node is that of the terminals, whose ticks never check.
+    pub(crate) fn never_checks(&self) -> bool
+        ensures { result ≡ not (nat_lt self.now.me 16) }
+    {
+        16 <= self.me
     }
 
     /// The node's tick: the silent set to report, where a check changed it or a report is due.

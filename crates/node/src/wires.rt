@@ -302,8 +302,8 @@ impl PacketWires {
         ensures { OnOk result (self.new ≡ carried_out (ticked processors from) self.old) }
     {
         self.tell_alive(from, processors);
-        self.check(from, processors)?;
-        self.resend(from);
+        let holding = self.check(from, processors)?;
+        self.resend(from, holding);
         Ok(())
     }
 
@@ -337,39 +337,33 @@ impl PacketWires {
         self.put_both(packet);
     }
 
+    /// A node checks, and reports what that changed. Answers whether an end of it holds something, outstanding or queued.
     #[inline(always)]
-    fn check(&mut self, from: u8, processors: u8) -> Result<(), NoMemory>
+    fn check(&mut self, from: u8, processors: u8) -> Result<bool, NoMemory>
         requires { CanPush self.old.nodes }
-        ensures { OnOk result (self.new ≡ carried_out (checks processors from) self.old) }
+        ensures after { OnOk result (self.new ≡ carried_out (checks processors from) self.old) }
+        ensures holding { IfOk result (λ holding. OnFalse holding
+            ((other : ℕ) → holds_nothing (end_at self.new.nodes from other) ≡ true)) }
     {
         let place = usize::from(from);
         if place >= self.nodes.len() {
-            return Ok(());
+            return Ok(false);
         }
-        let told = self.nodes[place].check();
-        self.report(from, processors, told)?;
-        Ok(())
-    }
-
-    #[inline(always)]
-    fn report(
-        &mut self,
-        from: u8,
-        processors: u8,
-        told: Option<ProcessorSet>,
-    ) -> Result<(), NoMemory>
-        requires { CanPush self.old.nodes }
-        ensures { OnOk result (self.new ≡ carried_out (reports processors from told) self.old) }
-    {
-        if let Some(silent) = told {
-            self.report_set(from, processors, silent)?;
+        let node = &mut self.nodes[place];
+        let told = node.check();
+        let holding = node.holds_any();
+        match told {
+            None => Ok(holding),
+            Some(silent) => {
+                self.report(from, processors, silent)?;
+                Ok(self.holds_any(from))
+            }
         }
-        Ok(())
     }
 
     /// A node reports this silent set to the other processors. Out of line, as few ticks need it.
     #[inline(never)]
-    fn report_set(&mut self, from: u8, processors: u8, silent: ProcessorSet) -> Result<(), NoMemory>
+    fn report(&mut self, from: u8, processors: u8, silent: ProcessorSet) -> Result<(), NoMemory>
         requires { CanPush self.old.nodes }
         ensures { OnOk result (self.new ≡ carried_out (reports processors from (Some silent)) self.old) }
     {
@@ -414,17 +408,18 @@ impl PacketWires {
         Ok(())
     }
 
+    /// A node sends again what is outstanding, if it is told that an end of it holds something.
     #[inline(always)]
-    fn resend(&mut self, from: u8)
+    fn resend(&mut self, from: u8, holding: bool)
+        requires { OnFalse holding ((other : ℕ) → holds_nothing (end_at self.old.nodes from other) ≡ true) }
         ensures { self.new ≡ carried_out (resends from) self.old }
     {
-        if self.holds_any(from) {
+        if holding {
             self.resend_held(from);
         }
     }
 
     /// Whether an end of a node holds something, outstanding or queued.
-    #[inline(always)]
     fn holds_any(&self, node: u8) -> bool
         ensures { OnFalse result ((other : ℕ) → holds_nothing (end_at self.now.nodes node other) ≡ true) }
     {
@@ -434,7 +429,7 @@ impl PacketWires {
         }
     }
 
-    /// The same of a node that holds something. Out of line, so that a tick with nothing outstanding has little to do.
+    /// A node sends again what is outstanding. Out of line, so that a tick with nothing outstanding has little to do.
     #[inline(never)]
     fn resend_held(&mut self, from: u8)
         ensures { self.new ≡ carried_out (resends from) self.old }

@@ -17,7 +17,7 @@ pub mod sent;
 mod starting;
 mod telling;
 mod turning;
-pub mod two;
+mod two;
 
 pub use copies::ProcessCopies;
 pub use disc_device::{Disc, DriveState};

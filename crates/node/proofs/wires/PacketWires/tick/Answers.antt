@@ -11,7 +11,7 @@ pub returns : goal.returns
 returns c =
     c.resend.ensures
     ∙ ap (carried_out (resends c.args.from))
-    (c.in_ok-check.ensures ∙ ap (carried_out (checks c.args.processors c.args.from)) c.tell_alive.ensures
+    (c.in_ok-holding.ensures.after ∙ ap (carried_out (checks c.args.processors c.args.from)) c.tell_alive.ensures
     ∙ carried-then (tells_alive c.args.processors c.args.from) (checks c.args.processors c.args.from) c.args.self.now
     (adds-checks c.args.processors c.args.from))
     ∙ carried-then (λ midst. checks c.args.processors c.args.from (tells_alive c.args.processors c.args.from midst))
