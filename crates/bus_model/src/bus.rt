@@ -125,7 +125,8 @@ impl Bus {
     }
 }
 
-/// Moves the packets behind those that were taken off to the front, in their place. Out of line, as few packets need it.
+/// Moves the packets behind those that were taken off to the front, in their place. Out of line, as few packets need
+/// it.
 #[inline(never)]
 fn move_to_front(packets: &mut Vec<Packet>, taken: usize)
     requires some { taken ≤ length packets.old.items }

@@ -114,8 +114,8 @@ pub fn a_deck_has_advice_or_a_cause()
         → IsDue words (Some bytes) before now decided → decided ≢ due.ReadFault → IsDueOfAdvice deck decided }
 {}
 
-/// Where the words ask for a load, what is due is the report of a run of the load deck, told in counts, or want of
-/// memory.
+/// If the words ask for a load, what is due is the report of a run of the load deck, told in counts, or that memory ran
+/// out.
 pub fn a_load_is_run()
     ensures { (words : List (List ℕ)) (left : Option (List ℕ)) (before now count : ℕ) (decided : Due)
         → asked_by words ≡ Some (Load count)

@@ -20,7 +20,7 @@ fn enter(share: &mut CopyShare, act: Act, kept: &mut KeptActs) -> Result<(), Fai
 }
 
 #[test]
-fn what_is_held_is_kept_with_the_mark(rt: HostRuntime) -> Result<(), Fail> {
+fn what_is_held_is_kept_with_the_checkpoint(rt: HostRuntime) -> Result<(), Fail> {
     let mut kept = KeptActs::new(rt.alloc())?;
     let mut share = CopyShare::new(rt.alloc());
     enter(&mut share, STEP, &mut kept)?;
@@ -75,8 +75,8 @@ fn what_is_behind_is_covered_as_far_as_it_came(rt: HostRuntime) -> Result<(), Fa
     kept.keep(STEP)?;
     kept.keep(STEP)?;
     enter(&mut share, STEP, &mut kept)?;
-    let at_mark = share.cover(1, Point::AtCheckpoint, &mut kept)?;
-    assert_eq!(rt; at_mark, 2);
+    let at_checkpoint = share.cover(1, Point::AtCheckpoint, &mut kept)?;
+    assert_eq!(rt; at_checkpoint, 2);
     assert_eq!(rt; share.position(), 1);
     let inside = share.cover(1, Point::Inner, &mut kept)?;
     assert_eq!(rt; inside, 1);

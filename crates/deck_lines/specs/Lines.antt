@@ -27,11 +27,12 @@ words_of (c ∷ cs) = if c == 32 then words_of cs else onto c cs (words_of cs)
 abbrev pub is_printable : List ℕ → Bool
 is_printable line = list_all (λ c. nat_le 32 c && nat_le c 126) line
 
--- no words; the words where there are just one to four
+-- whether there are no words
 abbrev pub is_blank : List (List ℕ) → Bool
 is_blank [] = true
 is_blank (word ∷ words) = false
 
+-- the words, if there are just one to four
 abbrev pub one_word : List (List ℕ) → Option (List ℕ)
 one_word [] = None
 one_word (word ∷ rest) = if is_blank rest then Some word else None

@@ -120,12 +120,12 @@ fn a_reply_to_a_request_read_since_breaks(rt: HostRuntime) -> Result<(), Fail> {
 CALL READUPDATE(rcv, b, 1, n); CALL REPLY(b, 1) END;",
     )?;
     assert!(rt; breaks_there(alloc, &at_once, &[1, 2, 3, 4], Reason::Input)?);
-    let marked = program_of(
+    let with_checkpoint = program_of(
         alloc,
         b"INT rcv, n; INT b[0:3]; PROC m MAIN; BEGIN CALL CHECKMONITOR; CALL OPEN(\"$RECEIVE\", rcv, 1);
 CALL READUPDATE(rcv, b, 1, n); CALL CHECKPOINT(b, n); CALL REPLY(b, 1) END;",
     )?;
-    assert!(rt; leads_somewhere(alloc, &marked, &[1, 2, 3, 4, 5])?);
-    assert!(rt; !breaks_there(alloc, &marked, &[1, 2, 3, 4, 5], Reason::Input)?);
+    assert!(rt; leads_somewhere(alloc, &with_checkpoint, &[1, 2, 3, 4, 5])?);
+    assert!(rt; !breaks_there(alloc, &with_checkpoint, &[1, 2, 3, 4, 5], Reason::Input)?);
     Ok(())
 }

@@ -8,8 +8,8 @@ abbrev pub Leaves : Option (List ℕ) → Option (List ℕ) → List ℕ → Lis
 Leaves None now bytes rest = Unit {0}
 Leaves (Some left) now bytes rest = (left ≡ bytes) × (now ≡ Some rest)
 
--- at most `most` bytes are given back as they are, more are refused after one byte too many; a failure or want of
--- memory leaves what was not yet taken
+-- at most `most` bytes are given back as they are, more are refused after one byte too many; if reading fails or memory
+-- runs out, what was not yet taken is left
 abbrev pub ReadsAll : ℕ → List ℕ → List ℕ → Result (List ℕ) SourceFault → Type 0
 ReadsAll most bytes rest (Ok all) = (all ≡ bytes) × (length bytes ≤ most) × (rest ≡ [])
 ReadsAll most bytes rest (Err TooLong) = (most < length bytes) × (rest ≡ drop (most + 1) bytes)

@@ -40,7 +40,7 @@ impl TextSink {
         List::from_vec(self.held)
     }
 
-    /// That memory ran out, if a write failed for that.
+    /// What the write that failed met: memory ran out.
     pub fn memory(&self) -> NoMemory
         requires { 0 < ⟦<TextSink as Sink>⟧.faults self.now }
     {

@@ -37,8 +37,8 @@ impl<T: Drop> Shared<T> {
         Ok(Shared { inner })
     }
 
-    /// One more owner of the same value. No memory is taken; want of it is answered where there are as many owners as
-    /// can be counted.
+    /// One more owner of the same value. No memory is taken; `NoMemory` is answered if there are as many owners as can
+    /// be counted.
     pub fn share(&self) -> Result<Shared<T>, NoMemory>
         ensures { IfOk result (λ shared. shared ≡ self.now) }
     {

@@ -1,6 +1,7 @@
 -- How many ends of a node hold something, and what is told by that.
 use Rattle.std.proofs.Common.{◌≡◌, ◌≤◌, ◌<◌, ◌+◌, ◌∙◌, ℕ, zero, suc, Bool, true, false, not}
-use Rattle.std.proofs.Common.{List, [], ◌∷◌, Some, inl, inr, slice_get, slice_set, length, take, get_or, refl, ap, arith}
+use Rattle.std.proofs.Common.{List, [], ◌∷◌, Some, inl, inr, slice_get, slice_set, length, take, get_or, refl, ap}
+use Rattle.std.proofs.Common.{arith}
 use Rattle.std.proofs.Math.Nat.{eq-or-lt_of_le}
 use Rattle.std.proofs.lemmas.List.{length-set, take_all}
 use Rattle.event_parts.specs.packet_wires.specs.world_semantics.proofs.Lists.{some-same}

@@ -11,7 +11,7 @@ use Rattle.disc_device.specs.Sectors.{Stored}
 use Rattle.disc_device.specs.mirror.specs.Mirror.{DriveHeld, content}
 use Rattle.disc_device.specs.mirror.specs.States.{states_of}
 use Rattle.disc_device.specs.mirror.specs.declared.state.DriveState.{DriveState}
-use Rattle.process_control.specs.Copies.{CopyState}
+use Rattle.process_control.specs.Copies.{CopyState, state_of}
 use Rattle.kept_acts.specs.world_semantics.specs.Shares.{Share}
 use Rattle.kept_acts.specs.world_semantics.specs.World.{Copy}
 use Rattle.kept_acts.specs.world_semantics.specs.Messages.{Sending}
@@ -41,16 +41,7 @@ copy_with processor control waiting share = record {
 
 -- a copy by itself
 abbrev pub control_of : CopyAndDepths → CopyState
-control_of one = record {
-  role = one.copy.role;
-  era = one.copy.era;
-  number = one.copy.number;
-  sent = one.copy.sent;
-  acknowledged = one.copy.acknowledged;
-  renewal = one.copy.renewal;
-  core = one.copy.core;
-  depths = one.depths;
-}
+control_of one = state_of one.depths one.copy
 
 -- the sectors of a process's device, if it has one
 abbrev pub sectors_on : Option (List DriveHeld) → List Stored

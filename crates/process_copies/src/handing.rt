@@ -241,7 +241,7 @@ impl ProcessCopies {
         Ok(step)
     }
 
-    /// A copy applies a checkpoint, or ignores it.
+    /// A copy applies a checkpoint, or ignores it. Whether it applied it is answered.
     fn apply(&mut self, which: Which, message: &ImageMessage) -> bool
         ensures told { result ≡ is_some (core_by which self.old message.now) }
         ensures process { self.new
@@ -342,7 +342,7 @@ impl ProcessCopies {
         Ok(step)
     }
 
-    /// A copy applies a checkpoint that came as what changed, or ignores it.
+    /// A copy applies a checkpoint that came as what changed, or ignores it. Whether it applied it is answered.
     fn apply_change(&mut self, which: Which, change: &ChangeMessage) -> bool
         ensures told { result ≡ is_some (core_changed_by which self.old change.now) }
         ensures process { self.new

@@ -65,7 +65,7 @@ pub fn a_loop_stands_by_its_numbers()
 pub fn a_checkpoint_is_passed_and_an_end_has_no_frames()
     ensures checkpoint { image_of (0 ∷ []) (running (called_at (Run checkpoints ∷ Run gives ∷ []) ∷ calling ∷ []))
         ≡ pos 2 ∷ pos 1 ∷ pos 6 ∷ pos 2 ∷ pos 0 ∷ pos 2 ∷ pos 5 ∷ negsuc 0 ∷ pos 1 ∷ pos 0 ∷ pos 7 ∷ [] }
-    ensures mark_restored { restored fresh true
+    ensures checkpoint_restored { restored fresh true
         (pos 2 ∷ pos 1 ∷ pos 6 ∷ pos 2 ∷ pos 0 ∷ pos 2 ∷ pos 5 ∷ negsuc 0 ∷ pos 1 ∷ pos 0 ∷ pos 7 ∷ [])
         ≡ Some (after_checkpoint (running (called_at (Run checkpoints ∷ Run gives ∷ []) ∷ calling ∷ []))) }
     ensures end { image_of (0 ∷ []) ended ≡ pos 0 ∷ pos 1 ∷ pos 0 ∷ pos 7 ∷ [] }

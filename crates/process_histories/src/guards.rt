@@ -16,7 +16,7 @@ ghost use Rattle.process_histories.specs.Served.{disc, disc_site, sector_with, o
 pub fn a_disc_serves_a_request()
     ensures begins { HasDone disc_site 0 disc [] (core_at_boot disc_site 0 disc) }
     ensures serves { HasDone disc_site 0 disc one_write after_one }
-    ensures no_mark { (core : Core) → HasDone disc_site 0 disc
+    ensures no_checkpoint { (core : Core) → HasDone disc_site 0 disc
         (Acted (Write 1 (sector_with (pos 5)) 1) (sector_with (pos 0)) ∷ Took 0 (pos 2 ∷ pos 1 ∷ pos 5 ∷ []) ∷ []) core
         → ⊥ }
     ensures not_asked { (core : Core) → HasDone disc_site 0 disc (Took 1 (pos 1 ∷ []) ∷ []) core → ⊥ }

@@ -78,6 +78,6 @@ pub fn everything_is_named()
 pub fn checkpoints_are_sent_where_they_may_be()
     ensures awaits { (copy : Copy) → point_at copy ≡ Await → MaySend copy → ⊥ }
     ensures inner { (copy : Copy) → point_at copy ≡ Inner → copy.renewal ≡ false → MaySend copy → ⊥ }
-    ensures mark { (copy : Copy) → point_at copy ≡ AtCheckpoint → MaySend copy }
+    ensures checkpoint { (copy : Copy) → point_at copy ≡ AtCheckpoint → MaySend copy }
     ensures elsewhere { (copy : Copy) → point_at copy ≢ Await → copy.renewal ≡ true → MaySend copy }
 {}

@@ -150,7 +150,7 @@ fn print_told(site: &Site, line: &[u8]) -> Option<Act>
     Some(Act::Print(terminal))
 }
 
-/// A write or a reply.
+/// Whether it is a write or a reply.
 fn is_shown(site: &Site, line: &[u8]) -> bool
     requires { KeepsSiteLimits site.now }
     ensures { result ≡ is_shown site.now line.now }
@@ -174,7 +174,7 @@ fn is_reply(site: &Site, line: &[u8]) -> bool
     terminal_named(site, name).is_some() && words <= 16
 }
 
-/// What stands on a sector.
+/// Whether it tells what stands on a sector.
 fn is_sector(site: &Site, line: &[u8]) -> bool
     requires { KeepsSiteLimits site.now }
     ensures { result ≡ is_sector site.now line.now }
@@ -185,7 +185,7 @@ fn is_sector(site: &Site, line: &[u8]) -> bool
     }
 }
 
-/// A sector of the site, and eight words.
+/// Whether it is a sector of the site, and eight words.
 fn is_write_text(site: &Site, text: &[u8]) -> bool
     requires { KeepsSiteLimits site.now }
     ensures { result ≡ is_write_text site.now text.now }

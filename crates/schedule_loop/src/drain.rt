@@ -74,7 +74,7 @@ impl Drain {
         self.play(rest, machine, Event::Tick(16), Place::Before)
     }
 
-    /// The terminals enter.
+    /// The terminals enter, and whether that was done is answered.
     #[inline(always)]
     fn enter<M: ScheduleMachine>(&mut self, rest: u32, machine: &mut M) -> Result<bool, NoMemory>
         requires can { IsDrained M.rules M.is_ready self.old (M.state machine.old) }
@@ -99,7 +99,7 @@ impl Drain {
         Ok(true)
     }
 
-    /// The processes run.
+    /// The processes run, and whether that was done is answered.
     #[inline(always)]
     fn run<M: ScheduleMachine>(&mut self, rest: u32, machine: &mut M) -> Result<bool, NoMemory>
         requires can { IsDrained M.rules M.is_ready self.old (M.state machine.old) }
@@ -119,7 +119,7 @@ impl Drain {
         Ok(true)
     }
 
-    /// Bus X delivers the packets that are on it.
+    /// Bus X delivers the packets that are on it, and whether that was done is answered.
     #[inline(always)]
     fn deliver_x<M: ScheduleMachine>(
         &mut self,
@@ -140,7 +140,7 @@ impl Drain {
         self.deliver(rest, machine, false, counts.x)
     }
 
-    /// Bus Y delivers the packets that are on it.
+    /// Bus Y delivers the packets that are on it, and whether that was done is answered.
     #[inline(always)]
     fn deliver_y<M: ScheduleMachine>(
         &mut self,
@@ -160,7 +160,7 @@ impl Drain {
         self.deliver(rest, machine, true, counts.y)
     }
 
-    /// A bus delivers so many packets.
+    /// A bus delivers so many packets, and whether that was done is answered.
     #[inline(always)]
     fn deliver<M: ScheduleMachine>(
         &mut self,
@@ -188,7 +188,7 @@ impl Drain {
         Ok(true)
     }
 
-    /// A bus delivers its first packet, and so many are left.
+    /// A bus delivers its first packet, if so many are left. Whether that was done is answered.
     #[inline(always)]
     fn deliver_one<M: ScheduleMachine>(
         &mut self,
@@ -217,7 +217,7 @@ impl Drain {
         self.play(rest, machine, Event::Deliver { y, k: 0 }, place)
     }
 
-    /// The processors tick.
+    /// The processors tick, and whether that was done is answered.
     #[inline(always)]
     fn tick<M: ScheduleMachine>(&mut self, rest: u32, machine: &mut M) -> Result<bool, NoMemory>
         requires can { IsDrained M.rules M.is_ready self.old (M.state machine.old) }

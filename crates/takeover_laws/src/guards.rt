@@ -29,6 +29,6 @@ pub fn a_copy_that_watches_does_not_lead()
 /// Neither a checkpoint nor a take is done anew after a takeover; all else may be.
 pub fn deeds_are_done_anew()
     ensures others { AreRepeatable (Went ∷ Asked 0 [] ∷ Got 0 [] ∷ Answered 0 [] ∷ Acted Nothing [] ∷ []) }
-    ensures mark { AreRepeatable (Went ∷ Checkpointed ∷ []) → ⊥ }
+    ensures checkpoint { AreRepeatable (Went ∷ Checkpointed ∷ []) → ⊥ }
     ensures take { AreRepeatable (Went ∷ Took 0 [] ∷ []) → ⊥ }
 {}

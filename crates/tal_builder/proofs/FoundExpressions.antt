@@ -10,7 +10,7 @@ use Rattle.tal_syntax.specs.Grammar as g
 use Rattle.tal_syntax.specs.Expected.{AllAtMost}
 use Rattle.tal_syntax.specs.Nesting.{nest_expr, nest_ors, nest_both, nest_ands, nest_neg, nest_compared, nest_sum}
 use Rattle.tal_syntax.specs.Nesting.{nest_terms, nest_product, nest_factors, nest_factor, nest_spot, nest_index}
-use Rattle.tal_builder.specs.declared.plain_token.PlainToken.TheVariants as mark
+use Rattle.tal_builder.specs.declared.plain_token.PlainToken.TheVariants as plain
 use Rattle.tal_builder.specs.First.{called_of, string_of, is_value, rel_of, sign_of, scale_of}
 use Rattle.tal_builder.specs.PlainTokens.{plain_of}
 use Rattle.tal_builder.specs.Parse.{Found, rest_by, rest_after, compared_after, compared_by, relation_by, neg_by}
@@ -23,7 +23,7 @@ use Rattle.tal_builder.proofs.Steps.{parens-found, index-found, relation-found, 
 
 -- what follows a part doesn't go on to be of it
 abbrev pub QuitsFactor : List Token → Type 0
-QuitsFactor ks = (plain_of mark.OpenIndex ks ≡ None) × (plain_of mark.Open ks ≡ None)
+QuitsFactor ks = (plain_of plain.OpenIndex ks ≡ None) × (plain_of plain.Open ks ≡ None)
 
 abbrev pub QuitsProduct : List Token → Type 0
 QuitsProduct ks = QuitsFactor ks × (scale_of ks ≡ None)
@@ -35,10 +35,10 @@ abbrev pub QuitsNeg : List Token → Type 0
 QuitsNeg ks = QuitsSum ks × (rel_of ks ≡ None)
 
 abbrev pub QuitsBoth : List Token → Type 0
-QuitsBoth ks = QuitsNeg ks × (plain_of mark.And ks ≡ None)
+QuitsBoth ks = QuitsNeg ks × (plain_of plain.And ks ≡ None)
 
 abbrev pub QuitsExpr : List Token → Type 0
-QuitsExpr ks = QuitsBoth ks × (plain_of mark.Or ks ≡ None)
+QuitsExpr ks = QuitsBoth ks × (plain_of plain.Or ks ≡ None)
 
 quits_factors : (fs : g.Factors) (ks : List Token) → QuitsProduct ks → QuitsFactor (g.of_factors fs ks)
 quits_factors g.no_factors ks q = q.0
@@ -107,7 +107,7 @@ no_string (g.expr (g.both (g.relation (g.sum (g.product (g.number at v) fs) ts) 
 no_string (g.expr (g.both (g.relation (g.sum (g.product (g.read (g.spot at name i)) fs) ts) c) ns) os) ks = refl
 no_string (g.expr (g.both (g.relation (g.sum (g.product (g.parens start e close) fs) ts) c) ns) os) ks = refl
 
-lone : (at : At) (name : List ℕ) (us : List Token) → plain_of mark.Open us ≡ None
+lone : (at : At) (name : List ℕ) (us : List Token) → plain_of plain.Open us ≡ None
     → called_of (tok.Name at name ∷ us) ≡ None
 lone at name [] h = refl
 lone at name (tok.Open start ∷ us) h = absurd (cc)
@@ -137,14 +137,14 @@ mutual
 
   found_ors : (x : g.Ors) (r n m : ℕ) (ks : List Token) (ls : List ℕ) (k : ℕ) → length (g.of_ors x ks) ≤ k → m ≤ n + r
       → AllAtMost m (nest_ors n x ls) → QuitsExpr ks
-      → rest_by g.no_ors g.more_ors (plain_of mark.Or) (both_at r) k (g.of_ors x ks) ≡ Some (x, ks)
+      → rest_by g.no_ors g.more_ors (plain_of plain.Or) (both_at r) k (g.of_ors x ks) ≡ Some (x, ks)
   found_ors g.no_ors r n m ks ls zero i l a q = refl
   found_ors g.no_ors r n m ks ls (suc k) i l a q =
-      ap (rest_after g.no_ors g.more_ors (both_at r) (rest_by g.no_ors g.more_ors (plain_of mark.Or) (both_at r) k) ks)
+      ap (rest_after g.no_ors g.more_ors (both_at r) (rest_by g.no_ors g.more_ors (plain_of plain.Or) (both_at r) k) ks)
       q.1
   found_ors (g.more_ors at b os) r n m ks ls zero i l a q = absurd (omega arith)
   found_ors (g.more_ors at b os) r n m ks ls (suc k) i l a q =
-      linked g.no_ors g.more_ors (both_at r) (rest_by g.no_ors g.more_ors (plain_of mark.Or) (both_at r) k)
+      linked g.no_ors g.more_ors (both_at r) (rest_by g.no_ors g.more_ors (plain_of plain.Or) (both_at r) k)
       (g.of_ors (g.more_ors at b os) ks) (g.of_both b (g.of_ors os ks)) (g.of_ors os ks) ks at b os
       (found_both b r n m (g.of_ors os ks) (nest_ors n os ls) l a.1 (quits_ors os ks q))
       (found_ors os r n m ks ls k (omega (arith, grows_both b (g.of_ors os ks))) l
@@ -159,14 +159,14 @@ mutual
 
   found_ands : (x : g.Ands) (r n m : ℕ) (ks : List Token) (ls : List ℕ) (k : ℕ) → length (g.of_ands x ks) ≤ k
       → m ≤ n + r → AllAtMost m (nest_ands n x ls) → QuitsBoth ks
-      → rest_by g.no_ands g.more_ands (plain_of mark.And) (neg_at r) k (g.of_ands x ks) ≡ Some (x, ks)
+      → rest_by g.no_ands g.more_ands (plain_of plain.And) (neg_at r) k (g.of_ands x ks) ≡ Some (x, ks)
   found_ands g.no_ands r n m ks ls zero i l a q = refl
   found_ands g.no_ands r n m ks ls (suc k) i l a q =
-      ap (rest_after g.no_ands g.more_ands (neg_at r) (rest_by g.no_ands g.more_ands (plain_of mark.And) (neg_at r) k)
+      ap (rest_after g.no_ands g.more_ands (neg_at r) (rest_by g.no_ands g.more_ands (plain_of plain.And) (neg_at r) k)
       ks) q.1
   found_ands (g.more_ands at neg ns) r n m ks ls zero i l a q = absurd (omega arith)
   found_ands (g.more_ands at neg ns) r n m ks ls (suc k) i l a q =
-      linked g.no_ands g.more_ands (neg_at r) (rest_by g.no_ands g.more_ands (plain_of mark.And) (neg_at r) k)
+      linked g.no_ands g.more_ands (neg_at r) (rest_by g.no_ands g.more_ands (plain_of plain.And) (neg_at r) k)
       (g.of_ands (g.more_ands at neg ns) ks) (g.of_neg neg (g.of_ands ns ks)) (g.of_ands ns ks) ks at neg ns
       (found_neg neg r n m (g.of_ands ns ks) (nest_ands n ns ls) l a.1 (quits_ands ns ks q))
       (found_ands ns r n m ks ls k (omega (arith, grows_neg neg (g.of_ands ns ks))) l
@@ -258,12 +258,12 @@ mutual
       ((((((refl, refl), refl), refl), refl), refl), refl)) refl
 
   pub found_spot : (s : g.Spot) (r n m : ℕ) (ks : List Token) (ls : List ℕ) → m ≤ n + r
-      → AllAtMost m (nest_spot n s ls) → plain_of mark.OpenIndex ks ≡ None → spot_at r (g.of_spot s ks) ≡ Some (s, ks)
+      → AllAtMost m (nest_spot n s ls) → plain_of plain.OpenIndex ks ≡ None → spot_at r (g.of_spot s ks) ≡ Some (s, ks)
   found_spot (g.spot at name i) r n m ks ls l a q =
       ap (option_map (λ i. (g.spot at name i.0, i.1))) (found_index i r n m ks ls l a.1 q)
 
   found_index : (i : g.Index) (r n m : ℕ) (ks : List Token) (ls : List ℕ) → m ≤ n + r → AllAtMost m (nest_index n i ls)
-      → plain_of mark.OpenIndex ks ≡ None
+      → plain_of plain.OpenIndex ks ≡ None
       → index_by (expr_in r) (g.of_index i ks) ≡ Some (i, ks)
   found_index g.no_index r n m ks ls l a q = ap (index_after (expr_in r) ks) q
   found_index (g.index start e close) zero n m ks ls l a q = absurd (omega (arith, l, a.0))

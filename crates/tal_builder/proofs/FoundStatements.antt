@@ -10,7 +10,7 @@ use Rattle.tal_syntax.specs.Grammar as g
 use Rattle.tal_syntax.specs.Expected.{AllAtMost}
 use Rattle.tal_syntax.specs.Nesting.{nest_expr, nest_argument, nest_further, nest_arguments, nest_values, nest_answer}
 use Rattle.tal_syntax.specs.Nesting.{nest_step, nest_statement, nest_otherwise, nest_row}
-use Rattle.tal_builder.specs.declared.plain_token.PlainToken.TheVariants as mark
+use Rattle.tal_builder.specs.declared.plain_token.PlainToken.TheVariants as plain
 use Rattle.tal_builder.specs.First.{direction_of, is_value, is_begun}
 use Rattle.tal_builder.specs.PlainTokens.{plain_of}
 use Rattle.tal_builder.specs.Parse.{rest_by, rest_after, expr_at, argument_after, argument_at, arguments_after}
@@ -39,16 +39,16 @@ quits_further g.no_further ks q = q
 quits_further (g.more_further comma x r) ks q = ((((((refl, refl), refl), refl), refl), refl), refl)
 
 found_further : (x : g.Further) (r n m : ℕ) (ks : List Token) (ls : List ℕ) (k : ℕ) → length (g.of_further x ks) ≤ k
-    → m ≤ n + r → AllAtMost m (nest_further n x ls) → plain_of mark.Comma ks ≡ None → QuitsExpr ks
-    → rest_by g.no_further g.more_further (plain_of mark.Comma) (argument_at r) k (g.of_further x ks) ≡ Some (x, ks)
+    → m ≤ n + r → AllAtMost m (nest_further n x ls) → plain_of plain.Comma ks ≡ None → QuitsExpr ks
+    → rest_by g.no_further g.more_further (plain_of plain.Comma) (argument_at r) k (g.of_further x ks) ≡ Some (x, ks)
 found_further g.no_further r n m ks ls zero i l a c q = refl
 found_further g.no_further r n m ks ls (suc k) i l a c q =
     ap (rest_after g.no_further g.more_further (argument_at r)
-    (rest_by g.no_further g.more_further (plain_of mark.Comma) (argument_at r) k) ks) c
+    (rest_by g.no_further g.more_further (plain_of plain.Comma) (argument_at r) k) ks) c
 found_further (g.more_further at x xs) r n m ks ls zero i l a c q = absurd (omega arith)
 found_further (g.more_further at x xs) r n m ks ls (suc k) i l a c q =
     linked g.no_further g.more_further (argument_at r)
-    (rest_by g.no_further g.more_further (plain_of mark.Comma) (argument_at r) k)
+    (rest_by g.no_further g.more_further (plain_of plain.Comma) (argument_at r) k)
     (g.of_further (g.more_further at x xs) ks) (g.of_argument x (g.of_further xs ks)) (g.of_further xs ks) ks at x
     xs
     (found_argument x r n m (g.of_further xs ks) (nest_further n xs ls) l a.1 (quits_further xs ks q))
@@ -56,7 +56,7 @@ found_further (g.more_further at x xs) r n m ks ls (suc k) i l a c q =
     (after_argument x n m (nest_further n xs ls) a.1) c q)
 
 found_arguments : (x : g.Arguments) (r n m : ℕ) (ks : List Token) (ls : List ℕ) → m ≤ n + r
-    → AllAtMost m (nest_arguments n x ls) → plain_of mark.Open ks ≡ None
+    → AllAtMost m (nest_arguments n x ls) → plain_of plain.Open ks ≡ None
     → arguments_at r (g.of_arguments x ks) ≡ Some (x, ks)
 found_arguments g.unlisted r n m ks ls l a q = ap (arguments_after r ks) q
 found_arguments (g.listed start first more close) zero n m ks ls l a q = absurd (omega (arith, l, a.0))
@@ -76,16 +76,16 @@ quits_values g.no_values ks q = q
 quits_values (g.more_values comma x r) ks q = ((((((refl, refl), refl), refl), refl), refl), refl)
 
 found_values : (x : g.Values) (r n m : ℕ) (ks : List Token) (ls : List ℕ) (k : ℕ) → length (g.of_values x ks) ≤ k
-    → m ≤ n + r → AllAtMost m (nest_values n x ls) → plain_of mark.Comma ks ≡ None → QuitsExpr ks
-    → rest_by g.no_values g.more_values (plain_of mark.Comma) (expr_at r) k (g.of_values x ks) ≡ Some (x, ks)
+    → m ≤ n + r → AllAtMost m (nest_values n x ls) → plain_of plain.Comma ks ≡ None → QuitsExpr ks
+    → rest_by g.no_values g.more_values (plain_of plain.Comma) (expr_at r) k (g.of_values x ks) ≡ Some (x, ks)
 found_values g.no_values r n m ks ls zero i l a c q = refl
 found_values g.no_values r n m ks ls (suc k) i l a c q =
     ap (rest_after g.no_values g.more_values (expr_at r)
-    (rest_by g.no_values g.more_values (plain_of mark.Comma) (expr_at r) k) ks) c
+    (rest_by g.no_values g.more_values (plain_of plain.Comma) (expr_at r) k) ks) c
 found_values (g.more_values at x xs) r n m ks ls zero i l a c q = absurd (omega arith)
 found_values (g.more_values at x xs) r n m ks ls (suc k) i l a c q =
     linked g.no_values g.more_values (expr_at r)
-    (rest_by g.no_values g.more_values (plain_of mark.Comma) (expr_at r) k)
+    (rest_by g.no_values g.more_values (plain_of plain.Comma) (expr_at r) k)
     (g.of_values (g.more_values at x xs) ks) (g.of_expr x (g.of_values xs ks)) (g.of_values xs ks) ks at x xs
     (found_expr x r n m (g.of_values xs ks) (nest_values n xs ls) l a.1 (quits_values xs ks q))
     (found_values xs r n m ks ls k (omega (arith, grows_expr x (g.of_values xs ks))) l
@@ -139,7 +139,8 @@ pub quits_row : (r : g.Row) (ks : List Token) → Quits ks → Quits (g.of_row r
 quits_row g.no_row ks q = q
 quits_row (g.more_row semicolon s r) ks q = (((((((refl, refl), refl), refl), refl), refl), refl), refl, refl)
 
-pub else_row : (r : g.Row) (ks : List Token) → plain_of mark.Else ks ≡ None → plain_of mark.Else (g.of_row r ks) ≡ None
+pub else_row : (r : g.Row) (ks : List Token) → plain_of plain.Else ks ≡ None → plain_of plain.Else (g.of_row r ks) ≡
+    None
 else_row g.no_row ks q = q
 else_row (g.more_row semicolon s r) ks q = refl
 
@@ -157,7 +158,7 @@ quits_step (g.step_by by c) at ks = ((((((refl, refl), refl), refl), refl), refl
 
 -- a statement is open only where no ELSE follows
 abbrev Shut : Bool → List Token → Type 0
-Shut b ks = b ≡ true → plain_of mark.Else ks ≡ None
+Shut b ks = b ≡ true → plain_of plain.Else ks ≡ None
 
 shut_otherwise : (s : g.Statement) (o : g.Otherwise) (ks : List Token) → g.IsNearestElse s o
     → Shut (g.is_open_else o) ks → Shut (g.is_open s) (g.of_otherwise o ks)
@@ -276,16 +277,16 @@ mutual
 
   pub found_row : (x : g.Row) (r n m : ℕ) (ks : List Token) (ls : List ℕ) (k : ℕ) → length (g.of_row x ks) ≤ k
       → m ≤ n + r → AllAtMost m (nest_row n x ls) → g.IsNearestRow x
-      → plain_of mark.Semicolon ks ≡ None → plain_of mark.Else ks ≡ None → Quits ks
-      → rest_by g.no_row g.more_row (plain_of mark.Semicolon) (statement_at r) k (g.of_row x ks) ≡ Some (x, ks)
+      → plain_of plain.Semicolon ks ≡ None → plain_of plain.Else ks ≡ None → Quits ks
+      → rest_by g.no_row g.more_row (plain_of plain.Semicolon) (statement_at r) k (g.of_row x ks) ≡ Some (x, ks)
   found_row g.no_row r n m ks ls zero i l a near c e q = refl
   found_row g.no_row r n m ks ls (suc k) i l a near c e q =
       ap (rest_after g.no_row g.more_row (statement_at r)
-      (rest_by g.no_row g.more_row (plain_of mark.Semicolon) (statement_at r) k) ks) c
+      (rest_by g.no_row g.more_row (plain_of plain.Semicolon) (statement_at r) k) ks) c
   found_row (g.more_row at s x) r n m ks ls zero i l a near c e q = absurd (omega arith)
   found_row (g.more_row at s x) r n m ks ls (suc k) i l a near c e q =
       linked g.no_row g.more_row (statement_at r)
-      (rest_by g.no_row g.more_row (plain_of mark.Semicolon) (statement_at r) k) (g.of_row (g.more_row at s x) ks)
+      (rest_by g.no_row g.more_row (plain_of plain.Semicolon) (statement_at r) k) (g.of_row (g.more_row at s x) ks)
       (g.of_statement s (g.of_row x ks)) (g.of_row x ks) ks at s x
       (found_statement s r n m (g.of_row x ks) (nest_row n x ls) l a.1 near.0 (λ _. else_row x ks e) (quits_row x ks q))
       (found_row x r n m ks ls k (omega (arith, grows_statement s (g.of_row x ks))) l

@@ -9,7 +9,7 @@ use Rattle.tal_tokens.specs.declared.token.Token.TheVariants as tok
 use Rattle.tal_syntax.specs.Grammar as g
 use Rattle.tal_syntax.specs.Expected.{AllAtMost}
 use Rattle.tal_syntax.specs.Nesting.{nest_locals, nest_statement, nest_row, nest_procedure, nest_procedures, nest_text}
-use Rattle.tal_builder.specs.declared.plain_token.PlainToken.TheVariants as mark
+use Rattle.tal_builder.specs.declared.plain_token.PlainToken.TheVariants as plain
 use Rattle.tal_builder.specs.First.{name_of, is_line, is_local, is_heading}
 use Rattle.tal_builder.specs.PlainTokens.{plain_of}
 use Rattle.tal_builder.specs.Parse.{Found, rest_by, rest_after, row_by, bounds_after, bounds_at, item_at}
@@ -24,7 +24,7 @@ use Rattle.tal_builder.proofs.Steps.{heading-found, procedure-found, text-found,
 use Rattle.tal_builder.proofs.FoundStatements.{quits_row, else_row, found_statement, found_row}
 
 -- globals
-found_bounds : (b : g.Bounds) (ks : List Token) → plain_of mark.OpenIndex ks ≡ None
+found_bounds : (b : g.Bounds) (ks : List Token) → plain_of plain.OpenIndex ks ≡ None
     → bounds_at (g.of_bounds b ks) ≡ Some (b, ks)
 found_bounds g.unbounded ks q = ap (bounds_after ks) q
 found_bounds (g.bounded start low colon high close) ks q =
@@ -34,25 +34,25 @@ found_bounds (g.bounded start low colon high close) ks q =
     (found_constant low (tok.Colon colon ∷ g.of_constant high (tok.CloseIndex close ∷ ks)))
     (found_constant high (tok.CloseIndex close ∷ ks))
 
-found_item : (i : g.Item) (ks : List Token) → plain_of mark.OpenIndex ks ≡ None
+found_item : (i : g.Item) (ks : List Token) → plain_of plain.OpenIndex ks ≡ None
     → item_at (g.of_item i ks) ≡ Some (i, ks)
 found_item (g.item at name b) ks q = ap (option_map (λ b. (g.item at name b.0, b.1))) (found_bounds b ks q)
 
-quits_items : (r : g.Items) (ks : List Token) → plain_of mark.OpenIndex ks ≡ None
-    → plain_of mark.OpenIndex (g.of_items r ks) ≡ None
+quits_items : (r : g.Items) (ks : List Token) → plain_of plain.OpenIndex ks ≡ None
+    → plain_of plain.OpenIndex (g.of_items r ks) ≡ None
 quits_items g.no_items ks q = q
 quits_items (g.more_items comma i r) ks q = refl
 
-found_items : (r : g.Items) (ks : List Token) (k : ℕ) → length (g.of_items r ks) ≤ k → plain_of mark.Comma ks ≡ None
-    → plain_of mark.OpenIndex ks ≡ None
-    → rest_by g.no_items g.more_items (plain_of mark.Comma) item_at k (g.of_items r ks) ≡ Some (r, ks)
+found_items : (r : g.Items) (ks : List Token) (k : ℕ) → length (g.of_items r ks) ≤ k → plain_of plain.Comma ks ≡ None
+    → plain_of plain.OpenIndex ks ≡ None
+    → rest_by g.no_items g.more_items (plain_of plain.Comma) item_at k (g.of_items r ks) ≡ Some (r, ks)
 found_items g.no_items ks zero l c q = refl
 found_items g.no_items ks (suc k) l c q =
-    ap (rest_after g.no_items g.more_items item_at (rest_by g.no_items g.more_items (plain_of mark.Comma) item_at k)
+    ap (rest_after g.no_items g.more_items item_at (rest_by g.no_items g.more_items (plain_of plain.Comma) item_at k)
     ks) c
 found_items (g.more_items comma i r) ks zero l c q = absurd (omega arith)
 found_items (g.more_items comma i r) ks (suc k) l c q =
-    linked g.no_items g.more_items item_at (rest_by g.no_items g.more_items (plain_of mark.Comma) item_at k)
+    linked g.no_items g.more_items item_at (rest_by g.no_items g.more_items (plain_of plain.Comma) item_at k)
     (g.of_items (g.more_items comma i r) ks) (g.of_item i (g.of_items r ks)) (g.of_items r ks) ks comma i r
     (found_item i (g.of_items r ks) (quits_items r ks q))
     (found_items r ks k (omega (arith, grows_item i (g.of_items r ks))) c q)
@@ -62,16 +62,16 @@ found_literal (g.literal at name equal c) ks =
     ap (option_map (λ c. (g.literal at name equal c.0, c.1))) (found_constant c ks)
 
 found_literals : (r : g.Literals) (ks : List Token) (k : ℕ) → length (g.of_literals r ks) ≤ k
-    → plain_of mark.Comma ks ≡ None
-    → rest_by g.no_literals g.more_literals (plain_of mark.Comma) literal_at k (g.of_literals r ks) ≡ Some (r, ks)
+    → plain_of plain.Comma ks ≡ None
+    → rest_by g.no_literals g.more_literals (plain_of plain.Comma) literal_at k (g.of_literals r ks) ≡ Some (r, ks)
 found_literals g.no_literals ks zero l c = refl
 found_literals g.no_literals ks (suc k) l c =
     ap (rest_after g.no_literals g.more_literals literal_at
-    (rest_by g.no_literals g.more_literals (plain_of mark.Comma) literal_at k) ks) c
+    (rest_by g.no_literals g.more_literals (plain_of plain.Comma) literal_at k) ks) c
 found_literals (g.more_literals comma i r) ks zero l c = absurd (omega arith)
 found_literals (g.more_literals comma i r) ks (suc k) l c =
     linked g.no_literals g.more_literals literal_at
-    (rest_by g.no_literals g.more_literals (plain_of mark.Comma) literal_at k)
+    (rest_by g.no_literals g.more_literals (plain_of plain.Comma) literal_at k)
     (g.of_literals (g.more_literals comma i r) ks) (g.of_literal i (g.of_literals r ks)) (g.of_literals r ks) ks
     comma i r
     (found_literal i (g.of_literals r ks)) (found_literals r ks k (omega (arith, grows_literal i (g.of_literals r ks)))
@@ -113,19 +113,19 @@ found_lines (g.more_lines x r) ks (suc k) l q =
     (found_lines r ks k (omega (arith, grows_globals x (g.of_lines r ks))) q)
 
 -- headings and locals
-found_names : (r : g.Names) (ks : List Token) (k : ℕ) → length (g.of_names r ks) ≤ k → plain_of mark.Comma ks ≡ None
-    → rest_by g.no_names link_name (plain_of mark.Comma) name_of k (g.of_names r ks) ≡ Some (r, ks)
+found_names : (r : g.Names) (ks : List Token) (k : ℕ) → length (g.of_names r ks) ≤ k → plain_of plain.Comma ks ≡ None
+    → rest_by g.no_names link_name (plain_of plain.Comma) name_of k (g.of_names r ks) ≡ Some (r, ks)
 found_names g.no_names ks zero l c = refl
 found_names g.no_names ks (suc k) l c =
-    ap (rest_after g.no_names link_name name_of (rest_by g.no_names link_name (plain_of mark.Comma) name_of k) ks) c
+    ap (rest_after g.no_names link_name name_of (rest_by g.no_names link_name (plain_of plain.Comma) name_of k) ks) c
 found_names (g.more_names comma at name r) ks zero l c = absurd (omega arith)
 found_names (g.more_names comma at name r) ks (suc k) l c =
-    linked g.no_names link_name name_of (rest_by g.no_names link_name (plain_of mark.Comma) name_of k)
+    linked g.no_names link_name name_of (rest_by g.no_names link_name (plain_of plain.Comma) name_of k)
     (g.of_names (g.more_names comma at name r) ks) (tok.Name at name ∷ g.of_names r ks) (g.of_names r ks) ks comma
     (at, name) r
     refl (found_names r ks k (omega arith) c)
 
-found_parameters : (p : g.Parameters) (ks : List Token) → plain_of mark.Open ks ≡ None
+found_parameters : (p : g.Parameters) (ks : List Token) → plain_of plain.Open ks ≡ None
     → parameters_at (g.of_parameters p ks) ≡ Some (p, ks)
 found_parameters g.no_parameters ks q = ap (parameters_after ks) q
 found_parameters (g.parameters start at name more close) ks q =
@@ -160,7 +160,7 @@ found_main g.not_main end us = refl
 found_main (g.is_main at) end us = refl
 
 quits_main : (m : g.Main) (end : At) (us : List Token)
-    → plain_of mark.Open (g.of_main m (tok.Semicolon end ∷ us)) ≡ None
+    → plain_of plain.Open (g.of_main m (tok.Semicolon end ∷ us)) ≡ None
 quits_main g.not_main end us = refl
 quits_main (g.is_main at) end us = refl
 

@@ -8,7 +8,7 @@ use Rattle.tal_tokens.specs.declared.token.Token.TheVariants as tok
 use Rattle.tal_syntax.specs.Grammar as g
 use Rattle.tal_syntax.specs.Nesting.{nest_expr, nest_spot, nest_argument, nest_further, nest_arguments, nest_values}
 use Rattle.tal_syntax.specs.Nesting.{nest_answer, nest_step, nest_statement, nest_otherwise, nest_row}
-use Rattle.tal_builder.specs.declared.plain_token.PlainToken.TheVariants as mark
+use Rattle.tal_builder.specs.declared.plain_token.PlainToken.TheVariants as plain
 use Rattle.tal_builder.specs.First.{name_of, called_of, string_of, direction_of, is_value, is_begun}
 use Rattle.tal_builder.specs.PlainTokens.{plain_of}
 use Rattle.tal_builder.specs.Parse.{Found, no_level, expr_at, spot_at, argument_after, argument_at, further_at}
@@ -19,7 +19,7 @@ use Rattle.tal_builder.specs.Parse.{statement_at, row_at}
 use Rattle.tal_builder.proofs.Told.{Told, Reads, Within, Below, and_then, mapped, weaker, below, stands, chain}
 use Rattle.tal_builder.proofs.Constants.{step_is}
 use Rattle.tal_builder.proofs.Flat.{flat_step}
-use Rattle.tal_builder.proofs.SoundTokens.{mark_is, name_is, called_is, direction_is}
+use Rattle.tal_builder.proofs.SoundTokens.{plain_is, name_is, called_is, direction_is}
 use Rattle.tal_builder.proofs.SoundExpressions.{expr_is, spot_is}
 
 -- calls
@@ -41,7 +41,7 @@ argument_is r ks = argument_after_is r ks (string_of ks) (string_is r ks)
 
 further_is : (r : ℕ) → Reads g.of_further (Within nest_further r) (further_at r)
 further_is r ks =
-    chain g.no_further g.more_further (plain_of mark.Comma) (argument_at r) (λ s us. tok.Comma s ∷ us) g.of_argument
+    chain g.no_further g.more_further (plain_of plain.Comma) (argument_at r) (λ s us. tok.Comma s ∷ us) g.of_argument
     g.of_further (Within nest_argument r) (Within nest_further r)
     (record {
       starts = λ us. refl;
@@ -49,7 +49,7 @@ further_is r ks =
       goes_on = λ s x r us. refl;
       fits_on = λ s x f p q n m ls l a. (stands n r m l, p n m (nest_further n f ls) l (q n m ls l a));
       signs =
-          mark_is mark.Comma;
+          plain_is plain.Comma;
       parts = argument_is r;
     }) (length ks) ks
 
@@ -58,7 +58,7 @@ listed_in_is : (r : ℕ) (start : At) (us ks : List Token) → tok.Open start �
 listed_in_is zero start us ks h = record { told = tt }
 listed_in_is (suc r) start us ks h =
     and_then (argument_at r us) _ (argument_is r us) (λ a p. and_then (further_at r a.1) _ (further_is r a.1) (λ f q.
-    mapped (plain_of mark.Close f.1) _ (mark_is mark.Close f.1) (λ c e. (
+    mapped (plain_of plain.Close f.1) _ (plain_is plain.Close f.1) (λ c e. (
       rw (e, q.0, p.0) h,
       λ n m ls l w. (
         omega (arith, l),
@@ -73,11 +73,11 @@ arguments_after_is r ks None h = record { told = (refl, λ n m ls l a. a) }
 arguments_after_is r ks (Some (start, us)) h = listed_in_is r start us ks h.told
 
 arguments_is : (r : ℕ) → Reads g.of_arguments (Within nest_arguments r) (arguments_at r)
-arguments_is r ks = arguments_after_is r ks (plain_of mark.Open ks) (mark_is mark.Open ks)
+arguments_is r ks = arguments_after_is r ks (plain_of plain.Open ks) (plain_is plain.Open ks)
 
 values_is : (r : ℕ) → Reads g.of_values (Within nest_values r) (values_at r)
 values_is r ks =
-    chain g.no_values g.more_values (plain_of mark.Comma) (expr_at r) (λ s us. tok.Comma s ∷ us) g.of_expr g.of_values
+    chain g.no_values g.more_values (plain_of plain.Comma) (expr_at r) (λ s us. tok.Comma s ∷ us) g.of_expr g.of_values
     (Within nest_expr r) (Within nest_values r)
     (record {
       starts = λ us. refl;
@@ -85,7 +85,7 @@ values_is r ks =
       goes_on = λ s x r us. refl;
       fits_on = λ s x f p q n m ls l a. (stands n r m l, p n m (nest_values n f ls) l (q n m ls l a));
       signs =
-          mark_is mark.Comma;
+          plain_is plain.Comma;
       parts = expr_is r;
     }) (length ks) ks
 
@@ -99,7 +99,7 @@ nest_list n v ls = nest_expr n v.0 (nest_values n v.1 (n ∷ ls))
 value_list_is : (r : ℕ) → Reads of_list (Within nest_list r) (value_list_at r)
 value_list_is r ks =
     and_then (expr_at r ks) _ (expr_is r ks) (λ f p. and_then (values_at r f.1) _ (values_is r f.1) (λ v q.
-    mapped (plain_of mark.Close v.1) _ (mark_is mark.Close v.1) (λ c e. (
+    mapped (plain_of plain.Close v.1) _ (plain_is plain.Close v.1) (λ c e. (
       rw (e, q.0) p.0,
       λ n m ls l w. p.1 n m (nest_values n v.0 (n ∷ ls)) l (q.1 n m (n ∷ ls) l (stands n r m l, w)),
     ))))
@@ -111,7 +111,7 @@ value_list_in_is (suc r) ks = weaker (value_list_at r ks) (value_list_is r ks) (
 -- what is known of a statement: its tokens, its levels, the nearest IF, and that it is open only where no ELSE follows
 abbrev Said : ℕ → List Token → g.Statement × List Token → Type 0
 Said r ks p = (g.of_statement p.0 p.1 ≡ ks) × Within nest_statement r p.0 × g.IsNearest p.0
-    × (g.is_open p.0 ≡ true → plain_of mark.Else p.1 ≡ None)
+    × (g.is_open p.0 ≡ true → plain_of plain.Else p.1 ≡ None)
 
 shut : {X : Type 0} → false ≡ true → X
 shut e = absurd (cc)
@@ -171,7 +171,7 @@ right_is r target at us ks (Some c) e w h =
 assign_is : (r : ℕ) (ks : List Token) → Told (assign_at r ks) (Said (suc r) ks)
 assign_is r ks =
     and_then (spot_at r ks) _ (spot_is r ks)
-    (λ s p. and_then (plain_of mark.Assign s.1) _ (mark_is mark.Assign s.1) (λ a q.
+    (λ s p. and_then (plain_of plain.Assign s.1) _ (plain_is plain.Assign s.1) (λ a q.
     right_is r s.0 a.0 a.1 ks (called_of a.1) (rw q p.0) p.1 (called_is a.1)))
 
 -- statements
@@ -183,7 +183,7 @@ module _ (r : ℕ) (inner : List Token → Found g.Statement)
     (known : (ks : List Token) → Told (inner ks) (Said r ks)) where
   rows_is : Reads g.of_row (λ x. Within nest_row r x × g.IsNearestRow x) (rows_by inner)
   rows_is ks =
-      chain g.no_row g.more_row (plain_of mark.Semicolon) inner (λ s us. tok.Semicolon s ∷ us) g.of_statement g.of_row
+      chain g.no_row g.more_row (plain_of plain.Semicolon) inner (λ s us. tok.Semicolon s ∷ us) g.of_statement g.of_row
       (λ s. Within nest_statement r s × g.IsNearest s) (λ x. Within nest_row r x × g.IsNearestRow x)
       (record {
         starts = λ us. refl;
@@ -193,14 +193,14 @@ module _ (r : ℕ) (inner : List Token → Found g.Statement)
           (λ n m ls l a. (stands n r m l, p.0 n m (nest_row n f ls) l (q.0 n m ls l a))),
           (p.1, q.1),
         );
-        signs = mark_is mark.Semicolon;
+        signs = plain_is plain.Semicolon;
         parts = λ us. weaker (inner us) (known us) (λ p q. (q.0, (q.1, q.2)));
       }) (length ks) ks
 
   block_is : (begin : At) (ks : List Token) → Told (block_by inner begin ks) (Said (suc r) (tok.Begin begin ∷ ks))
   block_is begin ks =
       and_then (inner ks) _ (known ks) (λ f p. and_then (rows_by inner f.1) _ (rows_is f.1) (λ x q.
-      mapped (plain_of mark.End x.1) _ (mark_is mark.End x.1) (λ c e. (
+      mapped (plain_of plain.End x.1) _ (plain_is plain.End x.1) (λ c e. (
         rw (e, q.0, p.0) refl,
         λ n m ls b a. (
           omega (arith, b),
@@ -211,26 +211,26 @@ module _ (r : ℕ) (inner : List Token → Found g.Statement)
         λ e. shut e,
       ))))
 
-  otherwise_is : (s : g.Statement) (ks : List Token) (o : Found At) → plain_of mark.Else ks ≡ o
-      → (g.is_open s ≡ true → plain_of mark.Else ks ≡ None) → Told o (λ p. tok.Else p.0 ∷ p.1 ≡ ks)
+  otherwise_is : (s : g.Statement) (ks : List Token) (o : Found At) → plain_of plain.Else ks ≡ o
+      → (g.is_open s ≡ true → plain_of plain.Else ks ≡ None) → Told o (λ p. tok.Else p.0 ∷ p.1 ≡ ks)
       → Told (otherwise_after inner ks o) (λ p. (g.of_otherwise p.0 p.1 ≡ ks) × Within nest_otherwise r p.0
-      × g.IsNearestElse s p.0 × (g.is_open_else p.0 ≡ true → plain_of mark.Else p.1 ≡ None))
+      × g.IsNearestElse s p.0 × (g.is_open_else p.0 ≡ true → plain_of plain.Else p.1 ≡ None))
   otherwise_is s ks None e open_only h = record { told = (refl, (λ n m ls l a. a), tt, λ _. e) }
   otherwise_is s ks (Some (at, us)) e open_only h =
       mapped (inner us) _ (known us) (λ t p. (
         ap (λ ts. tok.Else at ∷ ts) p.0 ∙ h.told,
         (λ n m ls l a. (stands n r m l, p.1 n m ls l a)),
-        (closed (g.is_open s) (plain_of mark.Else ks) (at, us) open_only e, p.2),
+        (closed (g.is_open s) (plain_of plain.Else ks) (at, us) open_only e, p.2),
         p.3,
       ))
 
   if_is : (head : At) (ks : List Token) → Told (if_by inner r head ks) (Said (suc r) (tok.If head ∷ ks))
   if_is head ks =
       and_then (expr_at r ks) _ (expr_is r ks)
-      (λ t p. and_then (plain_of mark.Then t.1) _ (mark_is mark.Then t.1)
+      (λ t p. and_then (plain_of plain.Then t.1) _ (plain_is plain.Then t.1)
       (λ h q. and_then (inner h.1) _ (known h.1) (λ s u.
-      mapped (otherwise_by inner s.1) _ (otherwise_is s.0 s.1 (plain_of mark.Else s.1) refl u.3
-      (mark_is mark.Else s.1)) (λ o v. (
+      mapped (otherwise_by inner s.1) _ (otherwise_is s.0 s.1 (plain_of plain.Else s.1) refl u.3
+      (plain_is plain.Else s.1)) (λ o v. (
         rw (v.0, u.0, q, p.0) refl,
         λ n m ls b a. (
           omega (arith, b),
@@ -246,7 +246,8 @@ module _ (r : ℕ) (inner : List Token → Found g.Statement)
 
   while_is : (head : At) (ks : List Token) → Told (while_by inner r head ks) (Said (suc r) (tok.While head ∷ ks))
   while_is head ks =
-      and_then (expr_at r ks) _ (expr_is r ks) (λ t p. and_then (plain_of mark.Do t.1) _ (mark_is mark.Do t.1) (λ h q.
+      and_then (expr_at r ks) _ (expr_is r ks) (λ t p. and_then (plain_of plain.Do t.1) _ (plain_is plain.Do t.1)
+      (λ h q.
       mapped (inner h.1) _ (known h.1) (λ s u. (
         rw (u.0, q, p.0) refl,
         λ n m ls b a. (
@@ -261,12 +262,12 @@ module _ (r : ℕ) (inner : List Token → Found g.Statement)
   for_is : (head : At) (ks : List Token) → Told (for_by inner r head ks) (Said (suc r) (tok.For head ∷ ks))
   for_is head ks =
       and_then (name_of ks) _ (name_is ks) (λ w p.
-      and_then (plain_of mark.Assign w.1) _ (mark_is mark.Assign w.1)
+      and_then (plain_of plain.Assign w.1) _ (plain_is plain.Assign w.1)
       (λ c d. and_then (expr_at r c.1) _ (expr_is r c.1) (λ f x.
       and_then (direction_of f.1) _ (direction_is f.1)
       (λ t y. and_then (expr_at r t.1) _ (expr_is r t.1)
       (λ i z. and_then (step_at i.1) _ (step_is i.1) (λ j v.
-      and_then (plain_of mark.Do j.1) _ (mark_is mark.Do j.1) (λ h q.
+      and_then (plain_of plain.Do j.1) _ (plain_is plain.Do j.1) (λ h q.
       mapped (inner h.1) _ (known h.1) (λ s u. (
         rw (u.0, q, v, z.0, y, x.0, d, p) refl,
         λ n m ls b a. (
@@ -292,7 +293,7 @@ module _ (r : ℕ) (inner : List Token → Found g.Statement)
 
   do_is : (head : At) (ks : List Token) → Told (do_by inner r head ks) (Said (suc r) (tok.Do head ∷ ks))
   do_is head ks =
-      and_then (inner ks) _ (known ks) (λ s u. and_then (plain_of mark.Until s.1) _ (mark_is mark.Until s.1) (λ h q.
+      and_then (inner ks) _ (known ks) (λ s u. and_then (plain_of plain.Until s.1) _ (plain_is plain.Until s.1) (λ h q.
       mapped (expr_at r h.1) _ (expr_is r h.1) (λ t p. (
         rw (p.0, q, u.0) refl,
         λ n m ls b a. (

@@ -6,7 +6,7 @@ use Rattle.tal_tokens.specs.declared.token.Token.TheVariants as tok
 use Rattle.tal_syntax.specs.Grammar as g
 use Rattle.tal_syntax.specs.Expected.{AllAtMost}
 use Rattle.tal_syntax.specs.Nesting.{nest_locals, nest_statement, nest_row, nest_procedure, nest_procedures, nest_text}
-use Rattle.tal_builder.specs.declared.plain_token.PlainToken.TheVariants as mark
+use Rattle.tal_builder.specs.declared.plain_token.PlainToken.TheVariants as plain
 use Rattle.tal_builder.specs.First.{name_of, is_line, is_local, is_heading}
 use Rattle.tal_builder.specs.PlainTokens.{plain_of}
 use Rattle.tal_builder.specs.Parse.{Found, constant_at, bounds_after, bounds_at, item_at}
@@ -17,7 +17,7 @@ use Rattle.tal_builder.specs.Parse.{procedures_at, ended, text_at, statement_at,
 use Rattle.tal_builder.proofs.Constants.{Is, constant_is}
 use Rattle.tal_builder.proofs.Told.{Told, Reads, and_then, mapped, weaker, chain, row}
 use Rattle.tal_builder.proofs.Flat.{flat_lines, flat_heading, flat_locals}
-use Rattle.tal_builder.proofs.SoundTokens.{mark_is, name_is}
+use Rattle.tal_builder.proofs.SoundTokens.{plain_is, name_is}
 use Rattle.tal_builder.proofs.SoundStatements.{statement_is, row_is}
 
 -- globals
@@ -26,12 +26,12 @@ bounds_after_is : (ks : List Token) (o : Found At) → Told o (λ r. tok.OpenInd
 bounds_after_is ks None h = record { told = refl }
 bounds_after_is ks (Some (start, us)) h =
     and_then (constant_at us) _ (constant_is us)
-    (λ l p. and_then (plain_of mark.Colon l.1) _ (mark_is mark.Colon l.1) (λ c q.
+    (λ l p. and_then (plain_of plain.Colon l.1) _ (plain_is plain.Colon l.1) (λ c q.
     and_then (constant_at c.1) _ (constant_is c.1)
-    (λ i r. mapped (plain_of mark.CloseIndex i.1) _ (mark_is mark.CloseIndex i.1) (λ e s. rw (s, r, q, p) h.told))))
+    (λ i r. mapped (plain_of plain.CloseIndex i.1) _ (plain_is plain.CloseIndex i.1) (λ e s. rw (s, r, q, p) h.told))))
 
 bounds_is : Is g.of_bounds bounds_at
-bounds_is ks = bounds_after_is ks (plain_of mark.OpenIndex ks) (mark_is mark.OpenIndex ks)
+bounds_is ks = bounds_after_is ks (plain_of plain.OpenIndex ks) (plain_is plain.OpenIndex ks)
 
 item_is : Reads g.of_item (λ _. Unit {0}) item_at
 item_is ks =
@@ -39,32 +39,33 @@ item_is ks =
 
 items_is : Reads g.of_items (λ _. Unit {0}) items_at
 items_is ks =
-    chain g.no_items g.more_items (plain_of mark.Comma) item_at (λ s us. tok.Comma s ∷ us) g.of_item g.of_items
+    chain g.no_items g.more_items (plain_of plain.Comma) item_at (λ s us. tok.Comma s ∷ us) g.of_item g.of_items
     (λ _. Unit {0}) (λ _. Unit {0})
     (record {
       starts = λ us. refl;
       fits = tt;
       goes_on = λ s x r us. refl;
       fits_on = λ s x r a b. tt;
-      signs = mark_is mark.Comma;
+      signs = plain_is plain.Comma;
       parts = item_is;
     }) (length ks) ks
 
 literal_is : Reads g.of_literal (λ _. Unit {0}) literal_at
 literal_is ks =
-    and_then (name_of ks) _ (name_is ks) (λ w p. and_then (plain_of mark.Equal w.1) _ (mark_is mark.Equal w.1) (λ e q.
+    and_then (name_of ks) _ (name_is ks) (λ w p. and_then (plain_of plain.Equal w.1) _ (plain_is plain.Equal w.1)
+    (λ e q.
     mapped (constant_at e.1) _ (constant_is e.1) (λ c r. (rw (r, q) p, tt))))
 
 literals_is : Reads g.of_literals (λ _. Unit {0}) literals_at
 literals_is ks =
-    chain g.no_literals g.more_literals (plain_of mark.Comma) literal_at (λ s us. tok.Comma s ∷ us) g.of_literal
+    chain g.no_literals g.more_literals (plain_of plain.Comma) literal_at (λ s us. tok.Comma s ∷ us) g.of_literal
     g.of_literals (λ _. Unit {0}) (λ _. Unit {0})
     (record {
       starts = λ us. refl;
       fits = tt;
       goes_on = λ s x r us. refl;
       fits_on = λ s x r a b. tt;
-      signs = mark_is mark.Comma;
+      signs = plain_is plain.Comma;
       parts = literal_is;
     }) (length ks) ks
 
@@ -72,22 +73,22 @@ int_line_is : (int : At) (us ks : List Token) → tok.Int int ∷ us ≡ ks
     → Told (int_line_at int us) (λ r. (g.of_globals r.0 r.1 ≡ ks) × Unit {0})
 int_line_is int us ks h =
     and_then (item_at us) _ (item_is us) (λ f q. and_then (items_at f.1) _ (items_is f.1) (λ m r.
-    mapped (plain_of mark.Semicolon m.1) _ (mark_is mark.Semicolon m.1) (λ e s. (rw (s, r.0, q.0) h, tt))))
+    mapped (plain_of plain.Semicolon m.1) _ (plain_is plain.Semicolon m.1) (λ e s. (rw (s, r.0, q.0) h, tt))))
 
 literal_line_is : (word : At) (us ks : List Token) → tok.Literal word ∷ us ≡ ks
     → Told (literal_line_at word us) (λ r. (g.of_globals r.0 r.1 ≡ ks) × Unit {0})
 literal_line_is word us ks h =
     and_then (literal_at us) _ (literal_is us) (λ f q. and_then (literals_at f.1) _ (literals_is f.1) (λ m r.
-    mapped (plain_of mark.Semicolon m.1) _ (mark_is mark.Semicolon m.1) (λ e s. (rw (s, r.0, q.0) h, tt))))
+    mapped (plain_of plain.Semicolon m.1) _ (plain_is plain.Semicolon m.1) (λ e s. (rw (s, r.0, q.0) h, tt))))
 
 line_after_is : (ks : List Token) (o : Found At) → Told o (λ r. tok.Int r.0 ∷ r.1 ≡ ks)
     → Told (line_after ks o) (λ r. (g.of_globals r.0 r.1 ≡ ks) × Unit {0})
 line_after_is ks None h =
-    and_then (plain_of mark.Literal ks) _ (mark_is mark.Literal ks) (λ w p. literal_line_is w.0 w.1 ks p)
+    and_then (plain_of plain.Literal ks) _ (plain_is plain.Literal ks) (λ w p. literal_line_is w.0 w.1 ks p)
 line_after_is ks (Some (int, us)) h = int_line_is int us ks h.told
 
 line_is : Reads g.of_globals (λ _. Unit {0}) line_at
-line_is ks = line_after_is ks (plain_of mark.Int ks) (mark_is mark.Int ks)
+line_is ks = line_after_is ks (plain_of plain.Int ks) (plain_is plain.Int ks)
 
 lines_is : Reads g.of_lines (λ _. Unit {0}) lines_at
 lines_is ks =
@@ -101,14 +102,14 @@ of_named w ks = tok.Name w.0 w.1 ∷ ks
 
 names_is : Reads g.of_names (λ _. Unit {0}) names_at
 names_is ks =
-    chain g.no_names link_name (plain_of mark.Comma) name_of (λ s us. tok.Comma s ∷ us) of_named g.of_names
+    chain g.no_names link_name (plain_of plain.Comma) name_of (λ s us. tok.Comma s ∷ us) of_named g.of_names
     (λ _. Unit {0}) (λ _. Unit {0})
     (record {
       starts = λ us. refl;
       fits = tt;
       goes_on = λ s x r us. refl;
       fits_on = λ s x r a b. tt;
-      signs = mark_is mark.Comma;
+      signs = plain_is plain.Comma;
       parts = λ us. weaker (name_of us) (name_is us) (λ w p. (p, tt));
     }) (length ks) ks
 
@@ -117,13 +118,13 @@ parameters_after_is : (ks : List Token) (o : Found At) → Told o (λ r. tok.Ope
 parameters_after_is ks None h = record { told = refl }
 parameters_after_is ks (Some (start, us)) h =
     and_then (name_of us) _ (name_is us) (λ w p. and_then (names_at w.1) _ (names_is w.1) (λ m q.
-    mapped (plain_of mark.Close m.1) _ (mark_is mark.Close m.1) (λ c r. rw (r, q.0, p) h.told)))
+    mapped (plain_of plain.Close m.1) _ (plain_is plain.Close m.1) (λ c r. rw (r, q.0, p) h.told)))
 
 local_is : Reads g.of_local (λ _. Unit {0}) local_at
 local_is ks =
-    and_then (plain_of mark.Int ks) _ (mark_is mark.Int ks)
+    and_then (plain_of plain.Int ks) _ (plain_is plain.Int ks)
     (λ i h. and_then (name_of i.1) _ (name_is i.1) (λ w p. and_then (names_at w.1) _ (names_is w.1) (λ m q.
-    mapped (plain_of mark.Semicolon m.1) _ (mark_is mark.Semicolon m.1) (λ c r. (rw (r, q.0, p) h, tt)))))
+    mapped (plain_of plain.Semicolon m.1) _ (plain_is plain.Semicolon m.1) (λ c r. (rw (r, q.0, p) h, tt)))))
 
 locals_is : Reads g.of_locals (λ _. Unit {0}) locals_at
 locals_is ks =
@@ -143,13 +144,13 @@ main_after_is ks (Some (at, us)) h = record { told = h.told }
 
 heading_is : Is g.of_heading heading_at
 heading_is ks =
-    and_then (gives_at ks) _ (gives_after_is ks (plain_of mark.Int ks) (mark_is mark.Int ks))
-    (λ i a. and_then (plain_of mark.Proc i.1) _ (mark_is mark.Proc i.1) (λ p b.
+    and_then (gives_at ks) _ (gives_after_is ks (plain_of plain.Int ks) (plain_is plain.Int ks))
+    (λ i a. and_then (plain_of plain.Proc i.1) _ (plain_is plain.Proc i.1) (λ p b.
     and_then (name_of p.1) _ (name_is p.1) (λ w c.
-    and_then (parameters_at w.1) _ (parameters_after_is w.1 (plain_of mark.Open w.1) (mark_is mark.Open w.1))
+    and_then (parameters_at w.1) _ (parameters_after_is w.1 (plain_of plain.Open w.1) (plain_is plain.Open w.1))
     (λ l d.
-    and_then (main_at l.1) _ (main_after_is l.1 (plain_of mark.Main l.1) (mark_is mark.Main l.1))
-    (λ m e. mapped (plain_of mark.Semicolon m.1) _ (mark_is mark.Semicolon m.1) (λ s f.
+    and_then (main_at l.1) _ (main_after_is l.1 (plain_of plain.Main l.1) (plain_is plain.Main l.1))
+    (λ m e. mapped (plain_of plain.Semicolon m.1) _ (plain_is plain.Semicolon m.1) (λ s f.
     rw (f, e, d, c, b) a))))))
 
 -- procedures and texts
@@ -163,12 +164,12 @@ procedure_is : Reads g.of_procedure Fits procedure_at
 procedure_is ks =
     and_then (heading_at ks) _ (heading_is ks)
     (λ h a. and_then (locals_at h.1) _ (locals_is h.1)
-    (λ o b. and_then (plain_of mark.Begin o.1) _ (mark_is mark.Begin o.1) (λ s c.
+    (λ o b. and_then (plain_of plain.Begin o.1) _ (plain_is plain.Begin o.1) (λ s c.
     and_then (locals_at s.1) _ (locals_is s.1)
     (λ i d. and_then (statement_at 33 i.1) _ (statement_is 33 i.1)
     (λ f e. and_then (row_at 33 f.1) _ (row_is 33 f.1) (λ m x.
-    and_then (plain_of mark.End m.1) _ (mark_is mark.End m.1)
-    (λ n y. mapped (plain_of mark.Semicolon n.1) _ (mark_is mark.Semicolon n.1) (λ l z. (
+    and_then (plain_of plain.End m.1) _ (plain_is plain.End m.1)
+    (λ n y. mapped (plain_of plain.Semicolon n.1) _ (plain_is plain.Semicolon n.1) (λ l z. (
       rw (z, y, x.0, e.0, d.0, c, b.0) a,
       (
         (λ ls w. flat_heading h.0 0 33 (nest_locals 0 o.0
@@ -206,7 +207,7 @@ pub text_is : (ks : List Token) → Told (text_at ks) (λ t. g.IsText t × (g.of
 text_is ks =
     and_then (lines_at ks) _ (lines_is ks) (λ l a.
     and_then (procedures_at l.1) _ (procedures_is l.1)
-    (λ p b. and_then (plain_of mark.Finish p.1) _ (mark_is mark.Finish p.1) (λ f c.
+    (λ p b. and_then (plain_of plain.Finish p.1) _ (plain_is plain.Finish p.1) (λ f c.
     ended_is (g.text l.0 p.0 f.0) f.1 ks (λ e. (
       b.1.1,
       rw (← e, c, b.0) a.0,

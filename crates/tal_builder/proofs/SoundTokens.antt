@@ -4,41 +4,41 @@ use Rattle.tal_tokens.specs.declared.token.Token.{Token}
 use Rattle.tal_tokens.specs.declared.token.Token.TheVariants as tok
 use Rattle.tal_syntax.specs.Grammar as g
 use Rattle.tal_builder.specs.declared.plain_token.PlainToken.{PlainToken}
-use Rattle.tal_builder.specs.declared.plain_token.PlainToken.TheVariants as mark
+use Rattle.tal_builder.specs.declared.plain_token.PlainToken.TheVariants as plain
 use Rattle.tal_builder.specs.First.{name_of, called_of, rel_of, sign_of, scale_of, direction_of}
 use Rattle.tal_builder.specs.PlainTokens.{token_of_plain, place_of, plain_of}
 use Rattle.tal_builder.proofs.Told.{Told, mapped}
 
 place_is : (m : PlainToken) (k : Token) → Told (place_of m k) (λ at. token_of_plain m at ≡ k)
-place_is mark.And (tok.And at) = record { told = refl }
-place_is mark.Begin (tok.Begin at) = record { told = refl }
-place_is mark.By (tok.By at) = record { told = refl }
-place_is mark.Do (tok.Do at) = record { told = refl }
-place_is mark.Else (tok.Else at) = record { told = refl }
-place_is mark.End (tok.End at) = record { told = refl }
-place_is mark.Int (tok.Int at) = record { told = refl }
-place_is mark.Literal (tok.Literal at) = record { told = refl }
-place_is mark.Main (tok.Main at) = record { told = refl }
-place_is mark.Or (tok.Or at) = record { told = refl }
-place_is mark.Proc (tok.Proc at) = record { told = refl }
-place_is mark.Then (tok.Then at) = record { told = refl }
-place_is mark.Until (tok.Until at) = record { told = refl }
-place_is mark.Assign (tok.Assign at) = record { told = refl }
-place_is mark.Equal (tok.Equal at) = record { told = refl }
-place_is mark.Minus (tok.Minus at) = record { told = refl }
-place_is mark.Open (tok.Open at) = record { told = refl }
-place_is mark.Close (tok.Close at) = record { told = refl }
-place_is mark.OpenIndex (tok.OpenIndex at) = record { told = refl }
-place_is mark.CloseIndex (tok.CloseIndex at) = record { told = refl }
-place_is mark.Comma (tok.Comma at) = record { told = refl }
-place_is mark.Semicolon (tok.Semicolon at) = record { told = refl }
-place_is mark.Colon (tok.Colon at) = record { told = refl }
-place_is mark.Finish (tok.Finish at) = record { told = refl }
+place_is plain.And (tok.And at) = record { told = refl }
+place_is plain.Begin (tok.Begin at) = record { told = refl }
+place_is plain.By (tok.By at) = record { told = refl }
+place_is plain.Do (tok.Do at) = record { told = refl }
+place_is plain.Else (tok.Else at) = record { told = refl }
+place_is plain.End (tok.End at) = record { told = refl }
+place_is plain.Int (tok.Int at) = record { told = refl }
+place_is plain.Literal (tok.Literal at) = record { told = refl }
+place_is plain.Main (tok.Main at) = record { told = refl }
+place_is plain.Or (tok.Or at) = record { told = refl }
+place_is plain.Proc (tok.Proc at) = record { told = refl }
+place_is plain.Then (tok.Then at) = record { told = refl }
+place_is plain.Until (tok.Until at) = record { told = refl }
+place_is plain.Assign (tok.Assign at) = record { told = refl }
+place_is plain.Equal (tok.Equal at) = record { told = refl }
+place_is plain.Minus (tok.Minus at) = record { told = refl }
+place_is plain.Open (tok.Open at) = record { told = refl }
+place_is plain.Close (tok.Close at) = record { told = refl }
+place_is plain.OpenIndex (tok.OpenIndex at) = record { told = refl }
+place_is plain.CloseIndex (tok.CloseIndex at) = record { told = refl }
+place_is plain.Comma (tok.Comma at) = record { told = refl }
+place_is plain.Semicolon (tok.Semicolon at) = record { told = refl }
+place_is plain.Colon (tok.Colon at) = record { told = refl }
+place_is plain.Finish (tok.Finish at) = record { told = refl }
 place_is _ _ = record { told = tt }
 
-pub mark_is : (m : PlainToken) (ks : List Token) → Told (plain_of m ks) (λ r. token_of_plain m r.0 ∷ r.1 ≡ ks)
-mark_is m [] = record { told = tt }
-mark_is m (k ∷ ks) = mapped (place_of m k) _ (place_is m k) (λ at e. ap (λ k. k ∷ ks) e)
+pub plain_is : (m : PlainToken) (ks : List Token) → Told (plain_of m ks) (λ r. token_of_plain m r.0 ∷ r.1 ≡ ks)
+plain_is m [] = record { told = tt }
+plain_is m (k ∷ ks) = mapped (place_of m k) _ (place_is m k) (λ at e. ap (λ k. k ∷ ks) e)
 
 pub name_is : (ks : List Token) → Told (name_of ks) (λ r. tok.Name r.0.0 r.0.1 ∷ r.1 ≡ ks)
 name_is (tok.Name at name ∷ ks) = record { told = refl }

@@ -34,11 +34,11 @@ pub enum PlainToken {
     Finish,
 }
 
-/// Where the token stands, if it is the mark.
-fn place(mark: PlainToken, token: Token) -> Option<At>
-    ensures { result ≡ place_of mark token }
+/// Where the token stands, if it is the plain token.
+fn place(plain: PlainToken, token: Token) -> Option<At>
+    ensures { result ≡ place_of plain token }
 {
-    match (mark, token) {
+    match (plain, token) {
         (PlainToken::And, Token::And(at)) => Some(at),
         (PlainToken::Begin, Token::Begin(at)) => Some(at),
         (PlainToken::By, Token::By(at)) => Some(at),
@@ -67,12 +67,12 @@ fn place(mark: PlainToken, token: Token) -> Option<At>
     }
 }
 
-/// Where the mark stands with which the tokens begin, and the tokens after it.
-pub fn optional(mark: PlainToken, tokens: &[Token]) -> Option<(At, &[Token])>
-    ensures { Gives (λ r. (r.0, r.1.now)) result (plain_of mark tokens.now) }
+/// Where the plain token stands with which the tokens begin, and the tokens after it.
+pub fn optional(plain: PlainToken, tokens: &[Token]) -> Option<(At, &[Token])>
+    ensures { Gives (λ r. (r.0, r.1.now)) result (plain_of plain tokens.now) }
 {
     match tokens {
-        [first, rest @ ..] => match place(mark, *first) {
+        [first, rest @ ..] => match place(plain, *first) {
             Some(at) => Some((at, rest)),
             None => None,
         },
@@ -80,7 +80,7 @@ pub fn optional(mark: PlainToken, tokens: &[Token]) -> Option<(At, &[Token])>
     }
 }
 
-/// The same where the mark has to stand.
+/// The same where the plain token has to stand.
 pub fn expect(wanted: PlainToken, tokens: &[Token]) -> Result<(At, &[Token]), BuildFault>
     ensures { Tells (λ r. (r.0, r.1.now)) result (plain_of wanted tokens.now) }
 {

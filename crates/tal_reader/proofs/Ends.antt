@@ -16,7 +16,8 @@ use Rattle.tal_tokens.specs.declared.token.Token.{Token}
 use Rattle.tal_tokens.specs.declared.token.Token.TheVariants as tok
 use Rattle.tal_tokens.specs.Cursor.{after, at_front, start_of_text}
 use Rattle.tal_tokens.specs.Lexeme.{keyword_first, keyword_second, keyword_third, word_token, named, numbered}
-use Rattle.tal_tokens.specs.Lexeme.{process_token, text_token, string_to, pair_token, mark_token, sign_token, paired}
+use Rattle.tal_tokens.specs.Lexeme.{process_token, text_token, string_to, pair_token, punctuation_token, sign_token}
+use Rattle.tal_tokens.specs.Lexeme.{paired}
 use Rattle.tal_tokens.specs.Lexeme.{signed, longest, begun_of, run_of, is_octal, at_most, is_blank}
 use Rattle.tal_tree.specs.gd_words.specs.Digits.{value_from}
 use Rattle.tal_tokens.specs.Lexeme.{comment_of, is_string_end, decimal_begun, name_begun, octal_begun, string_begun}
@@ -112,8 +113,8 @@ paired-goes-on : (at : At) (c : ℕ) (rest : List ℕ) → MayGoOn (paired at c 
 paired-goes-on at c [] = no_token
 paired-goes-on at c (d ∷ rest) = pair-goes-on at c d
 
-mark-goes-on : (at : At) (c : ℕ) → MayGoOn (mark_token at c)
-mark-goes-on at c =
+punctuation-goes-on : (at : At) (c : ℕ) → MayGoOn (punctuation_token at c)
+punctuation-goes-on at c =
     if-some _ (tok.Open at) _ tt (if-some _ (tok.Close at) _ tt
     (if-some _ (tok.OpenIndex at) _ tt (if-some _ (tok.CloseIndex at) _ tt
     (if-some _ (tok.Comma at) _ tt (if-some _ (tok.Semicolon at) _ tt (if-some _ (tok.Colon at) None tt no_token))))))
@@ -123,7 +124,7 @@ sign-goes-on at c =
     if-some _ (tok.Less at) _ tt (if-some _ (tok.Greater at) _ tt
     (if-some _ (tok.Equal at) _ tt (if-some _ (tok.Plus at) _ tt
     (if-some _ (tok.Minus at) _ tt (if-some _ (tok.Star at) _ tt
-    (if-some _ (tok.Slash at) _ tt (mark-goes-on at c)))))))
+    (if-some _ (tok.Slash at) _ tt (punctuation-goes-on at c)))))))
 
 signed-begins : (here : Cursor) {o : Option Token} → MayGoOn o → Begins (signed here o)
 signed-begins here no_token = by_fault

@@ -1,4 +1,4 @@
--- The machine takes the tokens of each argument, list of values and right side, and its marks are their levels.
+-- The machine takes the tokens of each argument, list of values and right side, and its open levels are theirs.
 use Rattle.std.proofs.Common.{◌≡◌, ℕ, suc, List, ◌∷◌, refl, sym, ap, ◌∙◌}
 use Rattle.tal_tokens.specs.declared.token.Token.{Token}
 use Rattle.tal_tokens.specs.declared.token.Token.TheVariants as tok
@@ -7,7 +7,7 @@ use Rattle.tal_syntax.specs.Nesting.{nest_expr, nest_argument, nest_further, nes
 use Rattle.tal_recogniser.specs.declared.symbol.Symbol.TheVariants as sym
 use Rattle.tal_recogniser.specs.ExpressionTable.{Stack, expr_on}
 use Rattle.tal_recogniser.specs.StatementTable.{further_step, arguments_step, values_step, answer_step}
-use Rattle.tal_recogniser.specs.Machine.{marks, over, trace}
+use Rattle.tal_recogniser.specs.Machine.{open_levels, over, trace}
 use Rattle.tal_recogniser.proofs.Steps.{Leaves, QuitsExpr, QuitsRight, gives_way, unmarked}
 use Rattle.tal_recogniser.proofs.CompleteExpressions.{complete-expr}
 
@@ -64,20 +64,20 @@ right-begins (g.expr (g.both (g.negated at n) ns) os) ss ks q = refl
 right-begins (g.expr (g.both (g.relation (g.sum (g.product (g.minus at f) fs) ts) c) ns) os) ss ks q = refl
 right-begins (g.expr (g.both (g.relation (g.sum (g.product (g.number at n) fs) ts) c) ns) os) ss ks q = refl
 right-begins (g.expr (g.both (g.relation (g.sum (g.product (g.read (g.spot at name i)) fs) ts) c) ns) os) ss ks q =
-    ap (over (λ ls. marks ss ∷ ls)) (goes_on i fs ts c ns os ss ks q)
+    ap (over (λ ls. open_levels ss ∷ ls)) (goes_on i fs ts c ns os ss ks q)
 right-begins (g.expr (g.both (g.relation (g.sum (g.product (g.parens start e close) fs) ts) c) ns) os) ss ks q = refl
 
 pub complete-right : (e : g.Expr) (ss : Stack) (ks : List Token) → QuitsRight ks
-    → trace (sym.Right ∷ ss) (g.of_expr e ks) ≡ over (nest_expr (marks ss) e) (trace ss ks)
+    → trace (sym.Right ∷ ss) (g.of_expr e ks) ≡ over (nest_expr (open_levels ss) e) (trace ss ks)
 complete-right e ss ks q = right-begins e ss ks q ∙ complete-expr e ss ks q.0
 
 pub complete-answer : (a : g.Answer) (ss : Stack) (ks : List Token) → QuitsExpr ks → Leaves answer_step ks
-    → trace (sym.Answer ∷ ss) (g.of_answer a ks) ≡ over (nest_answer (marks ss) a) (trace ss ks)
+    → trace (sym.Answer ∷ ss) (g.of_answer a ks) ≡ over (nest_answer (open_levels ss) a) (trace ss ks)
 complete-answer g.no_answer ss ks q r = gives_way sym.Answer ss ks r refl
 complete-answer (g.answer e) ss ks q r = answer-begins e ss ks ∙ complete-expr e ss ks q
 
 complete-argument : (a : g.Argument) (ss : Stack) (ks : List Token) → QuitsExpr ks
-    → trace (sym.Argument ∷ ss) (g.of_argument a ks) ≡ over (nest_argument (marks ss) a) (trace ss ks)
+    → trace (sym.Argument ∷ ss) (g.of_argument a ks) ≡ over (nest_argument (open_levels ss) a) (trace ss ks)
 complete-argument (g.value e) ss ks q = argument-begins e ss ks ∙ complete-expr e ss ks q
 complete-argument (g.receive at) ss ks q = refl
 complete-argument (g.process at name) ss ks q = refl
@@ -88,18 +88,18 @@ quits-further g.no_further ks q = q
 quits-further (g.more_further comma a rest) ks q = (((((refl, refl), refl), refl), refl), refl)
 
 complete-further : (f : g.Further) (ss : Stack) (ks : List Token) → QuitsExpr ks → Leaves further_step ks
-    → trace (sym.FurtherTail ∷ ss) (g.of_further f ks) ≡ over (nest_further (marks ss) f) (trace ss ks)
+    → trace (sym.FurtherTail ∷ ss) (g.of_further f ks) ≡ over (nest_further (open_levels ss) f) (trace ss ks)
 complete-further g.no_further ss ks q r = gives_way sym.FurtherTail ss ks r refl
 complete-further (g.more_further comma a rest) ss ks q r =
-    ap (over (λ ls. marks ss ∷ ls))
+    ap (over (λ ls. open_levels ss ∷ ls))
     (complete-argument a (sym.FurtherTail ∷ ss) (g.of_further rest ks) (quits-further rest ks q)
-    ∙ ap (over (nest_argument (marks ss) a)) (complete-further rest ss ks q r))
+    ∙ ap (over (nest_argument (open_levels ss) a)) (complete-further rest ss ks q r))
 
 pub complete-arguments : (a : g.Arguments) (ss : Stack) (ks : List Token) → Leaves arguments_step ks
-    → trace (sym.ArgumentsTail ∷ ss) (g.of_arguments a ks) ≡ over (nest_arguments (marks ss) a) (trace ss ks)
+    → trace (sym.ArgumentsTail ∷ ss) (g.of_arguments a ks) ≡ over (nest_arguments (open_levels ss) a) (trace ss ks)
 complete-arguments g.unlisted ss ks q = gives_way sym.ArgumentsTail ss ks q refl
 complete-arguments (g.listed start first more close) ss ks q =
-    let m : ℕ = suc (marks ss) in
+    let m : ℕ = suc (open_levels ss) in
     let shut : QuitsExpr (tok.Close close ∷ ks) = (((((refl, refl), refl), refl), refl), refl) in
     ap (over (λ ls. m ∷ ls))
     (complete-argument first (sym.FurtherTail ∷ sym.WantClose ∷ sym.LevelEnd ∷ ss)
@@ -113,9 +113,9 @@ quits-values g.no_values ks q = q
 quits-values (g.more_values comma e rest) ks q = (((((refl, refl), refl), refl), refl), refl)
 
 pub complete-values : (vs : g.Values) (ss : Stack) (ks : List Token) → QuitsExpr ks → Leaves values_step ks
-    → trace (sym.ValuesTail ∷ ss) (g.of_values vs ks) ≡ over (nest_values (marks ss) vs) (trace ss ks)
+    → trace (sym.ValuesTail ∷ ss) (g.of_values vs ks) ≡ over (nest_values (open_levels ss) vs) (trace ss ks)
 complete-values g.no_values ss ks q r = gives_way sym.ValuesTail ss ks r refl
 complete-values (g.more_values comma e rest) ss ks q r =
-    ap (over (λ ls. marks ss ∷ ls))
+    ap (over (λ ls. open_levels ss ∷ ls))
     (complete-expr e (sym.ValuesTail ∷ ss) (g.of_values rest ks) (quits-values rest ks q)
-    ∙ ap (over (nest_expr (marks ss) e)) (complete-values rest ss ks q r))
+    ∙ ap (over (nest_expr (open_levels ss) e)) (complete-values rest ss ks q r))

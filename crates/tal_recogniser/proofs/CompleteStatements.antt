@@ -10,7 +10,7 @@ use Rattle.tal_syntax.specs.Nesting.{nest_statement, nest_otherwise, nest_row}
 use Rattle.tal_recogniser.specs.declared.symbol.Symbol.TheVariants as sym
 use Rattle.tal_recogniser.specs.ExpressionTable.{Stack}
 use Rattle.tal_recogniser.specs.StatementTable.{statement_step, else_step, step_step}
-use Rattle.tal_recogniser.specs.Machine.{marks, over, trace}
+use Rattle.tal_recogniser.specs.Machine.{open_levels, over, trace}
 use Rattle.tal_recogniser.proofs.Steps.{Leaves, LeavesOpen, QuitsExpr, QuitsStatement, QuitsRow, gives_way, unmarked}
 use Rattle.tal_recogniser.proofs.CompleteDeclarations.{complete-constant}
 use Rattle.tal_recogniser.proofs.CompleteExpressions.{complete-expr, complete-index}
@@ -28,12 +28,12 @@ quits-step g.step_one at ks = (((((refl, refl), refl), refl), refl), refl)
 quits-step (g.step_by by c) at ks = (((((refl, refl), refl), refl), refl), refl)
 
 complete-step : (s : g.Step) (ss : Stack) (ks : List Token) → Leaves step_step ks
-    → trace (sym.StepTail ∷ ss) (g.of_step s ks) ≡ over (nest_step (marks ss) s) (trace ss ks)
+    → trace (sym.StepTail ∷ ss) (g.of_step s ks) ≡ over (nest_step (open_levels ss) s) (trace ss ks)
 complete-step g.step_one ss ks q = gives_way sym.StepTail ss ks q refl
-complete-step (g.step_by at c) ss ks q = ap (over (λ ls. marks ss ∷ ls)) (complete-constant c ss ks)
+complete-step (g.step_by at c) ss ks q = ap (over (λ ls. open_levels ss ∷ ls)) (complete-constant c ss ks)
 
 complete-direction : (d : g.Direction) (ss : Stack) (ks : List Token)
-    → trace (sym.Direction ∷ ss) (g.of_direction d ∷ ks) ≡ over (λ ls. marks ss ∷ ls) (trace ss ks)
+    → trace (sym.Direction ∷ ss) (g.of_direction d ∷ ks) ≡ over (λ ls. open_levels ss ∷ ls) (trace ss ks)
 complete-direction (g.up at) ss ks = refl
 complete-direction (g.down at) ss ks = refl
 
@@ -71,10 +71,10 @@ twice ss ks q = unmarked statement_step (sym.LevelEnd ∷ ss) ks q ∙ unmarked 
 mutual
   pub complete-statement : (s : g.Statement) (ss : Stack) (ks : List Token) → g.IsNearest s → QuitsStatement ks
       → LeavesOpen (g.is_open s) ks
-      → trace (sym.Statement ∷ ss) (g.of_statement s ks) ≡ over (nest_statement (marks ss) s) (trace ss ks)
+      → trace (sym.Statement ∷ ss) (g.of_statement s ks) ≡ over (nest_statement (open_levels ss) s) (trace ss ks)
   complete-statement g.nothing ss ks n q o = gives_way sym.Statement ss ks q.0.1 refl
   complete-statement (g.block begin first more end) ss ks n q o =
-      let m : ℕ = suc (marks ss) in
+      let m : ℕ = suc (open_levels ss) in
       ap (over (λ ls. m ∷ ls))
       (complete-statement first (sym.RowTail ∷ sym.WantEnd ∷ sym.LevelEnd ∷ ss) (g.of_row more (tok.End end ∷ ks)) n.0
       (quits-row more (tok.End end ∷ ks) (quits-end end ks))
@@ -83,7 +83,7 @@ mutual
       (quits-end end ks)))
       ∙ ap (over (λ ls. m ∷ nest_statement m first (nest_row m more (m ∷ ls)))) (unmarked statement_step ss ks q.0.1)
   complete-statement (g.if_then head test then_at s e) ss ks n q o =
-      let m : ℕ = suc (marks ss) in
+      let m : ℕ = suc (open_levels ss) in
       ap (over (λ ls. m ∷ ls))
       (complete-expr test (sym.WantThen ∷ sym.Statement ∷ sym.ElseTail ∷ sym.LevelEnd ∷ ss)
       (tok.Then then_at ∷ g.of_statement s (g.of_otherwise e ks)) (((((refl, refl), refl), refl), refl), refl)
@@ -94,14 +94,14 @@ mutual
       ∙ ap (over (λ ls. m ∷ nest_expr m test (m ∷ nest_statement m s (nest_otherwise m e ls))))
       (unmarked statement_step ss ks q.0.1)
   complete-statement (g.while_do head test do_at s) ss ks n q o =
-      let m : ℕ = suc (marks ss) in
+      let m : ℕ = suc (open_levels ss) in
       ap (over (λ ls. m ∷ ls))
       (complete-expr test (sym.WantDo ∷ sym.Statement ∷ sym.LevelEnd ∷ ss) (tok.Do do_at ∷ g.of_statement s ks)
       (((((refl, refl), refl), refl), refl), refl)
       ∙ ap (over (λ ls. nest_expr m test (m ∷ ls))) (complete-statement s (sym.LevelEnd ∷ ss) ks n q o))
       ∙ ap (over (λ ls. m ∷ nest_expr m test (m ∷ nest_statement m s ls))) (unmarked statement_step ss ks q.0.1)
   complete-statement (g.for_do head at name set_at from direction to step do_at s) ss ks n q o =
-      let m : ℕ = suc (marks ss) in
+      let m : ℕ = suc (open_levels ss) in
       let body : List Token = tok.Do do_at ∷ g.of_statement s ks in
       let last : Stack = sym.WantDo ∷ sym.Statement ∷ sym.LevelEnd ∷ ss in
       let limit : Stack = sym.Neg ∷ sym.AndTail ∷ sym.OrTail ∷ sym.StepTail ∷ last in
@@ -116,7 +116,7 @@ mutual
       ∙ ap (over (λ ls. m ∷ m ∷ m ∷ nest_expr m from
       (m ∷ nest_expr m to (nest_step m step (m ∷ nest_statement m s ls))))) (unmarked statement_step ss ks q.0.1)
   complete-statement (g.do_until head s at test) ss ks n q o =
-      let m : ℕ = suc (marks ss) in
+      let m : ℕ = suc (open_levels ss) in
       ap (over (λ ls. m ∷ ls))
       (complete-statement s (sym.WantUntil ∷ sym.Neg ∷ sym.AndTail ∷ sym.OrTail ∷ sym.LevelEnd ∷ ss)
       (tok.Until at ∷ g.of_expr test ks) n (quits-until at (g.of_expr test ks))
@@ -124,21 +124,21 @@ mutual
       ∙ ap (over (λ ls. nest_statement m s (m ∷ ls))) (complete-expr test (sym.LevelEnd ∷ ss) ks q.0.0.0))
       ∙ ap (over (λ ls. m ∷ nest_statement m s (m ∷ nest_expr m test ls))) (unmarked statement_step ss ks q.0.1)
   complete-statement (g.call head at name a) ss ks n q o =
-      let m : ℕ = suc (marks ss) in
+      let m : ℕ = suc (open_levels ss) in
       ap (over (λ ls. m ∷ m ∷ ls)) (complete-arguments a (sym.LevelEnd ∷ ss) ks q.1.0)
       ∙ ap (over (λ ls. m ∷ m ∷ nest_arguments m a ls)) (unmarked statement_step ss ks q.0.1)
   complete-statement (g.return head a) ss ks n q o =
-      let m : ℕ = suc (marks ss) in
+      let m : ℕ = suc (open_levels ss) in
       ap (over (λ ls. m ∷ ls)) (complete-answer a (sym.LevelEnd ∷ ss) ks q.0.0.0 q.1.1)
       ∙ ap (over (λ ls. m ∷ nest_answer m a ls)) (unmarked statement_step ss ks q.0.1)
   complete-statement (g.assign (g.spot at name i) set_at e) ss ks n q o =
-      let m : ℕ = suc (marks ss) in
+      let m : ℕ = suc (open_levels ss) in
       ap (over (λ ls. m ∷ ls))
       (complete-index i (sym.WantAssign ∷ sym.Right ∷ sym.LevelEnd ∷ ss) (tok.Assign set_at ∷ g.of_expr e ks) refl
       ∙ ap (over (λ ls. nest_index m i (m ∷ ls))) (complete-right e (sym.LevelEnd ∷ ss) ks q.0.0))
       ∙ ap (over (λ ls. m ∷ nest_index m i (m ∷ nest_expr m e ls))) (unmarked statement_step ss ks q.0.1)
   complete-statement (g.assign_call (g.spot at name i) set_at name_at callee start first more close) ss ks n q o =
-      let m : ℕ = suc (marks ss) in
+      let m : ℕ = suc (open_levels ss) in
       let shut : QuitsExpr (tok.Close close ∷ ks) = (((((refl, refl), refl), refl), refl), refl) in
       ap (over (λ ls. m ∷ ls))
       (complete-index i (sym.WantAssign ∷ sym.Right ∷ sym.LevelEnd ∷ ss)
@@ -155,16 +155,16 @@ mutual
 
   complete-otherwise : (s : g.Statement) (o : g.Otherwise) (ss : Stack) (ks : List Token) → g.IsNearestElse s o
       → QuitsStatement ks → LeavesOpen (g.is_open_else o) ks
-      → trace (sym.ElseTail ∷ ss) (g.of_otherwise o ks) ≡ over (nest_otherwise (marks ss) o) (trace ss ks)
+      → trace (sym.ElseTail ∷ ss) (g.of_otherwise o ks) ≡ over (nest_otherwise (open_levels ss) o) (trace ss ks)
   complete-otherwise s g.no_else ss ks n q o = gives_way sym.ElseTail ss ks o refl
   complete-otherwise s (g.otherwise at t) ss ks n q o =
-      ap (over (λ ls. marks ss ∷ ls)) (complete-statement t ss ks n.1 q o)
+      ap (over (λ ls. open_levels ss ∷ ls)) (complete-statement t ss ks n.1 q o)
 
   pub complete-row : (r : g.Row) (ss : Stack) (ks : List Token) → g.IsNearestRow r → QuitsRow ks
-      → trace (sym.RowTail ∷ ss) (g.of_row r ks) ≡ over (nest_row (marks ss) r) (trace ss ks)
+      → trace (sym.RowTail ∷ ss) (g.of_row r ks) ≡ over (nest_row (open_levels ss) r) (trace ss ks)
   complete-row g.no_row ss ks n q = gives_way sym.RowTail ss ks q.1.0 refl
   complete-row (g.more_row semicolon s rest) ss ks n q =
-      ap (over (λ ls. marks ss ∷ ls))
+      ap (over (λ ls. open_levels ss ∷ ls))
       (complete-statement s (sym.RowTail ∷ ss) (g.of_row rest ks) n.0 (quits-row rest ks q)
       (opened-row (g.is_open s) rest ks q)
-      ∙ ap (over (nest_statement (marks ss) s)) (complete-row rest ss ks n.1 q))
+      ∙ ap (over (nest_statement (open_levels ss) s)) (complete-row rest ss ks n.1 q))

@@ -1,4 +1,4 @@
--- The machine takes the tokens of each text, and its marks are their levels.
+-- The machine takes the tokens of each text, and its open levels are theirs.
 use Rattle.std.proofs.Common.{◌≡◌, ℕ, List, [], ◌∷◌, ◌++◌, Some, refl, sym, ap, ◌∙◌}
 use Rattle.tal_tokens.specs.declared.token.At.{At}
 use Rattle.tal_tokens.specs.declared.token.Token.{Token}
@@ -11,7 +11,7 @@ use Rattle.tal_recogniser.specs.declared.symbol.Symbol.TheVariants as sym
 use Rattle.tal_recogniser.specs.ExpressionTable.{Stack}
 use Rattle.tal_recogniser.specs.DeclarationTable.{procedure_on, lines_step, procedures_step, parameters_step}
 use Rattle.tal_recogniser.specs.DeclarationTable.{locals_step}
-use Rattle.tal_recogniser.specs.Machine.{marks, over, trace, start}
+use Rattle.tal_recogniser.specs.Machine.{open_levels, over, trace, start}
 use Rattle.tal_recogniser.proofs.Steps.{Leaves, gives_way}
 use Rattle.tal_recogniser.proofs.CompleteDeclarations.{complete-bounds, leaves-bounds, complete-items, complete-literal}
 use Rattle.tal_recogniser.proofs.CompleteDeclarations.{complete-literals, complete-parameters, complete-main}
@@ -49,13 +49,13 @@ complete-procedure : (at : At) (name : List ℕ) (p : g.Parameters) (w : g.Main)
     → trace (procedure_on ++ ss) (tok.Name at name
     ∷ g.of_parameters p (g.of_main w (tok.Semicolon end ∷ g.of_locals outer (tok.Begin begin
     ∷ g.of_locals inner (g.of_statement first (g.of_row more (tok.End stop ∷ tok.Semicolon last ∷ ks)))))))
-    ≡ over (λ ls. marks ss ∷ nest_parameters (marks ss) p
-    (nest_main (marks ss) w (marks ss ∷ nest_locals (marks ss) outer (marks ss
-    ∷ nest_locals (marks ss) inner (nest_statement (marks ss) first
-    (nest_row (marks ss) more (marks ss ∷ marks ss ∷ ls)))))))
+    ≡ over (λ ls. open_levels ss ∷ nest_parameters (open_levels ss) p
+    (nest_main (open_levels ss) w (open_levels ss ∷ nest_locals (open_levels ss) outer (open_levels ss
+    ∷ nest_locals (open_levels ss) inner (nest_statement (open_levels ss) first
+    (nest_row (open_levels ss) more (open_levels ss ∷ open_levels ss ∷ ls)))))))
     (trace (sym.Procedures ∷ ss) ks)
 complete-procedure at name p w end outer begin inner first more stop last ss ks n r =
-    let m : ℕ = marks ss in
+    let m : ℕ = open_levels ss in
     let ks1 : List Token = tok.End stop ∷ tok.Semicolon last ∷ ks in
     let ss1 : Stack = sym.WantEnd ∷ sym.WantSemicolon ∷ sym.Procedures ∷ ss in
     let ks2 : List Token = g.of_statement first (g.of_row more ks1) in
@@ -79,20 +79,22 @@ complete-procedure at name p w end outer begin inner first more stop last ss ks 
     ∙ ap (over (nest_statement m first)) (complete-row more ss1 ks1 r (quits-end stop (tok.Semicolon last ∷ ks))))))))
 
 complete-procedures : (ps : g.Procedures) (ss : Stack) (ks : List Token) → g.IsNearestIn ps → Leaves procedures_step ks
-    → trace (sym.Procedures ∷ ss) (g.of_procedures ps ks) ≡ over (nest_procedures (marks ss) ps) (trace ss ks)
+    → trace (sym.Procedures ∷ ss) (g.of_procedures ps ks) ≡ over (nest_procedures (open_levels ss) ps) (trace ss ks)
 complete-procedures g.no_procedures ss ks n q = gives_way sym.Procedures ss ks q refl
 complete-procedures (g.more_procedures (g.procedure (g.heading g.gives_nothing proc at name p w end) outer begin inner
     first more stop last) rest) ss ks n q =
-    ap (over (λ ls. marks ss ∷ ls)) (complete-procedure at name p w end outer begin inner first more stop last ss
+    ap (over (λ ls. open_levels ss ∷ ls)) (complete-procedure at name p w end outer begin inner first more stop last ss
     (g.of_procedures rest ks) n.0.0 n.0.1)
-    ∙ ap (over (nest_procedure (marks ss) (g.procedure (g.heading g.gives_nothing proc at name p w end) outer begin
+    ∙ ap (over (nest_procedure (open_levels ss) (g.procedure (g.heading g.gives_nothing proc at name p w end) outer
+    begin
     inner first more stop last))) (complete-procedures rest ss ks n.1 q)
 complete-procedures (g.more_procedures (g.procedure (g.heading (g.gives_int int) proc at name p w end) outer begin
     inner first more stop last) rest) ss ks n q =
-    ap (over (λ ls. marks ss ∷ marks ss ∷ ls))
+    ap (over (λ ls. open_levels ss ∷ open_levels ss ∷ ls))
     (complete-procedure at name p w end outer begin inner first more stop last ss (g.of_procedures rest ks) n.0.0
     n.0.1)
-    ∙ ap (over (nest_procedure (marks ss) (g.procedure (g.heading (g.gives_int int) proc at name p w end) outer begin
+    ∙ ap (over (nest_procedure (open_levels ss) (g.procedure (g.heading (g.gives_int int) proc at name p w end) outer
+    begin
     inner first more stop last))) (complete-procedures rest ss ks n.1 q)
 
 -- the first procedure may stand where a line of globals may
@@ -108,10 +110,10 @@ procedures-begin (g.more_procedures (g.procedure (g.heading (g.gives_int int) pr
 complete-lines : (ls : g.Lines) (ps : g.Procedures) (ss : Stack) (ks : List Token) → g.IsNearestIn ps
     → Leaves lines_step ks → Leaves procedures_step ks
     → trace (sym.Lines ∷ ss) (g.of_lines ls (g.of_procedures ps ks))
-    ≡ over (λ l. nest_lines (marks ss) ls (nest_procedures (marks ss) ps l)) (trace ss ks)
+    ≡ over (λ l. nest_lines (open_levels ss) ls (nest_procedures (open_levels ss) ps l)) (trace ss ks)
 complete-lines g.no_lines ps ss ks n q r = procedures-begin ps ss ks q r ∙ complete-procedures ps ss ks n r
 complete-lines (g.more_lines (g.int_line int (g.item at name b) more end) rest) ps ss ks n q r =
-    let m : ℕ = marks ss in
+    let m : ℕ = open_levels ss in
     let rests : List Token = tok.Semicolon end ∷ g.of_lines rest (g.of_procedures ps ks) in
     ap (over (λ ls. m ∷ m ∷ ls))
     (complete-bounds b (sym.ItemsTail ∷ sym.WantSemicolon ∷ sym.Lines ∷ ss) (g.of_items more rests)
@@ -120,7 +122,7 @@ complete-lines (g.more_lines (g.int_line int (g.item at name b) more end) rest) 
     (complete-items more (sym.WantSemicolon ∷ sym.Lines ∷ ss) rests refl refl
     ∙ ap (over (λ ls. nest_items m more (m ∷ ls))) (complete-lines rest ps ss ks n q r)))
 complete-lines (g.more_lines (g.literal_line word (g.literal at name equal c) more end) rest) ps ss ks n q r =
-    let m : ℕ = marks ss in
+    let m : ℕ = open_levels ss in
     let rests : List Token = tok.Semicolon end ∷ g.of_lines rest (g.of_procedures ps ks) in
     ap (over (λ ls. m ∷ m ∷ ls))
     (complete-literal c (sym.LiteralsTail ∷ sym.WantSemicolon ∷ sym.Lines ∷ ss) (g.of_literals more rests) equal

@@ -11,7 +11,7 @@ use Rattle.tal_syntax.specs.Expected.{AllAtMost, Viable, IsWithin, Begins, IsUne
 use Rattle.tal_syntax.specs.Expected.{IsUnfinished}
 use Rattle.tal_recogniser.specs.declared.symbol.Symbol.{Symbol}
 use Rattle.tal_recogniser.specs.ExpressionTable.{Stack}
-use Rattle.tal_recogniser.specs.Machine.{feed, marks, over, trace, start}
+use Rattle.tal_recogniser.specs.Machine.{feed, open_levels, over, trace, start}
 use Rattle.tal_recogniser.proofs.Things.{Things, of_things, Made, closings}
 use Rattle.tal_recogniser.proofs.Sound.{Back, sound-trace}
 use Rattle.tal_recogniser.proofs.Split.{on_from, none_from, levels-length, one_more, one_less, one_and_more}
@@ -59,16 +59,16 @@ all-one-more m l [] a h = (h, tt)
 all-one-more m l (k ∷ ls) a h = (a.0, all-one-more m l ls a.1 h)
 
 stack-after : (front : List Token) (k : Token) (ss ts : Stack) → (trace start front).0 ≡ Some ss → feed k ss ≡ Some ts
-    → trace start (front ++ k ∷ []) ≡ (Some ts, (trace start front).1 ++ marks ts ∷ [])
+    → trace start (front ++ k ∷ []) ≡ (Some ts, (trace start front).1 ++ open_levels ts ∷ [])
 stack-after front k ss ts r f =
     on_from start ss front (k ∷ []) r ∙ ap (over (λ l. (trace start front).1 ++ l)) (one_more k ss ts f)
 
 -- a token that is taken and stands within the levels
 pub reached-more : (m : ℕ) (front : List Token) (k : Token) (ss ts : Stack) → Reached m front ss → feed k ss ≡ Some ts
-    → marks ts ≤ m → Reached m (front ++ k ∷ []) ts
+    → open_levels ts ≤ m → Reached m (front ++ k ∷ []) ts
 reached-more m front k ss ts r f h =
     let e = stack-after front k ss ts r.0 f in
-    (ap (λ u. u.0) e, rw (ap (λ u. u.1) e) (all-one-more m (marks ts) (trace start front).1 r.1 h))
+    (ap (λ u. u.0) e, rw (ap (λ u. u.1) e) (all-one-more m (open_levels ts) (trace start front).1 r.1 h))
 
 -- a token that isn't taken: no text goes on after it
 pub not-viable : (ks : List Token) → (trace start ks).0 ≡ None → Viable ks → ⊥
@@ -94,22 +94,22 @@ get_or-seam (x ∷ ls) l more d = get_or-seam ls l more d
 -- a token that is taken and stands too deep
 pub too-deep-at : (m : ℕ) (ks : List Token) (j : ℕ) (k : Token) (ss ts : Stack) → j < length ks
     → length (take j ks) ≡ j → take (j + 1) ks ≡ take j ks ++ k ∷ []
-    → Reached m (take j ks) ss → feed k ss ≡ Some ts → m < marks ts → IsTooDeep m ks j
+    → Reached m (take j ks) ss → feed k ss ≡ Some ts → m < open_levels ts → IsTooDeep m ks j
 too-deep-at m ks j k ss ts h len e r f deep =
     let front : List Token = take j ks in
     let more : List Token = of_things ts (closings ts) in
     let t = completed (front ++ k ∷ []) ts (ap (λ u. u.0) (stack-after front k ss ts r.0 f)) (closings ts) in
     let whole : g.of_text t.0 ≡ front ++ k ∷ more = t.2 ∙ append_assoc front (k ∷ []) more in
-    let levels : nest_text t.0 ≡ (trace start front).1 ++ marks ts ∷ (trace ts more).1 =
+    let levels : nest_text t.0 ≡ (trace start front).1 ++ open_levels ts ∷ (trace ts more).1 =
     levels-are t.0 front (k ∷ more) ss t.1 whole r.0
     ∙ ap (λ l. (trace start front).1 ++ l) (one_and_more k ss ts more f) in
     let before : take j (nest_text t.0) ≡ (trace start front).1 =
     ap (λ i. take i (nest_text t.0)) (sym len) ∙ front-levels t.0 front (k ∷ more) ss t.1 whole r.0 in
-    let here : get_or (nest_text t.0) j 0 ≡ marks ts =
+    let here : get_or (nest_text t.0) j 0 ≡ open_levels ts =
     ap (λ l. get_or l j 0) levels
-    ∙ ap (λ i. get_or ((trace start front).1 ++ marks ts ∷ (trace ts more).1) i 0)
+    ∙ ap (λ i. get_or ((trace start front).1 ++ open_levels ts ∷ (trace ts more).1) i 0)
     (sym (levels-length front start ss r.0 ∙ len))
-    ∙ get_or-seam (trace start front).1 (marks ts) (trace ts more).1 0 in
+    ∙ get_or-seam (trace start front).1 (open_levels ts) (trace ts more).1 0 in
     too_deep t.0 more h t.1 (t.2 ∙ ap (λ l. l ++ more) (sym e)) (rw before r.1) (rw here deep)
 
 -- all tokens are taken and nothing is to come

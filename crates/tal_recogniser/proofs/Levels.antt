@@ -1,10 +1,10 @@
--- A level stands open for a mark in the stack.
+-- A level stands open for each of its ends in the stack.
 use Rattle.std.proofs.Common.{◌≤◌, [], ◌∷◌, length, arith}
 use Rattle.tal_recogniser.specs.declared.symbol.Symbol.TheVariants as sym
 use Rattle.tal_recogniser.specs.ExpressionTable.{Stack}
-use Rattle.tal_recogniser.specs.Machine.{marks}
+use Rattle.tal_recogniser.specs.Machine.{open_levels}
 
-pub few_marks : (ss : Stack) → marks ss ≤ length ss
+pub few_marks : (ss : Stack) → open_levels ss ≤ length ss
 few_marks [] = omega arith
-few_marks (sym.LevelEnd ∷ ss) = let h : marks ss ≤ length ss = few_marks ss in omega arith
-few_marks (s ∷ ss) = let h : marks ss ≤ length ss = few_marks ss in omega arith
+few_marks (sym.LevelEnd ∷ ss) = let h : open_levels ss ≤ length ss = few_marks ss in omega arith
+few_marks (s ∷ ss) = let h : open_levels ss ≤ length ss = few_marks ss in omega arith

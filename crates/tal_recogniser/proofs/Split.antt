@@ -3,7 +3,7 @@ use Rattle.std.proofs.Common.{◌≡◌, ℕ, suc, List, [], ◌∷◌, ◌++◌
 use Rattle.std.proofs.lemmas.Option.{none-some}
 use Rattle.tal_tokens.specs.declared.token.Token.{Token}
 use Rattle.tal_recogniser.specs.ExpressionTable.{Stack}
-use Rattle.tal_recogniser.specs.Machine.{feed, marks, Trace, over, noted, trace}
+use Rattle.tal_recogniser.specs.Machine.{feed, open_levels, Trace, over, noted, trace}
 
 -- what was read, and what is read from there on
 abbrev pub joined : Trace → (Stack → Trace) → Trace
@@ -20,7 +20,7 @@ split-on : (o : Option Stack) (ks more : List Token)
     → noted o (λ ts. trace ts (ks ++ more)) ≡ joined (noted o (λ ts. trace ts ks)) (λ us. trace us more)
 split-on None ks more h = refl
 split-on (Some ts) ks more h =
-    ap (over (λ l. marks ts ∷ l)) (h ts) ∙ joined-over (marks ts) (trace ts ks) (λ us. trace us more)
+    ap (over (λ l. open_levels ts ∷ l)) (h ts) ∙ joined-over (open_levels ts) (trace ts ks) (λ us. trace us more)
 
 split : (ks more : List Token) (ss : Stack) → trace ss (ks ++ more) ≡ joined (trace ss ks) (λ ts. trace ts more)
 split [] more ss = refl
@@ -53,12 +53,12 @@ levels-length [] ss ts e = refl
 levels-length (k ∷ ks) ss ts e = noted-length (feed k ss) ks ts e (λ us. levels-length ks us ts)
 
 -- one token more
-pub one_more : (k : Token) (ss ts : Stack) → feed k ss ≡ Some ts → trace ss (k ∷ []) ≡ (Some ts, marks ts ∷ [])
+pub one_more : (k : Token) (ss ts : Stack) → feed k ss ≡ Some ts → trace ss (k ∷ []) ≡ (Some ts, open_levels ts ∷ [])
 one_more k ss ts e = ap (λ o. noted o (λ us. trace us [])) e
 
 pub one_less : (k : Token) (ss : Stack) → feed k ss ≡ None → trace ss (k ∷ []) ≡ (None, [])
 one_less k ss e = ap (λ o. noted o (λ us. trace us [])) e
 
 pub one_and_more : (k : Token) (ss ts : Stack) (more : List Token) → feed k ss ≡ Some ts
-    → (trace ss (k ∷ more)).1 ≡ marks ts ∷ (trace ts more).1
+    → (trace ss (k ∷ more)).1 ≡ open_levels ts ∷ (trace ts more).1
 one_and_more k ss ts more e = ap (λ o. (noted o (λ us. trace us more)).1) e

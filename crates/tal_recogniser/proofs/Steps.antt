@@ -6,7 +6,7 @@ use Rattle.tal_recogniser.specs.declared.symbol.Symbol.TheVariants as sym
 use Rattle.tal_recogniser.specs.ExpressionTable.{Stack, index_step, times_step, term_step, rel_step, and_step, or_step}
 use Rattle.tal_recogniser.specs.StatementTable.{arguments_step, answer_step, right_tail_step, statement_step, else_step}
 use Rattle.tal_recogniser.specs.StatementTable.{row_step}
-use Rattle.tal_recogniser.specs.Machine.{step, vanishes, fed_by, feed, marks, over, noted, trace}
+use Rattle.tal_recogniser.specs.Machine.{step, vanishes, fed_by, feed, open_levels, over, noted, trace}
 
 -- the first token isn't one with which a symbol goes on
 abbrev pub Leaves : (Token → Option Stack) → List Token → Type 0
@@ -39,7 +39,7 @@ gives_way s ss (k ∷ ks) q v =
     ap (λ o. noted (fed_by o (vanishes s) ss (feed k ss)) (λ ts. trace ts ks)) q
     ∙ ap (λ b. noted (fed_by None b ss (feed k ss)) (λ ts. trace ts ks)) v
 
--- the mark of a level that ends
+-- the end of a level
 pub unmarked : (row : Token → Option Stack) (ss : Stack) (ks : List Token) → Leaves row ks
     → trace (sym.LevelEnd ∷ ss) ks ≡ trace ss ks
 unmarked row ss [] q = absurd q
@@ -47,7 +47,7 @@ unmarked row ss (k ∷ ks) q = refl
 
 -- a token that is taken
 pub taken : (s : Symbol) (k : Token) (ts ss : Stack) (ks : List Token) → step s k ≡ Some ts
-    → trace (s ∷ ss) (k ∷ ks) ≡ over (λ ls. marks (ts ++ ss) ∷ ls) (trace (ts ++ ss) ks)
+    → trace (s ∷ ss) (k ∷ ks) ≡ over (λ ls. open_levels (ts ++ ss) ∷ ls) (trace (ts ++ ss) ks)
 taken s k ts ss ks e = ap (λ o. noted (fed_by o (vanishes s) ss (feed k ss)) (λ us. trace us ks)) e
 
 abbrev pub QuitsRight : List Token → Type 0

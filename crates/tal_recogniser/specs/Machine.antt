@@ -90,10 +90,10 @@ feed k [] = None
 feed k (s ∷ ss) = fed_by (step s k) (vanishes s) ss (feed k ss)
 
 -- how many levels stand open
-abbrev pub marks : Stack → ℕ
-marks [] = 0
-marks (sym.LevelEnd ∷ ss) = suc (marks ss)
-marks (s ∷ ss) = marks ss
+abbrev pub open_levels : Stack → ℕ
+open_levels [] = 0
+open_levels (sym.LevelEnd ∷ ss) = suc (open_levels ss)
+open_levels (s ∷ ss) = open_levels ss
 
 -- what is still to come after tokens, and the levels that stand open after each
 abbrev pub Trace : Type 0
@@ -104,7 +104,7 @@ over f t = (t.0, f t.1)
 
 abbrev pub noted : Option Stack → (Stack → Trace) → Trace
 noted None go = (None, [])
-noted (Some ts) go = over (λ ls. marks ts ∷ ls) (go ts)
+noted (Some ts) go = over (λ ls. open_levels ts ∷ ls) (go ts)
 
 abbrev pub trace : Stack → List Token → Trace
 trace ss [] = (Some ss, [])

@@ -1,5 +1,5 @@
 ghost use Rattle.std.specs.Prelude.{◌≡◌, [], ◌∷◌, ◌++◌, MatchOption, IsTrue, IfOk, OnOk, ◌↔◌};
-ghost use Rattle.tal_recogniser.specs.Machine.{feed, marks, start};
+ghost use Rattle.tal_recogniser.specs.Machine.{feed, open_levels, start};
 ghost use Rattle.tal_recogniser.specs.Judged.{Fed};
 
 use crate::symbol::Symbol;
@@ -19,13 +19,13 @@ pub struct Stack {
 impl Model for Stack {
     ghost use Rattle.std.specs.Prelude.{List, ◌≡◌};
     ghost use Rattle.tal_recogniser.specs.declared.symbol.Symbol.{Symbol};
-    ghost use Rattle.tal_recogniser.specs.Machine.{marks};
+    ghost use Rattle.tal_recogniser.specs.Machine.{open_levels};
 
     ghost Value = { List Symbol };
 
     ghost view = { λ stack. stack.symbols.items };
 
-    ghost invariant = { λ stack. stack.depth ≡ marks stack.symbols.items };
+    ghost invariant = { λ stack. stack.depth ≡ open_levels stack.symbols.items };
 }
 
 impl Stack {
@@ -51,7 +51,7 @@ impl Stack {
 
     /// How many levels stand open.
     pub fn levels(&self) -> usize
-        ensures { result ≡ marks self.now }
+        ensures { result ≡ open_levels self.now }
     {
         self.depth
     }
@@ -89,7 +89,7 @@ impl Stack {
         Ok(())
     }
 
-    /// Takes a token, if it may stand here.
+    /// Takes a token, if it may stand here, and answers whether it may.
     pub fn feed(&mut self, token: &Token) -> Result<bool, NoMemory>
         ensures { IfOk result (λ taken. Fed taken self.new (feed token.now self.old)) }
     {

@@ -1,4 +1,4 @@
-/// What is still to come of a text. `Mark` stands where a level ends; the others are parts of the grammar, what is left
+/// What is still to come of a text. `LevelEnd` stands where a level ends; the others are parts of the grammar, what is left
 /// of a part after its first token, and single tokens that are wanted.
 #[derive(Clone, Copy, PartialEq, Eq)]
 pub enum Symbol {

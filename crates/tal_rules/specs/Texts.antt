@@ -69,7 +69,7 @@ stage_at false = stage.Over
 abbrev pub entered : Progress → g.Heading → Walk
 entered p h = record (p.walk) { stage = stage_at (is_main p h) }
 
--- the main procedure begins with CHECKMONITOR
+-- whether the main procedure doesn't begin with CHECKMONITOR
 abbrev pub lacks_monitor : Stage → Bool
 lacks_monitor stage.Start = true
 lacks_monitor stage.Opens = false

@@ -125,8 +125,8 @@ pair_token at c d =
     None
 
 -- a symbol of one sign that opens, closes or separates
-abbrev pub mark_token : At → ℕ → Option Token
-mark_token at c =
+abbrev pub punctuation_token : At → ℕ → Option Token
+punctuation_token at c =
     if c == 40 then Some (tok.Open at) else
     if c == 41 then Some (tok.Close at) else
     if c == 91 then Some (tok.OpenIndex at) else
@@ -146,7 +146,7 @@ sign_token at c =
     if c == 45 then Some (tok.Minus at) else
     if c == 42 then Some (tok.Star at) else
     if c == 47 then Some (tok.Slash at) else
-    mark_token at c
+    punctuation_token at c
 
 abbrev pub paired : At → ℕ → List ℕ → Option Token
 paired at c [] = None

@@ -1,5 +1,5 @@
 ghost use Rattle.std.specs.Prelude.{◌≡◌, ◌<◌, ◌≤◌, ◌+◌, length};
-ghost use Rattle.tal_tokens.specs.Lexeme.{is_blank, pair_token, mark_token, sign_token, paired, symbol_begun};
+ghost use Rattle.tal_tokens.specs.Lexeme.{is_blank, pair_token, punctuation_token, sign_token, paired, symbol_begun};
 ghost use Rattle.tal_tokens.specs.Lexeme.{TakesUpTo};
 
 use crate::begun::Begun;
@@ -30,8 +30,8 @@ fn pair_token(at: At, first: u8, second: u8) -> Option<Token>
     }
 }
 
-fn mark_token(at: At, sign: u8) -> Option<Token>
-    ensures { result ≡ mark_token at sign }
+fn punctuation_token(at: At, sign: u8) -> Option<Token>
+    ensures { result ≡ punctuation_token at sign }
 {
     match sign {
         b'(' => Some(Token::Open(at)),
@@ -56,7 +56,7 @@ fn sign_token(at: At, sign: u8) -> Option<Token>
         b'-' => Some(Token::Minus(at)),
         b'*' => Some(Token::Star(at)),
         b'/' => Some(Token::Slash(at)),
-        _ => mark_token(at, sign),
+        _ => punctuation_token(at, sign),
     }
 }
 

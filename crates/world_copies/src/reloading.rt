@@ -45,7 +45,7 @@ impl WorldCopies {
         self.reloads.get(processor)
     }
 
-    /// A processor that has stopped is loaded again, which was loaded again so often before.
+    /// Loads a processor again that has stopped, and answers whether it did. It was loaded again so often before.
     fn reload_counted(&mut self, processor: u8, times: Option<u8>) -> Result<bool, NoMemory>
         requires { WorldHasRoom self.old.world }
         ensures told { IfOk result (λ done. done
@@ -64,7 +64,7 @@ impl WorldCopies {
         }
     }
 
-    /// A processor is loaded again, which was loaded again so often before, if it is free for that.
+    /// The same, if the processor is free for that.
     fn reload_if(&mut self, processor: u8, times: u8, free: bool) -> Result<bool, NoMemory>
         requires room { WorldHasRoom self.old.world }
         requires few { IsTrue free → times < most_reloads }

@@ -5,19 +5,19 @@ use Rattle.tal_tokens.specs.declared.token.At.{At}
 use Rattle.tal_tokens.specs.declared.token.Token.{Token}
 use Rattle.tal_tokens.specs.declared.token.Token.TheVariants as tok
 use Rattle.tal_syntax.specs.Grammar as g
-use Rattle.tal_builder.specs.declared.plain_token.PlainToken.TheVariants as mark
+use Rattle.tal_builder.specs.declared.plain_token.PlainToken.TheVariants as plain
 use Rattle.tal_builder.specs.First.{name_of, rel_of, sign_of, scale_of}
 use Rattle.tal_builder.specs.PlainTokens.{plain_of}
 use Rattle.tal_builder.specs.Parse.Chains.{Found, rest_by}
 
 abbrev pub ors_by : (List Token → Found g.Both) → List Token → Found g.Ors
-ors_by both ks = rest_by g.no_ors g.more_ors (plain_of mark.Or) both (length ks) ks
+ors_by both ks = rest_by g.no_ors g.more_ors (plain_of plain.Or) both (length ks) ks
 
 abbrev pub expr_by : (List Token → Found g.Both) → List Token → Found g.Expr
 expr_by both ks = option_and_then (λ f. option_map (λ r. (g.expr f.0 r.0, r.1)) (ors_by both f.1)) (both ks)
 
 abbrev pub ands_by : (List Token → Found g.Neg) → List Token → Found g.Ands
-ands_by neg ks = rest_by g.no_ands g.more_ands (plain_of mark.And) neg (length ks) ks
+ands_by neg ks = rest_by g.no_ands g.more_ands (plain_of plain.And) neg (length ks) ks
 
 abbrev pub both_by : (List Token → Found g.Neg) → List Token → Found g.Both
 both_by neg ks = option_and_then (λ f. option_map (λ r. (g.both f.0 r.0, r.1)) (ands_by neg f.1)) (neg ks)
@@ -61,10 +61,10 @@ product_by factor ks =
 abbrev pub index_after : (List Token → Found g.Expr) → List Token → Found At → Found g.Index
 index_after expr ks None = Some (g.no_index, ks)
 index_after expr ks (Some (start, us)) =
-    option_and_then (λ e. option_map (λ c. (g.index start e.0 c.0, c.1)) (plain_of mark.CloseIndex e.1)) (expr us)
+    option_and_then (λ e. option_map (λ c. (g.index start e.0 c.0, c.1)) (plain_of plain.CloseIndex e.1)) (expr us)
 
 abbrev pub index_by : (List Token → Found g.Expr) → List Token → Found g.Index
-index_by expr ks = index_after expr ks (plain_of mark.OpenIndex ks)
+index_by expr ks = index_after expr ks (plain_of plain.OpenIndex ks)
 
 abbrev pub spot_by : (List Token → Found g.Expr) → List Token → Found g.Spot
 spot_by expr ks =
@@ -77,7 +77,7 @@ minus_by inner at ks = option_map (λ f. (g.minus at f.0, f.1)) (inner ks)
 -- expr ")", after "("
 abbrev pub parens_by : (List Token → Found g.Expr) → At → List Token → Found g.Factor
 parens_by expr start ks =
-    option_and_then (λ e. option_map (λ c. (g.parens start e.0 c.0, c.1)) (plain_of mark.Close e.1)) (expr ks)
+    option_and_then (λ e. option_map (λ c. (g.parens start e.0 c.0, c.1)) (plain_of plain.Close e.1)) (expr ks)
 
 -- a factor, where `inner` finds that of a minus and `expr` what stands in parentheses or as an index
 abbrev pub factor_by : (List Token → Found g.Factor) → (List Token → Found g.Expr) → List Token → Found g.Factor

@@ -4,7 +4,7 @@ use Rattle.std.specs.Option.{option_and_then}
 use Rattle.tal_tokens.specs.declared.token.At.{At}
 use Rattle.tal_tokens.specs.declared.token.Token.{Token}
 use Rattle.tal_syntax.specs.Grammar as g
-use Rattle.tal_builder.specs.declared.plain_token.PlainToken.TheVariants as mark
+use Rattle.tal_builder.specs.declared.plain_token.PlainToken.TheVariants as plain
 use Rattle.tal_builder.specs.First.{name_of, called_of, string_of, is_value}
 use Rattle.tal_builder.specs.PlainTokens.{plain_of}
 use Rattle.tal_builder.specs.Parse.Chains.{Found, rest_by}
@@ -18,13 +18,13 @@ abbrev pub argument_at : ℕ → List Token → Found g.Argument
 argument_at n ks = argument_after n ks (string_of ks)
 
 abbrev pub further_at : ℕ → List Token → Found g.Further
-further_at n ks = rest_by g.no_further g.more_further (plain_of mark.Comma) (argument_at n) (length ks) ks
+further_at n ks = rest_by g.no_further g.more_further (plain_of plain.Comma) (argument_at n) (length ks) ks
 
 -- argument further ")", after "("
 abbrev pub listed_at : ℕ → At → List Token → Found g.Arguments
 listed_at n start ks =
     option_and_then (λ a. option_and_then (λ f.
-    option_map (λ c. (g.listed start a.0 f.0 c.0, c.1)) (plain_of mark.Close f.1)) (further_at n a.1))
+    option_map (λ c. (g.listed start a.0 f.0 c.0, c.1)) (plain_of plain.Close f.1)) (further_at n a.1))
     (argument_at n ks)
 
 -- the same where "(" opens the first of n levels
@@ -37,7 +37,7 @@ arguments_after n ks None = Some (g.unlisted, ks)
 arguments_after n ks (Some (start, us)) = listed_in n start us
 
 abbrev pub arguments_at : ℕ → List Token → Found g.Arguments
-arguments_at n ks = arguments_after n ks (plain_of mark.Open ks)
+arguments_at n ks = arguments_after n ks (plain_of plain.Open ks)
 
 -- name arguments, after CALL
 abbrev pub call_at : ℕ → At → List Token → Found g.Statement
@@ -52,12 +52,12 @@ abbrev pub return_at : ℕ → At → List Token → Found g.Statement
 return_at n head ks = option_map (λ a. (g.return head a.0, a.1)) (answer_at n ks)
 
 abbrev pub values_at : ℕ → List Token → Found g.Values
-values_at n ks = rest_by g.no_values g.more_values (plain_of mark.Comma) (expr_at n) (length ks) ks
+values_at n ks = rest_by g.no_values g.more_values (plain_of plain.Comma) (expr_at n) (length ks) ks
 
 -- expr values ")", after "("
 abbrev pub value_list_at : ℕ → List Token → Found (g.Expr × g.Values × At)
 value_list_at n ks =
-    option_and_then (λ f. option_and_then (λ m. option_map (λ c. ((f.0, m.0, c.0), c.1)) (plain_of mark.Close m.1))
+    option_and_then (λ f. option_and_then (λ m. option_map (λ c. ((f.0, m.0, c.0), c.1)) (plain_of plain.Close m.1))
     (values_at n f.1)) (expr_at n ks)
 
 -- the same where "(" opens the first of n levels
@@ -76,4 +76,4 @@ right_at n target at ks = right_after n target at ks (called_of ks)
 
 abbrev pub assign_at : ℕ → List Token → Found g.Statement
 assign_at n ks =
-    option_and_then (λ s. option_and_then (λ a. right_at n s.0 a.0 a.1) (plain_of mark.Assign s.1)) (spot_at n ks)
+    option_and_then (λ s. option_and_then (λ a. right_at n s.0 a.0 a.1) (plain_of plain.Assign s.1)) (spot_at n ks)

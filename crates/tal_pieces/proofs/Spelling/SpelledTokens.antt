@@ -18,7 +18,7 @@ use Rattle.tal_tokens.specs.declared.token.Token.TheVariants as tok
 use Rattle.tal_tokens.specs.Cursor.{after, at_front, start_of_text}
 use Rattle.tal_tokens.specs.Lexeme.{run_of, same, is_octal, keyword_first, keyword_second, keyword_third, word_token}
 use Rattle.tal_tokens.specs.Lexeme.{named, name_begun, numbered, octal_begun, process_token, text_token, string_to}
-use Rattle.tal_tokens.specs.Lexeme.{is_string_end, pair_token, mark_token, sign_token, paired, signed, longest}
+use Rattle.tal_tokens.specs.Lexeme.{is_string_end, pair_token, punctuation_token, sign_token, paired, signed, longest}
 use Rattle.tal_tokens.specs.Lexeme.{is_blank, begun_of}
 use Rattle.tal_tokens.specs.Lexer.{lexed, lexed_by, tokens_of}
 use Rattle.tal_pieces.specs.declared.piece.Piece.TheVariants as piece
@@ -162,8 +162,8 @@ pair_well at c d =
     may_if ((c == 60) && (d == 61)) (tok.AtMost at) _ tt (
     may_if ((c == 62) && (d == 61)) (tok.AtLeast at) None tt tt)))
 
-mark_well : (at : At) (c : ℕ) → MaySpell (mark_token at c)
-mark_well at c =
+punctuation_well : (at : At) (c : ℕ) → MaySpell (punctuation_token at c)
+punctuation_well at c =
     may_if (c == 40) (tok.Open at) _ tt (
     may_if (c == 41) (tok.Close at) _ tt (
     may_if (c == 91) (tok.OpenIndex at) _ tt (
@@ -180,7 +180,7 @@ sign_well at c =
     may_if (c == 43) (tok.Plus at) _ tt (
     may_if (c == 45) (tok.Minus at) _ tt (
     may_if (c == 42) (tok.Star at) _ tt (
-    may_if (c == 47) (tok.Slash at) (mark_token at c) tt (mark_well at c)))))))
+    may_if (c == 47) (tok.Slash at) (punctuation_token at c) tt (punctuation_well at c)))))))
 
 paired_well : (at : At) (c : ℕ) (rest : List ℕ) → MaySpell (paired at c rest)
 paired_well at c [] = tt

@@ -9,7 +9,7 @@ pub returns : goal.returns
 unfolding shown-the_row-Statement-0 shown out-What out shape-the_row-Statement-0 hidden-the_row-Statement-0 hidden
 returns c = record {
   checkpoint = refl;
-  mark_restored = refl;
+  checkpoint_restored = refl;
   end = refl;
   end_restored = refl;
 }

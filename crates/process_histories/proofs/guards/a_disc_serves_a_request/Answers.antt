@@ -18,6 +18,6 @@ returns c = record {
   serves = one_more (one_more (one_more (one_more nothing_done
       (takes {words = pos 2 ∷ pos 1 ∷ pos 5 ∷ []} _ refl refl)) (checkpoints refl)) (acts {found =
       sector_with (pos 0)} refl refl)) (answers _ _ refl refl refl refl refl);
-  no_mark = none-uncheckpointed;
+  no_checkpoint = none-uncheckpointed;
   not_asked = none-elsewhere;
 }

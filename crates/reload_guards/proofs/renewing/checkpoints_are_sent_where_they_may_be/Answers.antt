@@ -16,6 +16,6 @@ pub returns : goal.returns
 returns c = record {
   awaits = not-awaiting;
   inner = not-inside;
-  mark = λ copy at. inl at;
+  checkpoint = λ copy at. inl at;
   elsewhere = λ copy other renews. inr (renews, other);
 }

@@ -4,7 +4,7 @@ use Rattle.tal_syntax.specs.Seen.{link_ands, link_factors, link_ors, link_terms,
 use Rattle.tal_syntax.specs.Seen.{seen_product, seen_scale, seen_sign, seen_expr, seen_ors, seen_ands, seen_terms}
 use Rattle.tal_syntax.specs.Seen.{seen_factors, seen_sum, seen_rel}
 use Rattle.tal_builder.specs.PlainTokens.{plain_of}
-use Rattle.tal_builder.specs.declared.plain_token.PlainToken.TheVariants as mark
+use Rattle.tal_builder.specs.declared.plain_token.PlainToken.TheVariants as plain
 use Rattle.tal_builder.specs.First.{rel_of, scale_of, sign_of}
 use Rattle.tal_builder.specs.Parse.{both_at, factor_at, neg_at, product_at, sum_at, expr_in, neg_in, factor_in}
 use Rattle.tal_builder.proofs.Turns.{ends, turns}
@@ -18,40 +18,41 @@ use Rattle.tal_builder.proofs.expression.+expression.Goals as goal
 
 pub more_boths-returns-in_default : goal.more_boths-returns-in_default
 more_boths-returns-in_default t c =
-    let none : plain_of mark.Or c.loop-turn.rest.now ≡ None = rw c.in_default.is at c.optional.ensures in
+    let none : plain_of plain.Or c.loop-turn.rest.now ≡ None = rw c.in_default.is at c.optional.ensures in
     sym c.loop-turn.invariant
-    ∙ ends link_ors g.no_ors g.more_ors (plain_of mark.Or) (both_at c.args.room) c.loop-turn.all
+    ∙ ends link_ors g.no_ors g.more_ors (plain_of plain.Or) (both_at c.args.room) c.loop-turn.all
     (length c.args.tokens.now - c.loop-turn._turn) c.loop-turn.rest.now none
 
 pub more_boths-loop-turn-preserved : goal.more_boths-loop-turn-preserved
 more_boths-loop-turn-preserved t c =
     let count : length c.args.tokens.now - c.loop-turn._turn
     ≡ suc (length c.args.tokens.now - (c.loop-turn._turn + 1)) = omega (arith, c.loop-turn-test.true) in
-    let sign : plain_of mark.Or c.loop-turn.rest.now ≡ Some (c.in-Some.or, c.in-Some.after.now) = c.in-Some.ensures in
+    let sign : plain_of plain.Or c.loop-turn.rest.now ≡ Some (c.in-Some.or, c.in-Some.after.now) = c.in-Some.ensures in
     let part : (both_at c.args.room) c.in-Some.after.now ≡ Some (seen_both c.in_ok-both.both, c.in_ok-both.after.now) =
     c.in_ok-both.ensures in
     rw c.in_ok-add_both.ensures
-    (sym (turns link_ors g.no_ors g.more_ors (plain_of mark.Or) (both_at c.args.room) c.loop-turn.all _ _
+    (sym (turns link_ors g.no_ors g.more_ors (plain_of plain.Or) (both_at c.args.room) c.loop-turn.all _ _
     c.loop-turn.rest.now c.in-Some.after.now c.in_ok-both.after.now
     c.in-Some.or (seen_both c.in_ok-both.both) (roll-NextBoth (record { or = c.in-Some.or; both = c.in_ok-both.both }))
     count sign part (λ r. seen-next-both c.in-Some.or c.in_ok-both.both r)) ∙ c.loop-turn.invariant)
 
 pub more_negs-returns-in_default : goal.more_negs-returns-in_default
 more_negs-returns-in_default t c =
-    let none : plain_of mark.And c.loop-turn.rest.now ≡ None = rw c.in_default.is at c.optional.ensures in
+    let none : plain_of plain.And c.loop-turn.rest.now ≡ None = rw c.in_default.is at c.optional.ensures in
     sym c.loop-turn.invariant
-    ∙ ends link_ands g.no_ands g.more_ands (plain_of mark.And) (neg_at c.args.room) c.loop-turn.all
+    ∙ ends link_ands g.no_ands g.more_ands (plain_of plain.And) (neg_at c.args.room) c.loop-turn.all
     (length c.args.tokens.now - c.loop-turn._turn) c.loop-turn.rest.now none
 
 pub more_negs-loop-turn-preserved : goal.more_negs-loop-turn-preserved
 more_negs-loop-turn-preserved t c =
     let count : length c.args.tokens.now - c.loop-turn._turn
     ≡ suc (length c.args.tokens.now - (c.loop-turn._turn + 1)) = omega (arith, c.loop-turn-test.true) in
-    let sign : plain_of mark.And c.loop-turn.rest.now ≡ Some (c.in-Some.and, c.in-Some.after.now) = c.in-Some.ensures in
+    let sign : plain_of plain.And c.loop-turn.rest.now ≡ Some (c.in-Some.and, c.in-Some.after.now) = c.in-Some.ensures
+    in
     let part : (neg_at c.args.room) c.in-Some.after.now ≡ Some (seen_neg c.in_ok-neg.neg, c.in_ok-neg.after.now) =
     c.in_ok-neg.ensures in
     rw c.in_ok-add_neg.ensures
-    (sym (turns link_ands g.no_ands g.more_ands (plain_of mark.And) (neg_at c.args.room) c.loop-turn.all _ _
+    (sym (turns link_ands g.no_ands g.more_ands (plain_of plain.And) (neg_at c.args.room) c.loop-turn.all _ _
     c.loop-turn.rest.now c.in-Some.after.now c.in_ok-neg.after.now
     c.in-Some.and (seen_neg c.in_ok-neg.neg) (record { and = c.in-Some.and; neg = c.in_ok-neg.neg }) count sign part
     (λ r. refl)) ∙ c.loop-turn.invariant)

@@ -2,7 +2,7 @@ use Rattle.std.proofs.Common.{◌≡◌, ◌+◌, ◌*◌, ◌-◌, length}
 use Rattle.tal_syntax.specs.Grammar as g
 use Rattle.tal_syntax.specs.Seen.{link_ands, link_factors, link_ors, link_terms}
 use Rattle.tal_builder.specs.PlainTokens.{plain_of}
-use Rattle.tal_builder.specs.declared.plain_token.PlainToken.TheVariants as mark
+use Rattle.tal_builder.specs.declared.plain_token.PlainToken.TheVariants as plain
 use Rattle.tal_builder.specs.First.{scale_of, sign_of}
 use Rattle.tal_builder.specs.Parse.{rest_by, ands_by, both_at, factor_at, factors_by, neg_at, ors_by, product_at}
 use Rattle.tal_builder.specs.Parse.{terms_by}
@@ -72,12 +72,12 @@ decreases-factor_within l = 16 * l.room
 -- the links so far and those of the tokens that are left are the whole chain
 abbrev pub invariant-more_boths-loop-turn : goal.invariant-more_boths-loop-turn
 invariant-more_boths-loop-turn l = onto link_ors l.all
-    (rest_by g.no_ors g.more_ors (plain_of mark.Or) (both_at l.room) (length l.tokens - l._turn) l.rest)
+    (rest_by g.no_ors g.more_ors (plain_of plain.Or) (both_at l.room) (length l.tokens - l._turn) l.rest)
     ≡ ors_by (both_at l.room) l.tokens
 
 abbrev pub invariant-more_negs-loop-turn : goal.invariant-more_negs-loop-turn
 invariant-more_negs-loop-turn l = onto link_ands l.all
-    (rest_by g.no_ands g.more_ands (plain_of mark.And) (neg_at l.room) (length l.tokens - l._turn) l.rest)
+    (rest_by g.no_ands g.more_ands (plain_of plain.And) (neg_at l.room) (length l.tokens - l._turn) l.rest)
     ≡ ands_by (neg_at l.room) l.tokens
 
 abbrev pub invariant-more_terms-loop-turn : goal.invariant-more_terms-loop-turn

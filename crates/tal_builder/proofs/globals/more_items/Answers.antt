@@ -2,28 +2,28 @@ use Rattle.std.proofs.Common.{◌≡◌, ◌-◌, ◌+◌, suc, length, Some, No
 use Rattle.tal_syntax.specs.Grammar as g
 use Rattle.tal_syntax.specs.Seen.{link_items, seen_item}
 use Rattle.tal_builder.specs.PlainTokens.{plain_of}
-use Rattle.tal_builder.specs.declared.plain_token.PlainToken.TheVariants as mark
+use Rattle.tal_builder.specs.declared.plain_token.PlainToken.TheVariants as plain
 use Rattle.tal_builder.specs.Parse.{item_at}
 use Rattle.tal_builder.proofs.Turns.{ends, turns}
 use Rattle.tal_builder.proofs.globals.more_items.Goals as goal
 
 pub returns-in_default : goal.returns-in_default
 returns-in_default c =
-    let none : plain_of mark.Comma c.loop-turn.rest.now ≡ None = rw c.in_default.is at c.optional.ensures in
+    let none : plain_of plain.Comma c.loop-turn.rest.now ≡ None = rw c.in_default.is at c.optional.ensures in
     sym c.loop-turn.invariant
-    ∙ ends link_items g.no_items g.more_items (plain_of mark.Comma) item_at c.loop-turn.all
+    ∙ ends link_items g.no_items g.more_items (plain_of plain.Comma) item_at c.loop-turn.all
     (length c.args.tokens.now - c.loop-turn._turn) c.loop-turn.rest.now none
 
 pub loop-turn-preserved : goal.loop-turn-preserved
 loop-turn-preserved c =
     let count : length c.args.tokens.now - c.loop-turn._turn
     ≡ suc (length c.args.tokens.now - (c.loop-turn._turn + 1)) = omega (arith, c.loop-turn-test.true) in
-    let sign : plain_of mark.Comma c.loop-turn.rest.now ≡ Some (c.in-Some.comma, c.in-Some.after.now) =
+    let sign : plain_of plain.Comma c.loop-turn.rest.now ≡ Some (c.in-Some.comma, c.in-Some.after.now) =
     c.in-Some.ensures in
     let part : item_at c.in-Some.after.now ≡ Some (seen_item c.in-Some-item.item, c.in-Some-item.after.now) =
     c.in-Some-item.ensures in
     rw c.in_ok-push.ensures.ok
-    (sym (turns link_items g.no_items g.more_items (plain_of mark.Comma) item_at c.loop-turn.all _ _
+    (sym (turns link_items g.no_items g.more_items (plain_of plain.Comma) item_at c.loop-turn.all _ _
     c.loop-turn.rest.now c.in-Some.after.now c.in-Some-item.after.now
     c.in-Some.comma (seen_item c.in-Some-item.item) (record { comma = c.in-Some.comma; item = c.in-Some-item.item })
     count sign part (λ r. refl)) ∙ c.loop-turn.invariant)

@@ -2,7 +2,7 @@ use Rattle.std.proofs.Common.{◌≡◌, ◌-◌, length}
 use Rattle.tal_syntax.specs.Grammar as g
 use Rattle.tal_syntax.specs.Seen.{link_literals}
 use Rattle.tal_builder.specs.PlainTokens.{plain_of}
-use Rattle.tal_builder.specs.declared.plain_token.PlainToken.TheVariants as mark
+use Rattle.tal_builder.specs.declared.plain_token.PlainToken.TheVariants as plain
 use Rattle.tal_builder.specs.Parse.{rest_by, literal_at, literals_at}
 use Rattle.tal_builder.proofs.Turns.{onto}
 use Rattle.tal_builder.proofs.globals.more_literals.Given as goal
@@ -10,5 +10,5 @@ use Rattle.tal_builder.proofs.globals.more_literals.Given as goal
 -- the links so far and those of the tokens that are left are the whole chain
 abbrev pub invariant-loop-turn : goal.invariant-loop-turn
 invariant-loop-turn l = onto link_literals l.all
-    (rest_by g.no_literals g.more_literals (plain_of mark.Comma) literal_at (length l.tokens - l._turn) l.rest)
+    (rest_by g.no_literals g.more_literals (plain_of plain.Comma) literal_at (length l.tokens - l._turn) l.rest)
     ≡ literals_at l.tokens

@@ -2,7 +2,7 @@ use Rattle.std.proofs.Common.{◌≡◌, ◌-◌, ◌+◌, suc, length, Some, No
 use Rattle.tal_syntax.specs.Grammar as g
 use Rattle.tal_syntax.specs.Seen.{link_names}
 use Rattle.tal_builder.specs.PlainTokens.{plain_of}
-use Rattle.tal_builder.specs.declared.plain_token.PlainToken.TheVariants as mark
+use Rattle.tal_builder.specs.declared.plain_token.PlainToken.TheVariants as plain
 use Rattle.tal_builder.specs.First.{name_of}
 use Rattle.tal_builder.specs.Parse.{link_name}
 use Rattle.tal_builder.proofs.Turns.{ends, turns}
@@ -10,22 +10,22 @@ use Rattle.tal_builder.proofs.heading.more_names.Goals as goal
 
 pub returns-in_default : goal.returns-in_default
 returns-in_default c =
-    let none : plain_of mark.Comma c.loop-turn.rest.now ≡ None = rw c.in_default.is at c.optional.ensures in
+    let none : plain_of plain.Comma c.loop-turn.rest.now ≡ None = rw c.in_default.is at c.optional.ensures in
     sym c.loop-turn.invariant
-    ∙ ends link_names g.no_names link_name (plain_of mark.Comma) name_of c.loop-turn.all
+    ∙ ends link_names g.no_names link_name (plain_of plain.Comma) name_of c.loop-turn.all
     (length c.args.tokens.now - c.loop-turn._turn) c.loop-turn.rest.now none
 
 pub loop-turn-preserved : goal.loop-turn-preserved
 loop-turn-preserved c =
     let count : length c.args.tokens.now - c.loop-turn._turn
     ≡ suc (length c.args.tokens.now - (c.loop-turn._turn + 1)) = omega (arith, c.loop-turn-test.true) in
-    let sign : plain_of mark.Comma c.loop-turn.rest.now ≡ Some (c.in-Some.comma, c.in-Some.after.now) =
+    let sign : plain_of plain.Comma c.loop-turn.rest.now ≡ Some (c.in-Some.comma, c.in-Some.after.now) =
     c.in-Some.ensures in
     let part : name_of c.in-Some.after.now ≡ Some
     ((c.in-Some-name_first.named.at, c.in-Some-name_first.named.name), c.in-Some-name_first.after.now) =
     c.in-Some-name_first.ensures in
     rw c.in_ok-push.ensures.ok
-    (sym (turns link_names g.no_names link_name (plain_of mark.Comma) name_of c.loop-turn.all _ _ c.loop-turn.rest.now
+    (sym (turns link_names g.no_names link_name (plain_of plain.Comma) name_of c.loop-turn.all _ _ c.loop-turn.rest.now
     c.in-Some.after.now c.in-Some-name_first.after.now
     c.in-Some.comma (c.in-Some-name_first.named.at, c.in-Some-name_first.named.name)
     (record {

@@ -1,7 +1,7 @@
 use Rattle.std.proofs.Common.{◌≡◌, ◌-◌, suc, Some, sym, ap, ◌∙◌, arith, subst}
 use Rattle.tal_syntax.specs.Seen.{seen_arguments}
 use Rattle.tal_builder.specs.PlainTokens.{plain_of}
-use Rattle.tal_builder.specs.declared.plain_token.PlainToken.TheVariants as mark
+use Rattle.tal_builder.specs.declared.plain_token.PlainToken.TheVariants as plain
 use Rattle.tal_builder.specs.Outcome.{Tells}
 use Rattle.tal_builder.specs.Parse.{arguments_at, arguments_after, listed_in, listed_at}
 use Rattle.tal_builder.proofs.simple.arguments.Goals as goal
@@ -9,7 +9,7 @@ use Rattle.tal_builder.proofs.simple.arguments.Goals as goal
 pub returns : goal.returns
 returns c =
     let next : c.args.room ≡ suc (c.args.room - 1) = omega (arith, c.if-room-eq0.false) in
-    let start : plain_of mark.Open c.args.tokens.now ≡ Some (c.in-Some.start, c.in-Some.after.now) =
+    let start : plain_of plain.Open c.args.tokens.now ≡ Some (c.in-Some.start, c.in-Some.after.now) =
     c.in-Some.ensures in
     let whole : arguments_at c.args.room c.args.tokens.now
     ≡ listed_at (c.args.room - 1) c.in-Some.start c.in-Some.after.now =

@@ -3,7 +3,7 @@ use Rattle.tal_syntax.specs.Grammar as g
 use Rattle.tal_syntax.specs.Seen.{link_row, seen_statement, seen_expr, seen_direction, seen_step, seen_row}
 use Rattle.tal_syntax.specs.Seen.{seen_otherwise}
 use Rattle.tal_builder.specs.PlainTokens.{plain_of}
-use Rattle.tal_builder.specs.declared.plain_token.PlainToken.TheVariants as mark
+use Rattle.tal_builder.specs.declared.plain_token.PlainToken.TheVariants as plain
 use Rattle.tal_builder.specs.Parse.{statement_at, begun_by}
 use Rattle.tal_builder.proofs.Turns.{ends, turns}
 use Rattle.tal_syntax.specs.declared.statement.Test.{Test}
@@ -18,21 +18,21 @@ use Rattle.tal_builder.proofs.statement.+statement.Goals as goal
 
 pub row-returns-in_default : goal.row-returns-in_default
 row-returns-in_default t c =
-    let none : plain_of mark.Semicolon c.loop-turn.rest.now ≡ None = rw c.in_default.is at c.optional.ensures in
+    let none : plain_of plain.Semicolon c.loop-turn.rest.now ≡ None = rw c.in_default.is at c.optional.ensures in
     sym c.loop-turn.invariant
-    ∙ ends link_row g.no_row g.more_row (plain_of mark.Semicolon) (statement_at c.args.room) c.loop-turn.all
+    ∙ ends link_row g.no_row g.more_row (plain_of plain.Semicolon) (statement_at c.args.room) c.loop-turn.all
     (length c.args.tokens.now - c.loop-turn._turn) c.loop-turn.rest.now none
 
 pub row-loop-turn-preserved : goal.row-loop-turn-preserved
 row-loop-turn-preserved t c =
     let count : length c.args.tokens.now - c.loop-turn._turn
     ≡ suc (length c.args.tokens.now - (c.loop-turn._turn + 1)) = omega (arith, c.loop-turn-test.true) in
-    let sign : plain_of mark.Semicolon c.loop-turn.rest.now ≡ Some (c.in-Some.semicolon, c.in-Some.after.now) =
+    let sign : plain_of plain.Semicolon c.loop-turn.rest.now ≡ Some (c.in-Some.semicolon, c.in-Some.after.now) =
     c.in-Some.ensures in
     let part : (statement_at c.args.room) c.in-Some.after.now
     ≡ Some (seen_statement c.in_ok-statement.statement, c.in_ok-statement.after.now) = c.in_ok-statement.ensures in
     rw c.in_ok-add_statement.ensures
-    (sym (turns link_row g.no_row g.more_row (plain_of mark.Semicolon) (statement_at c.args.room) c.loop-turn.all _ _
+    (sym (turns link_row g.no_row g.more_row (plain_of plain.Semicolon) (statement_at c.args.room) c.loop-turn.all _ _
     c.loop-turn.rest.now c.in-Some.after.now c.in_ok-statement.after.now
     c.in-Some.semicolon (seen_statement c.in_ok-statement.statement)
     (record { semicolon = c.in-Some.semicolon; statement = c.in_ok-statement.statement }) count sign part

@@ -2,7 +2,7 @@ use Rattle.std.proofs.Common.{◌≡◌, ◌+◌, ◌*◌, ◌-◌, length}
 use Rattle.tal_syntax.specs.Grammar as g
 use Rattle.tal_syntax.specs.Seen.{link_row}
 use Rattle.tal_builder.specs.PlainTokens.{plain_of}
-use Rattle.tal_builder.specs.declared.plain_token.PlainToken.TheVariants as mark
+use Rattle.tal_builder.specs.declared.plain_token.PlainToken.TheVariants as plain
 use Rattle.tal_builder.specs.Parse.{rest_by, row_at, statement_at}
 use Rattle.tal_builder.proofs.Turns.{onto}
 use Rattle.tal_builder.proofs.statement.+statement.Given as goal
@@ -37,5 +37,5 @@ decreases-do_loop l = 4 * l.room + 2
 -- the links so far and those of the tokens that are left are the whole chain
 abbrev pub invariant-row-loop-turn : goal.invariant-row-loop-turn
 invariant-row-loop-turn l = onto link_row l.all
-    (rest_by g.no_row g.more_row (plain_of mark.Semicolon) (statement_at l.room) (length l.tokens - l._turn) l.rest)
+    (rest_by g.no_row g.more_row (plain_of plain.Semicolon) (statement_at l.room) (length l.tokens - l._turn) l.rest)
     ≡ row_at l.room l.tokens

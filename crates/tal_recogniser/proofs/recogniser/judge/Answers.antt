@@ -1,7 +1,7 @@
 use Rattle.std.proofs.Common.{◌≡◌, ◌<◌, ◌≤◌, take, Some, None, refl, sym, true≢false}
 use Rattle.std.proofs.lemmas.List.{length-take-le}
 use Rattle.tal_tokens.specs.gd_words.specs.declared.limits.TheConstants.{MOST_LEVELS as deepest}
-use Rattle.tal_recogniser.specs.Machine.{feed, marks}
+use Rattle.tal_recogniser.specs.Machine.{feed, open_levels}
 use Rattle.tal_recogniser.proofs.Exact.{one_on, unexpected-at, too-deep-at, reached-more, is_finished, is_unfinished}
 use Rattle.tal_recogniser.proofs.recogniser.judge.Goals as goal
 
@@ -16,7 +16,7 @@ pub returns-then-levels-gt-MOST_LEVELS : goal.returns-then-levels-gt-MOST_LEVELS
 returns-then-levels-gt-MOST_LEVELS c =
     let fed : feed c.index-tokens-k.result c.loop-k.stack ≡ Some c.feed.new.self =
     rw c.if-not-branch.false at c.in_ok-feed.ensures in
-    let deep : deepest < marks c.feed.new.self = rw (← c.levels.ensures) c.if-levels-gt-MOST_LEVELS.true in
+    let deep : deepest < open_levels c.feed.new.self = rw (← c.levels.ensures) c.if-levels-gt-MOST_LEVELS.true in
     too-deep-at deepest c.args.tokens.now c.loop-k.k c.index-tokens-k.result c.loop-k.stack c.feed.new.self
     c.loop-k-test.true
     (length-take-le c.loop-k.k c.args.tokens.now c.loop-k.auto.k-end)
@@ -27,7 +27,7 @@ pub loop-k-preserved : goal.loop-k-preserved
 loop-k-preserved c =
     let fed : feed c.index-tokens-k.result c.loop-k.stack ≡ Some c.feed.new.self =
     rw c.if-not-branch.false at c.in_ok-feed.ensures in
-    let few : marks c.feed.new.self ≤ deepest = rw (← c.levels.ensures) c.if-levels-gt-MOST_LEVELS.false in
+    let few : open_levels c.feed.new.self ≤ deepest = rw (← c.levels.ensures) c.if-levels-gt-MOST_LEVELS.false in
     rw (one_on c.args.tokens.now c.loop-k.k c.index-tokens-k.result c.loop-k-test.true c.index-tokens-k.is)
     (reached-more deepest (take c.loop-k.k c.args.tokens.now) c.index-tokens-k.result c.loop-k.stack c.feed.new.self
     c.loop-k.invariant fed few)
