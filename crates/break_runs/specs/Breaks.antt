@@ -5,7 +5,7 @@ use Rattle.tal_tree.specs.declared.act.Shown.{Shown}
 use Rattle.tal_tree.specs.declared.site.Site.{Site}
 use Rattle.schedule.specs.declared.line.Line.{Line}
 use Rattle.player.specs.declared.stop.ProcessorStop.{ProcessorStop}
-use Rattle.schedule_runs.specs.Ends.{IsRunOf}
+use Rattle.schedule_runs.specs.Ends.{IsRunOfPairs}
 use Rattle.schedule_runs.specs.declared.ran.Ending.{Ending}
 use Rattle.schedule_runs.specs.declared.ran.Ending.TheVariants.{Idle, Cut, Second, Lost}
 use Rattle.schedule_runs.specs.declared.ran.Ran.{Ran}
@@ -34,7 +34,7 @@ IsRunJudged site ran = IsJudged site (closed ran.machine.state.world) (shown_in 
 pub record IsTriedAs (site : Site) (lines : List Line) (stop : Option ProcessorStop) (found : Option Wrong) : Type 0
   where
     pub ran : Ran
-    pub is_run : IsRunOf site lines stop ran
+    pub is_run : IsRunOfPairs site lines stop ran
     pub judged : IsRunJudged site ran found
 
 abbrev pub stop_of : ℕ → ℕ → ProcessorStop
@@ -90,7 +90,7 @@ places_of asked = min asked 1000
 -- the run with no stop asks for so many events, and this was found of the stops before them
 pub record IsSearch (site : Site) (lines : List Line) (search : Search) : Type 0 where
   pub ran : Ran
-  pub is_run : IsRunOf site lines None ran
+  pub is_run : IsRunOfPairs site lines None ran
   pub asked : search.asked ≡ ran.asked
   pub places : search.places ≡ places_of ran.asked
   pub found : IsFound site lines search.places search.found

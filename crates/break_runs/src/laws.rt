@@ -3,7 +3,7 @@ ghost use Rattle.std.specs.Prelude.{◌<◌, List, Option, length};
 ghost use Rattle.tal_tree.specs.declared.site.Site.{Site};
 ghost use Rattle.schedule.specs.declared.line.Line.{Line};
 ghost use Rattle.player.specs.declared.stop.ProcessorStop.{ProcessorStop};
-ghost use Rattle.schedule_runs.specs.Ends.{IsRunOf};
+ghost use Rattle.schedule_runs.specs.Ends.{IsRunOfPairs};
 ghost use Rattle.schedule_runs.specs.declared.ran.Ran.{Ran};
 ghost use Rattle.world_semantics.specs.Kept.{closed};
 
@@ -12,7 +12,7 @@ use schedule_runs::a_closed_world_has_the_closed_run;
 /// A run does at most as many acts as events were played, and so fewer than there are numbers of 32 bits.
 pub fn a_run_does_few_acts()
     ensures { (site : Site) (lines : List Line) (stop : Option ProcessorStop) (ran : Ran)
-        → IsRunOf site lines stop ran → length (closed ran.machine.state.world) < 4294967295 }
+        → IsRunOfPairs site lines stop ran → length (closed ran.machine.state.world) < 4294967295 }
 {
     a_closed_world_has_the_closed_run();
 }

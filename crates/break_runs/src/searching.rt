@@ -3,7 +3,7 @@ ghost use Rattle.std.specs.Prelude.{◌≡◌, ℕ, ⊤, IfOk, None, Option, Res
 ghost use Rattle.break_progress.specs.Progress.{TellsOn, runs_of};
 ghost use Rattle.player.specs.declared.stop.ProcessorStop as declared;
 ghost use Rattle.schedule_runs.specs.pair_machine.specs.process_copies.specs.Starting.{IsStartable};
-ghost use Rattle.schedule_runs.specs.Ends.{IsRunOf};
+ghost use Rattle.schedule_runs.specs.Ends.{IsRunOfPairs};
 ghost use Rattle.schedule_runs.specs.Lengths.{AsksForFewEvents};
 ghost use Rattle.break_runs.specs.Breaks.{IsFound, places_of};
 ghost use Rattle.break_runs.specs.Meanwhile.{IsToldSearch, sound_runs};
@@ -70,7 +70,7 @@ fn first_break<K: Sink>(
 ) -> Result<Option<Break>, NoMemory>
     requires startable { IsStartable site.now }
     requires few { (stop : Option declared.ProcessorStop) → AsksForFewEvents site.now lines.now stop }
-    requires is { IsRunOf site.now lines.now None ran }
+    requires is { IsRunOfPairs site.now lines.now None ran }
     ensures { (runs : ℕ)
         × TellsOn K.held K.faults K.sure (runs_of site.now.processors places) 0 runs sink.old written.old sink.new
         written.new

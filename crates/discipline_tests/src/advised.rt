@@ -1,5 +1,5 @@
 use advice::AdviseFault;
-use advise::advise;
+use advice_search::advise;
 use path_semantics::Reason;
 use std::test::Fail;
 use worked_programs::program_of;

@@ -10,7 +10,7 @@ use Rattle.path_semantics.specs.declared.reason.RefusalFault.{RefusalFault}
 use Rattle.path_semantics.specs.declared.reason.RefusalFault.TheVariants.{TooDeep, TooLarge, Broken, NoMemory}
 use Rattle.verdicts.specs.discipline.specs.Verdict.{IsVerdict}
 use Rattle.statement_lines.specs.Lines.{lines_of}
-use Rattle.advise.specs.advice.specs.Answer.{IsAnswer, IsUnmendable}
+use Rattle.advice_search.specs.advice.specs.Answer.{IsAnswer, IsUnmendable}
 use Rattle.statement_dues.specs.Checkpoints.{checkpoints_of}
 use Rattle.statement_dues.specs.Deeds.{deeds_of}
 use Rattle.statement_dues.specs.declared.deeds.Deed.{Deed}

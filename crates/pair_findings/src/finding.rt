@@ -1,4 +1,4 @@
-use advise::Advice;
+use advice_search::Advice;
 use gd_words::List;
 use path_semantics::{Reason, RefusalFault};
 use statement_dues::{Deed, NamedCheckpoint};

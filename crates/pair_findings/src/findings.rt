@@ -5,7 +5,7 @@ ghost use Rattle.pair_findings.specs.Findings.{path_of};
 
 use crate::finding::{Finding, PairFinding, Remedy};
 use crate::marks::since_checkpoint;
-use advise::{AdviseFault, advise};
+use advice_search::{AdviseFault, advise};
 use gd_words::{List, NoMemory};
 use path_semantics::RefusalFault;
 use statement_dues::{Deed, checkpoints_of, deeds_of};

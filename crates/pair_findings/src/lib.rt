@@ -10,7 +10,7 @@ pub mod finding;
 pub mod findings;
 pub mod marks;
 
-pub use advise::{Advice, Advised};
+pub use advice_search::{Advice, Advised};
 pub use finding::{Finding, PairFinding, Remedy};
 pub use findings::findings_of;
 pub use marks::{is_marked, since_checkpoint};

@@ -9,7 +9,7 @@ ghost use Rattle.message_wires.specs.machine_states.specs.States.{DiscLoss, Seco
 ghost use Rattle.schedule_runs.specs.pair_machine.specs.Seen.{closed_state};
 ghost use Rattle.world_semantics.specs.Shares.{let_go};
 ghost use Rattle.world_semantics.specs.World.{Pair};
-ghost use Rattle.schedule_runs.specs.Ends.{EndsAs, IsRunOf};
+ghost use Rattle.schedule_runs.specs.Ends.{EndsAs, IsRunOfPairs};
 ghost use Rattle.schedule_runs.specs.Runs.{RunsOut, RunsToHarm};
 ghost use Rattle.schedule_runs.specs.declared.ran.Ending.TheVariants.{Idle, Cut, Lost, Second};
 ghost use Rattle.schedule_runs.specs.declared.ran.Ran.{Ran};
@@ -35,7 +35,8 @@ pub fn a_run_ends_as_it_says()
 
 /// A run has few events, and its machine is whole.
 pub fn a_run_is_short_and_whole()
-    ensures { (site : Site) (lines : List Line) (stop : Option ProcessorStop) (ran : Ran) → IsRunOf site lines stop ran
+    ensures { (site : Site) (lines : List Line) (stop : Option ProcessorStop) (ran : Ran) → IsRunOfPairs site lines
+        stop ran
         → (events : List Event) × (length events < 4294967295) × (ran.machine.is_broken ≡ false) × (s : MachineState)
         × EndsAs site lines stop events s ran.machine.state ran.asked ran.ending }
 {}

@@ -16,7 +16,7 @@ use Rattle.schedule_loop.specs.Ends.{CanBePlayed, Course, EndsBy, IsRunOn, Plays
 use Rattle.schedule_loop.specs.declared.ran.Ending as loop
 use Rattle.schedule_loop.specs.declared.ran.Ending.TheVariants as ends
 use Rattle.schedule_loop.proofs.Plain.{plays-on, same-upcoming}
-use Rattle.schedule_runs.specs.Ends.{EndsAs, IsRunOf, ending_of}
+use Rattle.schedule_runs.specs.Ends.{EndsAs, IsRunOfPairs, ending_of}
 use Rattle.schedule_runs.specs.Lengths.{AsksForFewEvents}
 use Rattle.schedule_runs.specs.Rules.{CanGoOn, pair_rules}
 use Rattle.schedule_runs.specs.Runs.{Agenda, PlaysSchedule, RunsOut, RunsToHarm, counts_of, sizes_of}
@@ -120,7 +120,8 @@ pub is-run : (site : Site) (lines : List Line) (stop : Option ProcessorStop) (si
     (machine : MachineStanding) (asked : ℕ) (ending : loop.Ending) (told : Ending)
     → sizes ≡ sizes_of site → start ≡ machine_at_boot site
     → IsRunOn pair_rules (course_from sizes start lines stop) machine.is_broken machine.state asked ending
-    → told ≡ ending_of ending → IsRunOf site lines stop (record { machine = machine; asked = asked; ending = told })
+    → told ≡ ending_of ending → IsRunOfPairs site lines stop
+    (record { machine = machine; asked = asked; ending = told })
 is-run site lines stop sizes start machine asked ending told counted booted ran is = record {
   events = ran.events;
   state = ran.state;

@@ -31,7 +31,7 @@ EndsAs site lines stop events s left asked (Lost process) =
 
 -- what ran is a run of the schedule with the stop on the site: these events were played one after the other, fewer than
 -- 4,294,967,295 of them, and led to a state, with which the run ended as it says
-pub record IsRunOf (site : Site) (lines : List Line) (stop : Option ProcessorStop) (ran : Ran) : Type 0 where
+pub record IsRunOfPairs (site : Site) (lines : List Line) (stop : Option ProcessorStop) (ran : Ran) : Type 0 where
   pub events : List Event
   pub state : MachineState
   pub few : length events < 4294967295

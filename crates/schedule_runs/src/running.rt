@@ -1,6 +1,6 @@
 ghost use Rattle.std.specs.Prelude.{◌≡◌, IfOk};
 ghost use Rattle.pair_machine.specs.process_copies.specs.Starting.{IsStartable};
-ghost use Rattle.schedule_runs.specs.Ends.{IsRunOf, ending_of};
+ghost use Rattle.schedule_runs.specs.Ends.{IsRunOfPairs, ending_of};
 ghost use Rattle.schedule_runs.specs.Lengths.{AsksForFewEvents};
 ghost use Rattle.schedule_runs.specs.Runs.{sizes_of};
 
@@ -22,7 +22,7 @@ pub fn run(
 ) -> Result<Ran, NoMemory>
     requires startable { IsStartable site.now }
     requires few { AsksForFewEvents site.now lines.now stop }
-    ensures { IfOk result (λ ran. IsRunOf site.now lines.now stop ran) }
+    ensures { IfOk result (λ ran. IsRunOfPairs site.now lines.now stop ran) }
 {
     let pairs = PlayedPairs::boot(alloc, site)?;
     let ran = schedule_loop::run(pairs, sizes_of(site.get()), lines, stop)?;

@@ -9,7 +9,7 @@ use Rattle.player.specs.declared.stop.ProcessorStop.{ProcessorStop}
 use Rattle.world_semantics.specs.World.{is_whole}
 use Rattle.message_wires_laws.specs.message_wires.specs.Play.{MachineState}
 use Rattle.message_wires_laws.proofs.Whole.{begins-whole}
-use Rattle.schedule_runs.specs.Ends.{EndsAs, IsRunOf}
+use Rattle.schedule_runs.specs.Ends.{EndsAs, IsRunOfPairs}
 use Rattle.schedule_runs.specs.Runs.{Agenda, IsPlay, Plan, PlaysSchedule, RunsToHarm, counts_of, plays_none, plays_on}
 use Rattle.schedule_runs.specs.Runs.{sizes_of}
 use Rattle.schedule_runs.specs.declared.ran.Ending.{Ending}
@@ -87,7 +87,7 @@ no-second site lines stop few events s processor runs =
 
 pub never-second : (site : Site) (lines : List Line) (stop : Option ProcessorStop) (ran : Ran) (processor : ℕ)
     → stops_asked lines stop ≤ 1
-    → IsRunOf site lines stop ran → ran.ending ≡ Second processor → ⊥
+    → IsRunOfPairs site lines stop ran → ran.ending ≡ Second processor → ⊥
 never-second site lines stop ran processor few run ended =
     let ends = subst (λ (ending : Ending). EndsAs site lines stop run.events run.state ran.machine.state ran.asked
     ending) ended run.ends in

@@ -2,7 +2,7 @@ ghost use Rattle.std.specs.Prelude.{◌≡◌, ◌≤◌, ℕ, List, Option};
 ghost use Rattle.tal_tree.specs.declared.site.Site.{Site};
 ghost use Rattle.schedule.specs.declared.line.Line.{Line};
 ghost use Rattle.player.specs.declared.stop.ProcessorStop.{ProcessorStop};
-ghost use Rattle.schedule_runs.specs.Ends.{IsRunOf};
+ghost use Rattle.schedule_runs.specs.Ends.{IsRunOfPairs};
 ghost use Rattle.schedule_runs.specs.declared.ran.Ending.TheVariants.{Second};
 ghost use Rattle.schedule_runs.specs.declared.ran.Ran.{Ran};
 ghost use Rattle.single_stops.specs.StopsAsked.{stops_asked};
@@ -12,5 +12,5 @@ ghost use Rattle.single_stops.specs.StopsAsked.{stops_asked};
 pub fn one_stop_has_no_second()
     ensures { (site : Site) (lines : List Line) (stop : Option ProcessorStop) (ran : Ran) (processor : ℕ)
         → stops_asked lines stop ≤ 1
-        → IsRunOf site lines stop ran → ran.ending ≡ Second processor → ⊥ }
+        → IsRunOfPairs site lines stop ran → ran.ending ≡ Second processor → ⊥ }
 {}

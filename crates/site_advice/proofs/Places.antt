@@ -12,8 +12,8 @@ use Rattle.tal_tree.specs.declared.site.Kind.{Kind}
 use Rattle.tal_tree.specs.declared.site.Kind.TheVariants as kind
 use Rattle.tal_tree.specs.declared.site.ProcessSpec.{ProcessSpec}
 use Rattle.verdicts.specs.Refused.{program_at, program_of}
-use Rattle.advise.specs.advice.specs.declared.answer.Advice.{Advice}
-use Rattle.advise.specs.advice.specs.Answer.{IsAnswer}
+use Rattle.advice_search.specs.advice.specs.declared.answer.Advice.{Advice}
+use Rattle.advice_search.specs.advice.specs.Answer.{IsAnswer}
 use Rattle.site_advice.specs.Pushed.{IsMore, IsAdviceFor}
 use Rattle.site_advice.specs.SiteAdvised.{pair_at, pairs_from, AreAdvised, AreAdvisedBefore}
 use Rattle.site_advice.specs.declared.pairs.PairAdvice.{PairAdvice}

@@ -1,5 +1,5 @@
 pub mod Pushed
 pub mod SiteAdvised
-pub use Rattle.advise.specs.advice
-pub use Rattle.advise.specs.path_semantics
+pub use Rattle.advice_search.specs.advice
+pub use Rattle.advice_search.specs.path_semantics
 pub use Rattle.verdicts

@@ -5,8 +5,8 @@ use Rattle.tal_tree.specs.declared.site.Kind.{Kind}
 use Rattle.statement_lines.specs.Lines.{lines_of}
 use Rattle.verdicts.specs.Refused.{program_of}
 use Rattle.verdicts.specs.declared.refused.Cause.{Cause}
-use Rattle.advise.specs.advice.specs.declared.answer.Advice.{Advice}
-use Rattle.advise.specs.advice.specs.Answer.{IsAnswer}
+use Rattle.advice_search.specs.advice.specs.declared.answer.Advice.{Advice}
+use Rattle.advice_search.specs.advice.specs.Answer.{IsAnswer}
 use Rattle.site_advice.specs.SiteAdvised.{IsUnadvised}
 use Rattle.site_advice.specs.declared.pairs.PairAdvice.{PairAdvice}
 

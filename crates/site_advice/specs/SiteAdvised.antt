@@ -5,15 +5,15 @@ use Rattle.tal_tree.specs.declared.program.Program.{Program}
 use Rattle.tal_tree.specs.declared.site.Kind.{Kind}
 use Rattle.tal_tree.specs.declared.site.Kind.TheVariants as kind
 use Rattle.tal_tree.specs.declared.site.ProcessSpec.{ProcessSpec}
-use Rattle.advise.specs.path_semantics.specs.declared.reason.RefusalFault.{RefusalFault}
-use Rattle.advise.specs.path_semantics.specs.declared.reason.RefusalFault.TheVariants.{TooDeep, TooLarge, Broken}
-use Rattle.advise.specs.path_semantics.specs.declared.reason.RefusalFault.TheVariants.{NoMemory}
+use Rattle.advice_search.specs.path_semantics.specs.declared.reason.RefusalFault.{RefusalFault}
+use Rattle.advice_search.specs.path_semantics.specs.declared.reason.RefusalFault.TheVariants.{TooDeep, TooLarge, Broken}
+use Rattle.advice_search.specs.path_semantics.specs.declared.reason.RefusalFault.TheVariants.{NoMemory}
 use Rattle.statement_lines.specs.Lines.{lines_of}
 use Rattle.verdicts.specs.Refused.{program_at}
 use Rattle.verdicts.specs.declared.refused.RefusedProgram.{RefusedProgram}
-use Rattle.advise.specs.advice.specs.declared.answer.Advice.{Advice}
-use Rattle.advise.specs.advice.specs.declared.answer.AdviseFault.TheVariants as advise
-use Rattle.advise.specs.advice.specs.Answer.{IsAdvised, IsAnswer, IsUnmendable}
+use Rattle.advice_search.specs.advice.specs.declared.answer.Advice.{Advice}
+use Rattle.advice_search.specs.advice.specs.declared.answer.AdviseFault.TheVariants as advise
+use Rattle.advice_search.specs.advice.specs.Answer.{IsAdvised, IsAnswer, IsUnmendable}
 use Rattle.site_advice.specs.declared.pairs.PairAdvice.{PairAdvice}
 use Rattle.site_advice.specs.declared.pairs.SiteAdvice.{SiteAdvice}
 use Rattle.site_advice.specs.declared.pairs.SiteAdvice.TheVariants.{Given, Refused}

@@ -7,6 +7,6 @@
 
 pub mod pairs;
 
-pub use advise::{Advised, Reason, RefusalFault};
+pub use advice_search::{Advised, Reason, RefusalFault};
 pub use pairs::{PairAdvice, SiteAdvice, advise_all};
 pub use verdicts::RefusedProgram;

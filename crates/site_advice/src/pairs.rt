@@ -3,7 +3,7 @@ ghost use Rattle.verdicts.specs.Judgeable.{AreJudgeable, IsJudgeable, IsJudgeabl
 ghost use Rattle.site_advice.specs.Pushed.{IsCause, IsPushed};
 ghost use Rattle.site_advice.specs.SiteAdvised.{IsSiteAdvice, IsUnadvised};
 
-use advise::{Advice, AdviseFault, RefusalFault, advise};
+use advice_search::{Advice, AdviseFault, RefusalFault, advise};
 use gd_words::{List, NoMemory};
 use statement_lines::lines_of;
 use std::alloc::Global;

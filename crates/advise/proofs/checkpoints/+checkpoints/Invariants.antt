@@ -1,6 +1,0 @@
-use Rattle.std.proofs.Common.{◌≡◌, ◌++◌, take}
-use Rattle.advise.specs.Lists.{places_of}
-use Rattle.advise.proofs.checkpoints.+checkpoints.Given as goal
-
-abbrev pub invariant-push_all-loop-statement : goal.invariant-push_all-loop-statement
-invariant-push_all-loop-statement l = l.found ≡ l.fn.found ++ places_of (take l.statement-index l.statements)

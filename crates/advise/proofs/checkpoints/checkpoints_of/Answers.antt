@@ -1,7 +1,0 @@
-use Rattle.std.proofs.Common.{arith}
-use Rattle.std.proofs.lemmas.Grind.{common_steps}
-use Rattle.advise.proofs.Places.{all-places}
-use Rattle.advise.proofs.checkpoints.checkpoints_of.Goals as goal
-
-pub returns : goal.returns
-returns c = rw (← all-places c.args.program.now.procedures) (grind (arith, common_steps))

@@ -1,8 +1,0 @@
-use Rattle.std.proofs.Common.{◌≡◌, take, map}
-use Rattle.advise.specs.Lists.{advised}
-use Rattle.advise.proofs.lists.lists_of.Given as goal
-
-abbrev pub invariant-loop-checkpoint : goal.invariant-loop-checkpoint
-invariant-loop-checkpoint l = l.lists ≡ map
-    (λ checkpoint. advised l.program l.items.sets.items l.files.sets.items checkpoint)
-    (take l.checkpoint-index l.checkpoints)
