@@ -7,7 +7,7 @@ ghost use Rattle.deck_reader.specs.Refusals.{IsOutlineFault, IsRefusalOf, Tells,
 ghost use Rattle.deck_reader.specs.Sizes.{text_size};
 ghost use Rattle.tal_tree.specs.declared.fault.DeckFault.{DeckFault};
 ghost use Rattle.deck_reader.specs.declared.deck.Deck.{Deck};
-ghost use Rattle.gd_words.specs.declared.limits.TheConstants.{MOST_PROCESSES};
+ghost use Rattle.gd_words.specs.declared.limits.TheConstants.{MOST_DECK_BYTES, MOST_PROCESSES};
 
 use crate::names::{NameFault, earlier, earlier_than, event_misnamed, name_fault};
 use crate::outline::{Outline, ProcessLines, TerminalLines, place_of};
@@ -30,7 +30,7 @@ pub struct Deck {
 /// The deck that the bytes spell, or the one fault for which they are refused.
 pub fn read_deck(alloc: Global, bytes: &[u8]) -> Result<Deck, DeckFault>
     ensures ok { IfOk result (λ deck. Decks bytes.now deck) }
-    ensures too_long { (result ≡ Err DeckFault.TooLong) ↔ (1048576 < length bytes.now) }
+    ensures too_long { (result ≡ Err DeckFault.TooLong) ↔ (MOST_DECK_BYTES < length bytes.now) }
     ensures err { IfErr result (λ fault. fault ≢ DeckFault.NoMemory no_memory → IsRefusalOf bytes.now fault) }
     ensures told { (number : ℕ) → result ≢ Err (DeckFault.Program number (TalFault.NoMemory no_memory)) }
 {

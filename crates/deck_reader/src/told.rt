@@ -1,6 +1,7 @@
 ghost use Rattle.std.specs.Prelude.{◌≡◌, ◌≤◌, length, IfOk};
 ghost use Rattle.deck_lines.specs.Lines.{lines_of};
 ghost use Rattle.deck_reader.specs.Outlined.{unended, at_end, outline_of};
+ghost use Rattle.gd_words.specs.declared.limits.TheConstants.{MOST_DECK_BYTES};
 
 use crate::line_fault::LineFault;
 use crate::outline::{Heading, Outline};
@@ -18,7 +19,7 @@ pub enum Told {
 
 /// What the lines of a text say together.
 pub fn outline_of(alloc: Global, bytes: &[u8]) -> Result<Told, NoMemory>
-    requires short { length bytes.now ≤ 1048576 }
+    requires short { length bytes.now ≤ MOST_DECK_BYTES }
     ensures { IfOk result (λ told. told ≡ outline_of (lines_of bytes.now)) }
 {
     let mut stage = Stage::Opening;

@@ -9,6 +9,7 @@ ghost use Rattle.explain_break.specs.Broken.{IsBreakDeck, accepted_text};
 ghost use Rattle.player.specs.declared.stop.ProcessorStop.{ProcessorStop};
 ghost use Rattle.break_text.specs.schedule_runs.specs.pair_machine.specs.process_copies.specs.Starting.{IsStartable};
 ghost use Rattle.break_text.specs.schedule_runs.specs.Lengths.{AsksForFewEvents};
+ghost use Rattle.gd_words.specs.declared.limits.TheConstants.{MOST_DECK_BYTES};
 
 use accepted_decks::an_accepted_deck_meets_the_premises;
 use break_text::{put_search, search_breaks};
@@ -31,7 +32,7 @@ pub fn break_deck<K: Sink>(
     sink: &mut K,
 ) -> Result<JudgedDeck, NoMemory>
     requires spelt { Decks bytes.now deck }
-    requires few { length bytes.now ≤ 1048576 }
+    requires few { length bytes.now ≤ MOST_DECK_BYTES }
     ensures { (meanwhile : Items ℕ) × GoesOut K.held K.faults K.sure sink.old sink.new meanwhile
         × IsProgress meanwhile × IfOk result (IsBreakDeck bytes.now deck meanwhile) }
 {

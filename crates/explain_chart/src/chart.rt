@@ -10,6 +10,7 @@ ghost use Rattle.charted_runs.specs.site_machine.specs.process_copies.specs.Star
 ghost use Rattle.svg_text.specs.Sheets.{drawing_text};
 ghost use Rattle.traced_decks.specs.PlacesOf.{places_of};
 ghost use Rattle.traced_decks.specs.verdicts.specs.Refused.{AreAccepted};
+ghost use Rattle.gd_words.specs.declared.limits.TheConstants.{MOST_DECK_BYTES};
 
 use crate::scope::Scope;
 use chart_marks::{Chart, Layout};
@@ -38,7 +39,7 @@ pub fn chart_deck(
     scope: Scope,
 ) -> Result<JudgedDeck, ChartFault>
     requires spelt { Decks bytes.now deck }
-    requires few { length bytes.now ≤ 1048576 }
+    requires few { length bytes.now ≤ MOST_DECK_BYTES }
     ensures { IsChartDeck bytes.now deck stop scope result }
 {
     programs_of_a_deck_can_be_judged();
@@ -62,7 +63,7 @@ fn accepted_chart(
     scope: Scope,
 ) -> Result<JudgedDeck, ChartFault>
     requires spelt { Decks bytes.now deck }
-    requires few { length bytes.now ≤ 1048576 }
+    requires few { length bytes.now ≤ MOST_DECK_BYTES }
     requires accepted { AreAccepted deck.site.processes }
     ensures { IsOfChart bytes.now deck stop scope result }
 {

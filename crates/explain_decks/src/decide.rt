@@ -7,6 +7,7 @@ ghost use Rattle.explain_decks.specs.Decided.{IsOfWholeDeck, can_stop, due_of_ch
 ghost use Rattle.explain_decks.specs.Written.{CanBeWritten};
 ghost use Rattle.explain_left.specs.explain_why.specs.Judged.{IsJudgedDeck};
 ghost use Rattle.verdicts.specs.Refused.{AreAccepted};
+ghost use Rattle.gd_words.specs.declared.limits.TheConstants.{MOST_DECK_BYTES};
 
 use crate::due::{Due, RefusedDeck, TracedDeck};
 use crate::telling::Telling;
@@ -67,7 +68,7 @@ fn due_of_deck<P: Sink>(
     progress: &mut P,
 ) -> Due
     requires spelt { Decks bytes.now deck }
-    requires few { length bytes.now ≤ 1048576 }
+    requires few { length bytes.now ≤ MOST_DECK_BYTES }
     ensures due { (meanwhile : Items ℕ)
         × GoesOut P.held P.faults P.sure progress.old progress.new meanwhile
         × IsDueOfDeck telling bytes.now deck meanwhile result }
@@ -109,7 +110,7 @@ fn has_processor(stop: Option<ProcessorStop>, processors: u8) -> bool
 
 fn why_told(alloc: Global, bytes: &[u8], deck: &Deck) -> Result<JudgedDeck, NoMemory>
     requires spelt { Decks bytes.now deck.now }
-    requires few { length bytes.now ≤ 1048576 }
+    requires few { length bytes.now ≤ MOST_DECK_BYTES }
     ensures { IfOk result (λ judged. IsJudgedDeck bytes.now deck.now.site.processes judged) }
 {
     programs_of_a_deck_can_be_judged();
@@ -146,7 +147,7 @@ fn due_of_trace(
     manner: Manner,
 ) -> Due
     requires spelt { Decks bytes.now deck }
-    requires few { length bytes.now ≤ 1048576 }
+    requires few { length bytes.now ≤ MOST_DECK_BYTES }
     ensures { IsDueOfTrace bytes.now deck stop manner result }
 {
     unrefused_programs_are_accepted();
@@ -167,7 +168,7 @@ fn due_of_run(
     stop: Option<ProcessorStop>,
     manner: Manner,
 ) -> Due
-    requires few { length bytes.now ≤ 1048576 }
+    requires few { length bytes.now ≤ MOST_DECK_BYTES }
     requires accepted { AreAccepted deck.site.processes }
     ensures { IsDueOfTrace bytes.now deck stop manner result }
 {

@@ -2,6 +2,7 @@ ghost use Rattle.std.specs.Prelude.{◌≤◌, length, IfOk};
 ghost use Rattle.explain_why.specs.deck_reader.specs.Decks.{Decks};
 ghost use Rattle.accepted_decks.specs.verdicts.specs.Refused.{AreAccepted};
 ghost use Rattle.explain_left.specs.Left.{IsLeftDeck, IsOfRun};
+ghost use Rattle.gd_words.specs.declared.limits.TheConstants.{MOST_DECK_BYTES};
 
 use crate::run::left_after;
 use explain_why::{
@@ -21,7 +22,7 @@ pub fn left_deck(
     stop: Option<ProcessorStop>,
 ) -> Result<JudgedDeck, NoMemory>
     requires spelt { Decks bytes.now deck }
-    requires few { length bytes.now ≤ 1048576 }
+    requires few { length bytes.now ≤ MOST_DECK_BYTES }
     ensures { IfOk result (λ judged. IsLeftDeck bytes.now deck stop judged) }
 {
     programs_of_a_deck_can_be_judged();
@@ -40,7 +41,7 @@ fn left_of_run(
     stop: Option<ProcessorStop>,
 ) -> Result<JudgedDeck, NoMemory>
     requires spelt { Decks bytes.now deck }
-    requires few { length bytes.now ≤ 1048576 }
+    requires few { length bytes.now ≤ MOST_DECK_BYTES }
     requires accepted { AreAccepted deck.site.processes }
     ensures { IfOk result (λ judged. IsOfRun bytes.now deck stop judged) }
 {

@@ -2,6 +2,7 @@ ghost use Rattle.std.specs.Prelude.{◌≡◌, ◌≤◌, length, IfOk};
 ghost use Rattle.accepted_decks.specs.deck_reader.specs.Decks.{Decks};
 ghost use Rattle.accepted_decks.specs.verdicts.specs.Refused.{AreAccepted};
 ghost use Rattle.explain_left.specs.LeftRuns.{IsLeftText, IsTextOfRun, run_text};
+ghost use Rattle.gd_words.specs.declared.limits.TheConstants.{MOST_DECK_BYTES};
 
 use crate::ending::put_ending;
 use accepted_decks::{Deck, an_accepted_deck_meets_the_premises};
@@ -22,7 +23,7 @@ pub fn left_after(
     stop: Option<ProcessorStop>,
 ) -> Result<List<u8>, NoMemory>
     requires spelt { Decks bytes.now deck }
-    requires few { length bytes.now ≤ 1048576 }
+    requires few { length bytes.now ≤ MOST_DECK_BYTES }
     requires accepted { AreAccepted deck.site.processes }
     ensures { IfOk result (λ text. IsLeftText bytes.now deck stop text) }
 {
@@ -40,7 +41,7 @@ fn text_of_run(
     site: &Site,
     noted: &NotedRan,
 ) -> Result<List<u8>, NoMemory>
-    requires { length bytes.now ≤ 1048576 }
+    requires { length bytes.now ≤ MOST_DECK_BYTES }
     ensures { IfOk result (λ text. IsTextOfRun bytes.now site.now noted.now text) }
 {
     let view = view(alloc, &noted.ran.machine)?;
@@ -56,7 +57,7 @@ fn text_of_left(
     noted: &NotedRan,
     left: &Left,
 ) -> Result<List<u8>, NoMemory>
-    requires { length bytes.now ≤ 1048576 }
+    requires { length bytes.now ≤ MOST_DECK_BYTES }
     ensures { IfOk result (λ text. text ≡ run_text bytes.now site.now noted.now left.now) }
 {
     let mut text = List::new(alloc);

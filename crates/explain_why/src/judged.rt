@@ -1,6 +1,7 @@
 ghost use Rattle.std.specs.Prelude.{◌≡◌, ◌≤◌, length, IfOk};
 ghost use Rattle.explain_why.specs.Judged.{IsJudgedDeck, are_refused, is_refused, judged_text};
 ghost use Rattle.finding_text.specs.verdicts.specs.Judgeable.{AreJudgeable};
+ghost use Rattle.gd_words.specs.declared.limits.TheConstants.{MOST_DECK_BYTES};
 
 use finding_text::{Finding, findings_of, put_pairs};
 use gd_words::{List, NoMemory};
@@ -22,7 +23,7 @@ pub fn judged_deck(
     processes: &[ProcessSpec],
 ) -> Result<JudgedDeck, NoMemory>
     requires judgeable { AreJudgeable processes.now }
-    requires few { length bytes.now ≤ 1048576 }
+    requires few { length bytes.now ≤ MOST_DECK_BYTES }
     ensures { IfOk result (λ judged. IsJudgedDeck bytes.now processes.now judged) }
 {
     let findings = findings_of(alloc, processes)?;
@@ -39,7 +40,7 @@ fn judged_text(
     processes: &[ProcessSpec],
     findings: &[Finding],
 ) -> Result<List<u8>, NoMemory>
-    requires { length bytes.now ≤ 1048576 }
+    requires { length bytes.now ≤ MOST_DECK_BYTES }
     ensures { IfOk result (λ text. text ≡ judged_text bytes.now processes.now findings.now) }
 {
     let mut text = List::new(alloc);

@@ -1,6 +1,7 @@
 ghost use Rattle.std.specs.Prelude.{◌≡◌, ◌≤◌, ◌+◌, ◌++◌, length, OnOk};
 ghost use Rattle.finding_text.specs.Carried.{accepted_text, carried_text, carries_text, needless_text, sends_text};
 ghost use Rattle.finding_text.specs.Carried.{advised_of, lead_of, one_sent, place_line, sent_text, unneeded_text};
+ghost use Rattle.gd_words.specs.declared.limits.TheConstants.{MOST_DECK_BYTES};
 
 use crate::deck_place::put_source;
 use crate::lacking::put_names;
@@ -23,7 +24,7 @@ pub(crate) fn put_accepted(
     program: &Program,
     finding: &PairFinding,
 ) -> Result<(), NoMemory>
-    requires { start ≤ 1048576 }
+    requires { start ≤ MOST_DECK_BYTES }
     ensures { OnOk result (text.new ≡ text.old ++ accepted_text bytes.now start program.now finding.now) }
 {
     let checkpoints = finding.checkpoints.as_slice();
@@ -50,7 +51,7 @@ fn put_carries(
     checkpoints: &[NamedCheckpoint],
     advised: &[Advised],
 ) -> Result<(), NoMemory>
-    requires { start ≤ 1048576 }
+    requires { start ≤ MOST_DECK_BYTES }
     ensures { OnOk result (text.new ≡ text.old
         ++ carries_text bytes.now start program.now checkpoints.now advised.now) }
 {
@@ -70,7 +71,7 @@ fn put_carried(
     named: &NamedCheckpoint,
     advised: &[Advised],
 ) -> Result<(), NoMemory>
-    requires { start ≤ 1048576 }
+    requires { start ≤ MOST_DECK_BYTES }
     ensures { OnOk result (text.new ≡ text.old ++ carried_text bytes.now start program.now named.now advised.now) }
 {
     let line = start + u64::from(named.line);

@@ -4,6 +4,7 @@ ghost use Rattle.finding_text.specs.Lacking.{depth_of, depth_text, depths_text, 
 ghost use Rattle.finding_text.specs.Lacking.{lists_text, names_text, others_text, remedy_text, unmendable_text};
 ghost use Rattle.finding_text.specs.Lacking.{behind_text, call_line, deepest_text, lacking_line, last_line};
 ghost use Rattle.finding_text.specs.Lacking.{listed_text, unmended_text, whole_text};
+ghost use Rattle.gd_words.specs.declared.limits.TheConstants.{MOST_DECK_BYTES};
 
 use crate::lists::{Listed, all_listed, lacking};
 use crate::names::{put_file, put_listed};
@@ -23,7 +24,7 @@ pub(crate) fn put_remedy(
     program: &Program,
     finding: &PairFinding,
 ) -> Result<(), NoMemory>
-    requires { start ≤ 1048576 }
+    requires { start ≤ MOST_DECK_BYTES }
     ensures { OnOk result (text.new ≡ text.old ++ remedy_text start program.now finding.now) }
 {
     match &finding.remedy {
@@ -44,7 +45,7 @@ fn put_lists(
     finding: &PairFinding,
     advice: &Advice,
 ) -> Result<(), NoMemory>
-    requires { start ≤ 1048576 }
+    requires { start ≤ MOST_DECK_BYTES }
     ensures { OnOk result (text.new ≡ text.old ++ lists_text start program.now finding.now advice.now) }
 {
     let advised = advice.lists.as_slice();
@@ -67,7 +68,7 @@ fn put_lacks(
     checkpoints: &[NamedCheckpoint],
     advised: &[Advised],
 ) -> Result<(), NoMemory>
-    requires { start ≤ 1048576 }
+    requires { start ≤ MOST_DECK_BYTES }
     ensures { OnOk result (text.new ≡ text.old ++ lacks_text start program.now checkpoints.now advised.now) }
 {
     for named in checkpoints {
@@ -84,7 +85,7 @@ fn put_lack(
     named: &NamedCheckpoint,
     advised: &[Advised],
 ) -> Result<(), NoMemory>
-    requires { start ≤ 1048576 }
+    requires { start ≤ MOST_DECK_BYTES }
     ensures { OnOk result (text.new ≡ text.old ++ lack_text start program.now named.now advised.now) }
 {
     let lacking = lacking(alloc, named, advised)?;

@@ -2,6 +2,7 @@ ghost use Rattle.std.specs.Prelude.{◌≡◌, ◌≤◌, ◌++◌, length, OnOk
 ghost use Rattle.finding_text.specs.PairText.{broken_text, pair_text, pair_texts, program_text};
 ghost use Rattle.finding_text.specs.PairText.{cause_line, head_text, hint_line, praise_text, refused_line};
 ghost use Rattle.finding_text.specs.PairText.{refused_text, way_text};
+ghost use Rattle.gd_words.specs.declared.limits.TheConstants.{MOST_DECK_BYTES};
 
 use crate::carried::put_accepted;
 use crate::deck_place::pair_line;
@@ -23,7 +24,7 @@ pub fn put_pairs(
     specs: &[ProcessSpec],
     findings: &[Finding],
 ) -> Result<(), NoMemory>
-    requires { length bytes.now ≤ 1048576 }
+    requires { length bytes.now ≤ MOST_DECK_BYTES }
     ensures { OnOk result (text.new ≡ text.old ++ pair_texts bytes.now specs.now findings.now) }
 {
     let mut specs_left = specs;
@@ -46,7 +47,7 @@ fn put_pair(
     spec: &ProcessSpec,
     finding: &Finding,
 ) -> Result<(), NoMemory>
-    requires { length bytes.now ≤ 1048576 }
+    requires { length bytes.now ≤ MOST_DECK_BYTES }
     ensures { OnOk result (text.new ≡ text.old ++ pair_text bytes.now spec.now.name spec.now.what finding.now) }
 {
     match &spec.what {
@@ -66,7 +67,7 @@ fn put_program(
     program: &Program,
     found: &PairFinding,
 ) -> Result<(), NoMemory>
-    requires { length bytes.now ≤ 1048576 }
+    requires { length bytes.now ≤ MOST_DECK_BYTES }
     ensures { OnOk result (text.new ≡ text.old ++ program_text bytes.now name.now program.now found.now) }
 {
     let start = pair_line(bytes, name);
@@ -99,7 +100,7 @@ fn put_refused(
     found: &PairFinding,
     refusal: &RefusalFault,
 ) -> Result<(), NoMemory>
-    requires { start ≤ 1048576 }
+    requires { start ≤ MOST_DECK_BYTES }
     ensures { OnOk result (text.new ≡ text.old
         ++ refused_text bytes.now start name.now program.now found.now refusal.now) }
 {
@@ -139,7 +140,7 @@ fn put_broken(
     found: &PairFinding,
     refusal: &RefusalFault,
 ) -> Result<(), NoMemory>
-    requires { start ≤ 1048576 }
+    requires { start ≤ MOST_DECK_BYTES }
     ensures { OnOk result (text.new ≡ text.old
         ++ broken_text bytes.now start program.now found.now refusal.now) }
 {
@@ -164,7 +165,7 @@ fn put_way(
     way: Way,
     path: &[u16],
 ) -> Result<(), NoMemory>
-    requires start { way.start ≤ 1048576 }
+    requires start { way.start ≤ MOST_DECK_BYTES }
     requires count { way.count ≡ length path.now }
     ensures { OnOk result (text.new ≡ text.old ++ way_text bytes.now program.now found.now way path.now) }
 {

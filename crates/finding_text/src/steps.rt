@@ -4,6 +4,7 @@ ghost use Rattle.finding_text.specs.Steps.{due_mark, gap_text, last_mark, mark_t
 ghost use Rattle.finding_text.specs.Steps.{one_too_many_mark, place_text, step_text, steps_text};
 ghost use Rattle.finding_text.specs.Steps.{uncovered_mark, unnamed_mark};
 ghost use Rattle.finding_text.specs.Names.{file_name, item_name};
+ghost use Rattle.gd_words.specs.declared.limits.TheConstants.{MOST_DECK_BYTES};
 
 use crate::deck_place::put_source;
 use crate::names::{put_file, put_item};
@@ -37,7 +38,7 @@ pub(crate) fn put_path(
     way: Way,
     path: &[u16],
 ) -> Result<(), NoMemory>
-    requires start { way.start ≤ 1048576 }
+    requires start { way.start ≤ MOST_DECK_BYTES }
     requires count { way.count ≡ length path.now }
     ensures { OnOk result (text.new ≡ text.old ++ path_text bytes.now program.now finding.now way path.now) }
 {
@@ -78,7 +79,7 @@ fn put_steps(
     first: usize,
     numbers: &[u16],
 ) -> Result<(), NoMemory>
-    requires start { way.start ≤ 1048576 }
+    requires start { way.start ≤ MOST_DECK_BYTES }
     requires within { first + length numbers.now ≤ way.count }
     ensures { OnOk result (text.new ≡ text.old
         ++ steps_text bytes.now program.now finding.now way first numbers.now) }
@@ -102,7 +103,7 @@ fn put_step(
     place: usize,
     number: u16,
 ) -> Result<(), NoMemory>
-    requires start { way.start ≤ 1048576 }
+    requires start { way.start ≤ MOST_DECK_BYTES }
     requires within { place + 1 ≤ way.count }
     ensures { OnOk result (text.new ≡ text.old
         ++ step_text bytes.now program.now finding.now way place number) }

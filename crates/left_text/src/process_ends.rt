@@ -2,6 +2,7 @@ ghost use Rattle.std.specs.Prelude.{◌≡◌, ◌≤◌, ◌++◌, length, OnOk
 ghost use Rattle.left_text.specs.LeftText.{awaiting_text, checked_text, count_text, ended_text, line_of_end};
 ghost use Rattle.left_text.specs.LeftText.{line_of_step, line_shown, name_at, place_text, plain_text, process_line};
 ghost use Rattle.left_text.specs.LeftText.{process_lines, server_name, stand_text, step_text, waiting_text};
+ghost use Rattle.gd_words.specs.declared.limits.TheConstants.{MOST_DECK_BYTES};
 
 use crate::reasons::put_after;
 use finding_text::{pair_line, put_place_line};
@@ -20,7 +21,7 @@ pub(crate) fn put_processes(
     lefts: &[ProcessLeft],
     steps: &[Option<LastStep>],
 ) -> Result<(), NoMemory>
-    requires { length bytes.now ≤ 1048576 }
+    requires { length bytes.now ≤ MOST_DECK_BYTES }
     ensures { OnOk result (text.new ≡ text.old ++ process_lines bytes.now all.now specs.now lefts.now steps.now) }
 {
     let mut specs_left = specs;
@@ -49,7 +50,7 @@ fn put_process(
     left: ProcessLeft,
     step: Option<LastStep>,
 ) -> Result<(), NoMemory>
-    requires { length bytes.now ≤ 1048576 }
+    requires { length bytes.now ≤ MOST_DECK_BYTES }
     ensures { OnOk result (text.new ≡ text.old ++ process_line bytes.now all.now name.now left step) }
 {
     put(text, name.text())?;
@@ -84,7 +85,7 @@ fn put_line_of(
     name: &Name,
     line: Option<u32>,
 ) -> Result<(), NoMemory>
-    requires { length bytes.now ≤ 1048576 }
+    requires { length bytes.now ≤ MOST_DECK_BYTES }
     ensures { OnOk result (text.new ≡ text.old ++ place_text bytes.now name.now line) }
 {
     match line {

@@ -1,5 +1,6 @@
 ghost use Rattle.std.specs.Prelude.{◌≡◌, ◌≤◌, ◌++◌, length, OnOk};
 ghost use Rattle.left_text.specs.LeftText.{left_text};
+ghost use Rattle.gd_words.specs.declared.limits.TheConstants.{MOST_DECK_BYTES};
 
 use crate::process_ends::put_processes;
 use crate::ring_ends::put_rings;
@@ -18,7 +19,7 @@ pub fn put_left(
     left: &Left,
     steps: &[Option<LastStep>],
 ) -> Result<(), NoMemory>
-    requires { length bytes.now ≤ 1048576 }
+    requires { length bytes.now ≤ MOST_DECK_BYTES }
     ensures { OnOk result (text.new ≡ text.old ++ left_text bytes.now site.now left.now steps.now) }
 {
     let processes = site.processes.as_slice();

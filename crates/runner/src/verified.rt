@@ -5,6 +5,7 @@ ghost use Rattle.command_dues.specs.plain_machine.specs.Standing.{IsPlayable};
 ghost use Rattle.command_dues.specs.Decided.{IsDueOfVerify, IsOfWholeDeck, IsSpelt};
 ghost use Rattle.command_dues.specs.Verified.{IsDueOfInput, IsDueOfJudged, IsDueOfReport};
 ghost use Rattle.command_dues.specs.Written.{CanBeWritten};
+ghost use Rattle.gd_words.specs.declared.limits.TheConstants.{MOST_INPUT_BYTES};
 
 use crate::decide::due_of_fault;
 use accepted_decks::an_accepted_deck_meets_the_premises;
@@ -31,7 +32,7 @@ pub(crate) fn due_of_verify<S: Source>(alloc: Global, source: &mut S) -> Due
 }
 
 fn due_of_input(alloc: Global, bytes: &[u8]) -> Due
-    requires { length bytes.now ≤ 67108864 }
+    requires { length bytes.now ≤ MOST_INPUT_BYTES }
     ensures due { IsDueOfInput bytes.now result }
     ensures written { CanBeWritten result }
 {

@@ -2,6 +2,7 @@ ghost use Rattle.std.specs.Prelude.{◌≡◌, ◌≤◌, ◌+◌, length, map, 
 ghost use Rattle.statement_lines.specs.Lines as statements;
 ghost use Rattle.deck_lines.specs.Lines as decks;
 ghost use Rattle.traced_decks.specs.PlacesOf as placed;
+ghost use Rattle.gd_words.specs.declared.limits.TheConstants.{MOST_DECK_BYTES};
 
 use deck_lines::next_line;
 use finding_text::pair_line;
@@ -13,7 +14,7 @@ use trace_lines::Places;
 
 /// Where the statements of a site's programs stand in the deck that bytes spell.
 pub fn places_of(alloc: Global, bytes: &[u8], site: &Site) -> Result<Places, NoMemory>
-    requires { length bytes.now ≤ 1048576 }
+    requires { length bytes.now ≤ MOST_DECK_BYTES }
     ensures { IfOk result (λ places. places ≡ placed.places_of bytes.now site.now) }
 {
     let lines = deck_lines(alloc, bytes)?;
@@ -47,7 +48,7 @@ fn all_programs(
     bytes: &[u8],
     specs: &[ProcessSpec],
 ) -> Result<List<List<u64>>, NoMemory>
-    requires { length bytes.now ≤ 1048576 }
+    requires { length bytes.now ≤ MOST_DECK_BYTES }
     ensures { IfOk result (λ all. all ≡ map (placed.program_places bytes.now) specs.now) }
 {
     let mut all = List::new(alloc);
@@ -59,7 +60,7 @@ fn all_programs(
 }
 
 fn program_places(alloc: Global, bytes: &[u8], spec: &ProcessSpec) -> Result<List<u64>, NoMemory>
-    requires { length bytes.now ≤ 1048576 }
+    requires { length bytes.now ≤ MOST_DECK_BYTES }
     ensures { IfOk result (λ places. places ≡ placed.program_places bytes.now spec.now) }
 {
     match &spec.what {
@@ -70,7 +71,7 @@ fn program_places(alloc: Global, bytes: &[u8], spec: &ProcessSpec) -> Result<Lis
 
 /// The lines of a program's numbers in a deck, where its text begins behind a line.
 fn lines_behind(alloc: Global, start: u64, program: &Program) -> Result<List<u64>, NoMemory>
-    requires { start ≤ 1048576 }
+    requires { start ≤ MOST_DECK_BYTES }
     ensures { IfOk result (λ lines. lines ≡ map (λ line. start + line) (statements.lines_of program.now)) }
 {
     let lines = lines_of(alloc, program)?;
@@ -78,7 +79,7 @@ fn lines_behind(alloc: Global, start: u64, program: &Program) -> Result<List<u64
 }
 
 fn all_behind(alloc: Global, start: u64, lines: &[u32]) -> Result<List<u64>, NoMemory>
-    requires { start ≤ 1048576 }
+    requires { start ≤ MOST_DECK_BYTES }
     ensures { IfOk result (λ all. all ≡ map (λ line. start + line) lines.now) }
 {
     let mut all = List::new(alloc);
