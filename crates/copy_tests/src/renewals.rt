@@ -8,26 +8,8 @@ use process_semantics::Point;
 use processes::Process;
 use std::alloc::Global;
 use std::test::Fail;
-use worked_programs::LOGGING_ADDER;
+use worked_programs::{LOGGING_ADDER, RARELY_NAMING_ADDER};
 use world_semantics::Role;
-
-/// The adder with a CHECKPOINT that names its total alone.
-const RARELY_NAMING: &[u8] = b"INT total, got, rcv, log; INT buf[0:0];
-PROC add MAIN;
-BEGIN
-  CALL CHECKMONITOR;
-  CALL OPEN(\"$RECEIVE\", rcv, 1);
-  CALL OPEN(\"$LOG\", log, 1);
-  WHILE 1 DO
-  BEGIN
-    CALL READUPDATE(rcv, buf, 1, got);
-    total := total + buf[0];
-    buf[0] := total;
-    CALL CHECKPOINT(total);
-    CALL WRITEREAD(log, buf, 1, 1, got);
-    CALL REPLY(buf, 1);
-  END;
-END;";
 
 /// Its first checkpoint, with the word 5 in hand: the frame and the total, no file, and two openers.
 const NAMED_WORDS: &[i16] = &[
@@ -129,7 +111,7 @@ fn a_blank_copy_starts_in_its_era(rt: HostRuntime) -> Result<(), Fail> {
 
 #[test]
 fn everything_is_sent_in_the_place_of_a_checkpoint(rt: HostRuntime) -> Result<(), Fail> {
-    let played = is_played(rt.alloc(), RARELY_NAMING, AT_A_CHECKPOINT)?;
+    let played = is_played(rt.alloc(), RARELY_NAMING_ADDER, AT_A_CHECKPOINT)?;
     assert!(rt; played);
     Ok(())
 }
@@ -143,7 +125,7 @@ fn everything_is_sent_elsewhere(rt: HostRuntime) -> Result<(), Fail> {
 
 #[test]
 fn what_need_not_be_sent_is_not(rt: HostRuntime) -> Result<(), Fail> {
-    let played = is_played(rt.alloc(), RARELY_NAMING, NO_MORE)?;
+    let played = is_played(rt.alloc(), RARELY_NAMING_ADDER, NO_MORE)?;
     assert!(rt; played);
     Ok(())
 }

@@ -2,7 +2,10 @@ use path_semantics::{Reason, breaks_there, call_depth, leads_somewhere};
 use std::alloc::Global;
 use std::test::Fail;
 use tal_tree::Program;
-use worked_programs::program_of;
+use worked_programs::turns::{
+    LATE_TURN, TURN_AROUND, TURN_WITHOUT_DISK, TURN_WITHOUT_OUT, TURN_WITHOUT_TOTAL, WHOLE_TURN,
+};
+use worked_programs::{bank_with, program_of};
 
 /// The numbers of the globals of the bank.
 const TOTAL: u16 = 0;
@@ -15,11 +18,6 @@ const DISK: u8 = 1;
 /// More than any number of a statement here.
 const NUMBERS: u16 = 20;
 
-/// The bank up to its turns, the first of whose statements has the number 5.
-const BANK: &[u8] =
-    b"INT total, got, rcv, disk; INT buf[0:0]; INT out[0:2]; PROC bank MAIN; BEGIN CALL CHECKMONITOR;
-CALL OPEN(\"$RECEIVE\", rcv, 1); CALL OPEN(\"$DISC\", disk, 1); WHILE 1 DO BEGIN ";
-
 /// A program, a reason, and a path that breaks for it where no shorter one does; or none where none of up to 18 numbers
 /// does.
 struct Sample {
@@ -28,85 +26,62 @@ struct Sample {
     least: Option<&'static [u16]>,
 }
 
-const NO_TOTAL: &[u8] =
-    b"CALL READUPDATE(rcv, buf, 1, got); total := total + buf[0]; CALL CHECKPOINT(buf, out, got, disk);
-out[0] := 2; out[1] := 0; out[2] := total; CALL WRITEREAD(disk, out, 3, 1, got); buf[0] := total; CALL REPLY(buf, 1)";
-
-const NO_OUT: &[u8] =
-    b"CALL READUPDATE(rcv, buf, 1, got); total := total + buf[0]; CALL CHECKPOINT(buf, got, total, disk);
-out[0] := 2; out[1] := 0; out[2] := total; CALL WRITEREAD(disk, out, 3, 1, got); buf[0] := total; CALL REPLY(buf, 1)";
-
-const NO_DISK: &[u8] =
-    b"CALL READUPDATE(rcv, buf, 1, got); total := total + buf[0]; CALL CHECKPOINT(buf, out, got, total);
-out[0] := 2; out[1] := 0; out[2] := total; CALL WRITEREAD(disk, out, 3, 1, got); buf[0] := total; CALL REPLY(buf, 1)";
-
-const WHOLE: &[u8] =
-    b"CALL READUPDATE(rcv, buf, 1, got); total := total + buf[0]; CALL CHECKPOINT(buf, out, got, total, disk);
-out[0] := 2; out[1] := 0; out[2] := total; CALL WRITEREAD(disk, out, 3, 1, got); buf[0] := total; CALL REPLY(buf, 1)";
-
-const LATE: &[u8] = b"CALL READUPDATE(rcv, buf, 1, got); total := total + buf[0];
-out[0] := 2; out[1] := 0; out[2] := total; CALL WRITEREAD(disk, out, 3, 1, got); CALL CHECKPOINT(buf, out, got, total, disk)";
-
-const AROUND: &[u8] = b"CALL READUPDATE(rcv, buf, 1, got); total := total + buf[0];
-WHILE total < 9 DO CALL CHECKPOINT(buf, out, got, total, disk);
-out[0] := 2; out[1] := 0; out[2] := total; CALL WRITEREAD(disk, out, 3, 1, got)";
-
 /// The path to the CHECKPOINT of the second turn.
 const SECOND_TURN: &[u16] = &[1, 2, 3, 4, 5, 6, 7, 8, 9, 10, 11, 12, 13, 4, 5, 6, 7];
 
 const BANKS: [Sample; 11] = [
     Sample {
-        turn: NO_TOTAL,
+        turn: TURN_WITHOUT_TOTAL,
         reason: Reason::Data(TOTAL),
         least: Some(&[1, 2, 3, 4, 5, 6, 7]),
     },
     Sample {
-        turn: NO_OUT,
+        turn: TURN_WITHOUT_OUT,
         reason: Reason::Data(OUT),
         least: Some(SECOND_TURN),
     },
     Sample {
-        turn: NO_OUT,
+        turn: TURN_WITHOUT_OUT,
         reason: Reason::Data(TOTAL),
         least: None,
     },
     Sample {
-        turn: NO_DISK,
+        turn: TURN_WITHOUT_DISK,
         reason: Reason::SyncBlock(DISK),
         least: Some(SECOND_TURN),
     },
     Sample {
-        turn: WHOLE,
+        turn: WHOLE_TURN,
         reason: Reason::Data(TOTAL),
         least: None,
     },
     Sample {
-        turn: WHOLE,
+        turn: WHOLE_TURN,
         reason: Reason::Data(OUT),
         least: None,
     },
     Sample {
-        turn: WHOLE,
+        turn: WHOLE_TURN,
         reason: Reason::SyncBlock(DISK),
         least: None,
     },
     Sample {
-        turn: WHOLE,
+        turn: WHOLE_TURN,
         reason: Reason::Input,
         least: None,
     },
     Sample {
-        turn: WHOLE,
+        turn: WHOLE_TURN,
         reason: Reason::Depth(DISK),
         least: None,
     },
     Sample {
-        turn: LATE,
+        turn: LATE_TURN,
         reason: Reason::Input,
         least: Some(&[1, 2, 3, 4, 5, 6, 7, 8, 9, 10]),
     },
     Sample {
-        turn: AROUND,
+        turn: TURN_AROUND,
         reason: Reason::Input,
         least: Some(&[1, 2, 3, 4, 5, 6, 7, 9, 10, 11, 12]),
     },
@@ -145,30 +120,21 @@ fn least(alloc: Global, program: &Program, reason: Reason) -> Result<Option<Vec<
 
 fn is_least(
     alloc: Global,
-    text: &[u8],
+    program: &Program,
     reason: Reason,
     wanted: Option<&[u16]>,
 ) -> Result<bool, Fail> {
-    let program = program_of(alloc, text)?;
-    let found = least(alloc, &program, reason)?;
+    let found = least(alloc, program, reason)?;
     Ok(found.as_ref().map(|path| path.as_slice()) == wanted)
-}
-
-/// The bank with these turns.
-fn bank(alloc: Global, turn: &[u8]) -> Result<Vec<u8>, Fail> {
-    let mut text = Vec::from_slice(alloc, BANK)?;
-    text.extend_from_slice(turn)?;
-    text.extend_from_slice(b" END END;")?;
-    Ok(text)
 }
 
 #[test]
 fn banks_break_where_they_should(rt: HostRuntime) -> Result<(), Fail> {
     let alloc = rt.alloc();
     for sample in &BANKS {
-        let text = bank(alloc, sample.turn)?;
+        let program = bank_with(alloc, sample.turn)?;
         assert!(rt;
-            is_least(alloc, text.as_slice(), sample.reason, sample.least)?,
+            is_least(alloc, &program, sample.reason, sample.least)?,
             "{:?}",
             sample.turn
         );
@@ -183,8 +149,9 @@ fn the_third_of_two_kept_asks_breaks(rt: HostRuntime) -> Result<(), Fail> {
 out[0] := 1; WHILE 1 DO CALL WRITEREAD(disk, out, 1, 1, got) END;"
             .as_slice();
     let path = [1, 2, 3, 4, 5, 4, 5, 4, 5];
-    assert!(rt; is_least(rt.alloc(), asker, Reason::Depth(0), Some(&path))?);
-    assert!(rt; is_least(rt.alloc(), asker, Reason::Input, None)?);
+    let program = program_of(rt.alloc(), asker)?;
+    assert!(rt; is_least(rt.alloc(), &program, Reason::Depth(0), Some(&path))?);
+    assert!(rt; is_least(rt.alloc(), &program, Reason::Input, None)?);
     Ok(())
 }
 
@@ -209,8 +176,9 @@ fn a_target_is_due_when_its_function_is_left(rt: HostRuntime) -> Result<(), Fail
         ),
     ];
     for (text, path) in wanted {
+        let program = program_of(rt.alloc(), text)?;
         assert!(rt;
-            is_least(rt.alloc(), text, Reason::Data(0), path)?,
+            is_least(rt.alloc(), &program, Reason::Data(0), path)?,
             "{text:?}"
         );
     }

@@ -2,12 +2,10 @@ use discipline::{breaks, check, is_path};
 use path_semantics::{Reason, RefusalFault};
 use std::alloc::Global;
 use std::test::Fail;
-use worked_programs::program_of;
-
-/// The bank up to its turns, the first of whose statements has the number 5.
-const BANK: &[u8] =
-    b"INT total, got, rcv, disk; INT buf[0:0]; INT out[0:2]; PROC bank MAIN; BEGIN CALL CHECKMONITOR;
-CALL OPEN(\"$RECEIVE\", rcv, 1); CALL OPEN(\"$DISC\", disk, 1); WHILE 1 DO BEGIN ";
+use worked_programs::turns::{
+    LATE_TURN, TURN_AROUND, TURN_WITHOUT_DISK, TURN_WITHOUT_OUT, TURN_WITHOUT_TOTAL, WHOLE_TURN,
+};
+use worked_programs::{bank_with, program_of};
 
 /// A turn, and for which reason and by which path it breaks, if it does.
 struct Sample {
@@ -20,34 +18,27 @@ const SECOND_TURN: &[u16] = &[1, 2, 3, 4, 5, 6, 7, 8, 9, 10, 11, 12, 13, 4, 5, 6
 
 const BANKS: [Sample; 7] = [
     Sample {
-        turn: b"CALL READUPDATE(rcv, buf, 1, got); total := total + buf[0]; CALL CHECKPOINT(buf, out, got, disk);
-out[0] := 2; out[1] := 0; out[2] := total; CALL WRITEREAD(disk, out, 3, 1, got); buf[0] := total; CALL REPLY(buf, 1)",
+        turn: TURN_WITHOUT_TOTAL,
         broken: Some((Reason::Data(0), &[1, 2, 3, 4, 5, 6, 7])),
     },
     Sample {
-        turn: b"CALL READUPDATE(rcv, buf, 1, got); total := total + buf[0]; CALL CHECKPOINT(buf, got, total, disk);
-out[0] := 2; out[1] := 0; out[2] := total; CALL WRITEREAD(disk, out, 3, 1, got); buf[0] := total; CALL REPLY(buf, 1)",
+        turn: TURN_WITHOUT_OUT,
         broken: Some((Reason::Data(5), SECOND_TURN)),
     },
     Sample {
-        turn: b"CALL READUPDATE(rcv, buf, 1, got); total := total + buf[0]; CALL CHECKPOINT(buf, out, got, total);
-out[0] := 2; out[1] := 0; out[2] := total; CALL WRITEREAD(disk, out, 3, 1, got); buf[0] := total; CALL REPLY(buf, 1)",
+        turn: TURN_WITHOUT_DISK,
         broken: Some((Reason::SyncBlock(1), SECOND_TURN)),
     },
     Sample {
-        turn: b"CALL READUPDATE(rcv, buf, 1, got); total := total + buf[0]; CALL CHECKPOINT(buf, out, got, total, disk);
-out[0] := 2; out[1] := 0; out[2] := total; CALL WRITEREAD(disk, out, 3, 1, got); buf[0] := total; CALL REPLY(buf, 1)",
+        turn: WHOLE_TURN,
         broken: None,
     },
     Sample {
-        turn: b"CALL READUPDATE(rcv, buf, 1, got); total := total + buf[0];
-out[0] := 2; out[1] := 0; out[2] := total; CALL WRITEREAD(disk, out, 3, 1, got); CALL CHECKPOINT(buf, out, got, total, disk)",
+        turn: LATE_TURN,
         broken: Some((Reason::Input, &[1, 2, 3, 4, 5, 6, 7, 8, 9, 10])),
     },
     Sample {
-        turn: b"CALL READUPDATE(rcv, buf, 1, got); total := total + buf[0];
-WHILE total < 9 DO CALL CHECKPOINT(buf, out, got, total, disk);
-out[0] := 2; out[1] := 0; out[2] := total; CALL WRITEREAD(disk, out, 3, 1, got)",
+        turn: TURN_AROUND,
         broken: Some((Reason::Input, &[1, 2, 3, 4, 5, 6, 7, 9, 10, 11, 12])),
     },
     Sample {
@@ -61,10 +52,7 @@ CALL WRITEREAD(disk, out, 3, 1, got); CALL WRITEREAD(disk, out, 3, 1, got); buf[
 fn banks_are_judged(rt: HostRuntime) -> Result<(), Fail> {
     let alloc = rt.alloc();
     for sample in &BANKS {
-        let mut text = Vec::from_slice(alloc, BANK)?;
-        text.extend_from_slice(sample.turn)?;
-        text.extend_from_slice(b" END; END;")?;
-        let program = program_of(alloc, text.as_slice())?;
+        let program = bank_with(alloc, sample.turn)?;
         match check(alloc, &program) {
             Ok(()) => assert!(rt; sample.broken.is_none(), "accepted"),
             Err(RefusalFault::Broken { reason, path }) => match sample.broken {
@@ -84,10 +72,7 @@ fn banks_are_judged(rt: HostRuntime) -> Result<(), Fail> {
 fn paths_are_judged(rt: HostRuntime) -> Result<(), Fail> {
     let alloc = rt.alloc();
     for sample in &BANKS {
-        let mut text = Vec::from_slice(alloc, BANK)?;
-        text.extend_from_slice(sample.turn)?;
-        text.extend_from_slice(b" END; END;")?;
-        let program = program_of(alloc, text.as_slice())?;
+        let program = bank_with(alloc, sample.turn)?;
         assert!(rt; is_path(&program, &[]));
         assert!(rt; is_path(&program, &[1, 2, 3, 4]));
         assert!(rt; is_path(&program, &[1, 2, 3, 4, 5, 6]));
