@@ -16,7 +16,7 @@ use Rattle.tal_tree.specs.declared.fault.TalFault.TheVariants as tal
 abbrev pub has_sign : ℕ → List ℕ → Bool
 has_sign sign text = list_any (λ c. c == sign) text
 
--- the word of a line behind which stands the name of a process or a terminal
+-- whether it is a word of a line behind which stands the name of a process or a terminal
 abbrev pub comes_before_name : List ℕ → Bool
 comes_before_name word =
     bytes_eq word (codes "disc") || bytes_eq word (codes "pair") || bytes_eq word (codes "terminal")
@@ -80,7 +80,7 @@ is_keyword_from_or word =
     || bytes_eq word (codes "UNTIL")
     || bytes_eq word (codes "WHILE")
 
--- the keywords of TAL
+-- whether it is a keyword of TAL
 abbrev pub is_keyword : List ℕ → Bool
 is_keyword word = is_keyword_up_to_else word || is_keyword_up_to_not word || is_keyword_from_or word
 
@@ -88,7 +88,7 @@ abbrev pub are_keyword : Option (List ℕ) → Bool
 are_keyword None = false
 are_keyword (Some word) = is_keyword word
 
--- the keywords behind which a name stands
+-- whether it is a keyword behind which a name stands
 abbrev pub declares : List ℕ → Bool
 declares word =
     bytes_eq word (codes "INT") || bytes_eq word (codes "PROC") || bytes_eq word (codes "LITERAL")

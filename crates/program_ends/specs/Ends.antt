@@ -161,7 +161,7 @@ end_of_program program words in_hand everything =
     at_entry (memory_in program words everything) (target_in program words (globals_in program everything)) in_hand
     (coming_in program words)
 
--- a trap, and no end that the program asks for
+-- whether it is a trap, and no end that the program asks for
 abbrev pub is_trap : LastStep → Bool
 is_trap MainEnded = false
 is_trap (Stopped line) = false

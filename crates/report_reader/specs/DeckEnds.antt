@@ -13,7 +13,7 @@ is_word_of_end (Some word) = bytes_eq word (codes "END")
 abbrev pub is_end_line : List ℕ → Bool
 is_end_line line = is_word_of_end (one_word (words_of line))
 
--- outside a program
+-- whether a line ends the deck: it is `END`, outside a program
 abbrev pub is_end : Bool → List ℕ → Bool
 is_end inside line = if inside then false else is_end_line line
 

@@ -14,7 +14,7 @@ begins_with_zero (c ∷ cs) = c == 48
 abbrev pub is_plain : List ℕ → Bool
 is_plain digits = not (begins_with_zero digits) || (length digits == 1)
 
--- one to ten decimal digits, no zero before others
+-- whether it is one to ten decimal digits, no zero before others
 abbrev pub is_numeral : List ℕ → Bool
 is_numeral text = nat_le 1 (length text) && nat_le (length text) 10 && list_all is_ascii_digit text && is_plain text
 
@@ -28,7 +28,7 @@ abbrev pub is_plain_word : List ℕ → Bool
 is_plain_word [] = true
 is_plain_word (c ∷ cs) = if c == 45 then not (begins_with_zero cs) else is_plain (c ∷ cs)
 
--- a word, from -32,768 to 32,767
+-- whether it is a word, from -32,768 to 32,767
 abbrev pub is_word : List ℕ → Bool
 is_word text = is_plain_word text && is_some (word_of text)
 

@@ -77,7 +77,7 @@ abbrev pub is_write_of : Site → Option (List ℕ × ℕ × ℕ) → Bool
 is_write_of site None = false
 is_write_of site (Some parts) = has_sector site (process_named site parts.0) parts.1 && (parts.2 == 8)
 
--- `DISC sector: words`, eight words
+-- whether it is `DISC sector: words`, with eight words
 abbrev pub is_write_text : Site → List ℕ → Bool
 is_write_text site text = is_write_of site (parts_told text)
 
@@ -90,11 +90,11 @@ abbrev pub passes : (List ℕ → Bool) → Option (List ℕ) → Bool
 passes test None = false
 passes test (Some text) = test text
 
--- `R TERMINAL number: words`, at most 16 words
+-- whether it is `R TERMINAL number: words`, with at most 16 words
 abbrev pub is_reply : Site → List ℕ → Bool
 is_reply site line = passes (λ text. is_reply_of site (parts_told text)) (rest_after (codes "R ") line)
 
--- a write, `W DISC sector: words`, or else a reply
+-- whether it is a write, `W DISC sector: words`, or else a reply
 abbrev pub shown_by : Site → List ℕ → Option (List ℕ) → Bool
 shown_by site line None = is_reply site line
 shown_by site line (Some text) = is_write_text site text
@@ -102,7 +102,7 @@ shown_by site line (Some text) = is_write_text site text
 abbrev pub is_shown : Site → List ℕ → Bool
 is_shown site line = shown_by site line (rest_after (codes "W ") line)
 
--- `D DISC sector: words`
+-- whether it is `D DISC sector: words`
 abbrev pub is_sector : Site → List ℕ → Bool
 is_sector site line = passes (is_write_text site) (rest_after (codes "D ") line)
 

@@ -104,13 +104,13 @@ abbrev pub is_end : Piece → Bool
 is_end (piece.Keyword word.End) = true
 is_end _ = false
 
--- a bracket that begins a list or an index after a name
+-- whether it is a bracket that begins a list or an index after a name
 abbrev pub begins_list : Piece → Bool
 begins_list (piece.Symbol sign.Open) = true
 begins_list (piece.Symbol sign.OpenIndex) = true
 begins_list _ = false
 
--- what stands right after the piece before it
+-- whether it stands right after the piece before it
 abbrev pub hangs : Piece → Bool
 hangs (piece.Symbol sign.Close) = true
 hangs (piece.Symbol sign.CloseIndex) = true
