@@ -221,7 +221,7 @@ fn goes_by(packet: PacketSight, way: &Way) -> bool
     packet.sender == way.sender && packet.receiver == way.receiver && goes_with(packet.sort, way)
 }
 
-/// A piece goes with the message that ends with it or behind it.
+/// Whether a packet of this sort goes with a message: a piece does with the one that ends with it or behind it.
 fn goes_with(sort: PacketSort, way: &Way) -> bool
     ensures { result ≡ goes_with sort way.now }
 {

@@ -83,7 +83,7 @@ pub fn send<B: Behaviour>(
     Ok(Some(message))
 }
 
-/// Learns that what it sent last was taken: it needn't send everything any more.
+/// Learns that what it sent last was taken: it needn't send everything any more. Answers whether it could and did.
 pub fn learn<B: Behaviour>(copy: &mut CopyControl<B>) -> bool {
     let taken = TakenMessage {
         process: 1,
@@ -97,7 +97,7 @@ pub fn learn<B: Behaviour>(copy: &mut CopyControl<B>) -> bool {
     copy.acknowledged() && !copy.renewal()
 }
 
-/// Goes on after its checkpoint.
+/// Goes on after its checkpoint. Answers whether it could and did.
 pub fn pass<B: Behaviour>(copy: &mut CopyControl<B>) -> bool {
     match settled(copy) {
         Point::AtCheckpoint => {
@@ -115,7 +115,8 @@ fn has_room<B: Behaviour>(copy: &CopyControl<B>) -> bool
     copy.next().iter().all(|number| *number < u32::MAX)
 }
 
-/// Asks on its file 1 under this number, and gets its own word back, which is this one.
+/// Asks on its file 1 under this number, and gets its own word back, which is this one. Answers whether it could and
+/// did.
 pub fn ask<B: Behaviour>(copy: &mut CopyControl<B>, number: u32, word: i16) -> bool {
     match settled(copy) {
         Point::Ask if has_room(copy) => {
@@ -129,7 +130,7 @@ pub fn ask<B: Behaviour>(copy: &mut CopyControl<B>, number: u32, word: i16) -> b
     }
 }
 
-/// Gets the reply that it awaits.
+/// Gets the reply that it awaits. Answers whether it could and did.
 fn get<B: Behaviour>(copy: &mut CopyControl<B>, words: &Words) -> bool {
     match copy.point() {
         Point::Await => {
@@ -140,7 +141,7 @@ fn get<B: Behaviour>(copy: &mut CopyControl<B>, words: &Words) -> bool {
     }
 }
 
-/// Answers the request of this opener and number with this word.
+/// Answers the request of this opener and number with this word. Answers whether it could and did.
 pub fn answer<B: Behaviour>(
     copy: &mut CopyControl<B>,
     opener: u16,
@@ -175,7 +176,7 @@ pub fn repeat<B: Behaviour>(
     }
 }
 
-/// Takes over, into this era.
+/// Takes over, into this era. Answers whether it could and did.
 pub fn take_over<B: Behaviour>(copy: &mut CopyControl<B>, era: u32) -> bool {
     match copy.role() {
         Role::Watching if copy.era() < u32::MAX => {
@@ -186,7 +187,7 @@ pub fn take_over<B: Behaviour>(copy: &mut CopyControl<B>, era: u32) -> bool {
     }
 }
 
-/// Is to send everything, in this era.
+/// Is to send everything, in this era. Answers whether it could and did.
 pub fn renew<B: Behaviour>(copy: &mut CopyControl<B>, era: u32) -> bool {
     if copy.era() == u32::MAX {
         return false;
@@ -199,14 +200,14 @@ pub fn renew<B: Behaviour>(copy: &mut CopyControl<B>, era: u32) -> bool {
         && !copy.acknowledged()
 }
 
-/// What it has sent comes to its end.
+/// What it has sent comes to its end. Answers whether it could and did.
 pub fn end<B: Behaviour>(copy: &mut CopyControl<B>) -> bool {
     let number = copy.number();
     copy.end();
     !copy.sent() && !copy.acknowledged() && copy.number() == number
 }
 
-/// Needn't send everything any more.
+/// Needn't send everything any more. Answers whether it could and did.
 pub fn end_renewal<B: Behaviour>(copy: &mut CopyControl<B>) -> bool {
     let was_due = copy.renewal();
     copy.end_renewal();

@@ -40,8 +40,8 @@ impl<'a> Replay<'a> {
         })
     }
 
-    /// Makes an act if it is possible and shows nothing, or what the run showed next. The numbers of the writes of
-    /// discs have 32 bits.
+    /// Makes an act if it is possible and shows nothing, or what the run showed next, and answers whether it did. The
+    /// numbers of the writes of discs have 32 bits.
     pub(crate) fn go(&mut self, shown: &[Shown], act: Act) -> bool
         requires { self.old.made < 4294967295 }
         ensures { GoesIfItCan shown.now act self.old self.new result }

@@ -67,7 +67,7 @@ fn first(shown: &[Shown], acts: &[Act], replay: &mut Replay<'_>) -> Option<usize
     None
 }
 
-/// Makes an act if none of those before it is of its process or terminal, and it can go.
+/// Makes an act if none of those before it is of its process or terminal, and it can go. Answers whether it did.
 fn goes(shown: &[Shown], before: &[Act], act: Act, replay: &mut Replay<'_>) -> bool
     requires { replay.old.made < 4294967295 }
     ensures { GoesInTurn shown.now before.now act replay.old replay.new result }
