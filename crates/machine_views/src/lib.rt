@@ -1,5 +1,5 @@
-//! What a machine of copies tells of itself: `View`, plain data, and `view`, which takes it from the machine over whole
-//! messages.
+//! What a machine of copies tells of itself: `View`, plain data, and `view`, which takes it from the machine over
+//! packets.
 //!
 //! Below stand `site_machine`, `process_copies` and `node_copies`, which lend their parts, `checkpoint_image` and
 //! `process_images` with the image of everything, and `world_semantics` with the world of copies. The layer above uses

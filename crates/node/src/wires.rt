@@ -127,6 +127,13 @@ impl PacketWires {
         node.end(to)
     }
 
+    /// A node, by its number.
+    pub fn node(&self, node: u8) -> Option<&Node>
+        ensures { option_copied result ≡ slice_get self.now.nodes node }
+    {
+        self.nodes.get(usize::from(node))
+    }
+
     /// What a node knows of the processors.
     pub fn watch_at(&self, node: u8) -> Option<Watch>
         ensures { result ≡ option_map (λ node. node.watch) (slice_get self.now.nodes node) }

@@ -1,7 +1,7 @@
 ghost use Rattle.std.specs.Prelude.{◌≡◌, ℕ, true, false, Some, None};
 ghost use Rattle.alive_regroup.specs.Watching.{Watching, after_tick, changed_at, misses_none, new_watch, told_by_tick};
 ghost use Rattle.alive_regroup.specs.Watching.{after_up, is_held, is_marked, neighbour_after_alive};
-ghost use Rattle.alive_regroup.specs.Watching.{neighbour_after_down};
+ghost use Rattle.alive_regroup.specs.Watching.{neighbour_after_down, neighbour_after_report};
 ghost use Rattle.node_guards.specs.Watches.{after_ticks, heard_and_marked, only, watch_of_report};
 
 /// A processor of which nothing is heard is silent at the second check that misses it, the fourth tick, and the silent
@@ -41,6 +41,11 @@ pub fn a_line_is_pulled_by_the_lowest()
     ensures not_yet_silent { is_held 2 (watch_of_report 1 (only false false true) 2 0) ≡ false }
     ensures neighbour_after_down { is_held 2
         (changed_at 2 neighbour_after_down (watch_of_report 1 (only false false true) 4 0)) ≡ false }
+    ensures one_of_two { is_held 2
+        (changed_at 1 (neighbour_after_report (only false false true)) (after_ticks 4 (new_watch 0 4))) ≡ false }
+    ensures both { is_held 2 (changed_at 3 (neighbour_after_report (only false false true))
+        (changed_at 1 (neighbour_after_report (only false false true)) (after_ticks 4 (new_watch 0 4)))) ≡ true }
+    ensures lower_is_marked { is_held 2 (changed_at 0 neighbour_after_down (after_ticks 4 (new_watch 1 3))) ≡ true }
 {}
 
 /// The node of the terminals checks never, and pulls no line.

@@ -27,7 +27,7 @@ use crate::whole::MachineParts;
 use alive_regroup::Watch;
 use gd_words::NoMemory;
 use logs::Shared;
-use node::{Channel, Effect};
+use node::{Channel, Effect, Node};
 use open_links::{Disc, Downs, DriveState, NodeLinks, ProcessCopies, Terminal, links_of};
 use packet_words::{BusName, Packet, PacketKind};
 use schedule::Event;
@@ -130,6 +130,13 @@ impl Machine {
     {
         let packet = self.whole.wires.packet_at(bus, k as usize)?;
         Some(&packet.kind)
+    }
+
+    /// A node, by its number: its ends of channels, and what it knows of the processors.
+    pub fn node(&self, node: u8) -> Option<&Node>
+        ensures { option_copied result ≡ slice_get self.now.state.wires.nodes node }
+    {
+        self.whole.wires.node(node)
     }
 
     /// The end that a node has of its channel with another.
