@@ -106,7 +106,7 @@ module _ (site : Site) (regular : AreRegular site) (kept : List Act) (shown : Li
         base = base;
         takens = taken_of message ∷ pair.takens;
       })
-  now-watches pair message applied since before base position held split again is done unsent era next same checkpoints
+  now-watches pair message applied since before base position held split again is done unsent era next same all_sent
       takens = record {
         since = since;
         before = before;
@@ -117,7 +117,7 @@ module _ (site : Site) (regular : AreRegular site) (kept : List Act) (shown : Li
         role = refl;
         unsent = unsent;
         era = era;
-        checkpoints = checkpoints;
+        checkpoints = all_sent;
         takens = taken-most pair.takens refl (omega (arith, next)) takens;
       }
 
