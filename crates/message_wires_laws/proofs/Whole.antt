@@ -95,10 +95,10 @@ module _ (site : Site) (number : ℕ) (pair : Pair) (records : Records) where
   if-paired step stays false = tt
 
   module _ (downs : List Down) (k : Which) where
-    checkpoint-paired : (free sent : Bool) → StaysPaired pair (step_at_checkpoint number k pair records free sent)
-    checkpoint-paired true sent = with-role k (copy_passed number records (copy_of k pair)) pair pair refl refl refl
-    checkpoint-paired false true = tt
-    checkpoint-paired false false = sending-paired k
+    at-checkpoint-paired : (free sent : Bool) → StaysPaired pair (step_at_checkpoint number k pair records free sent)
+    at-checkpoint-paired true sent = with-role k (copy_passed number records (copy_of k pair)) pair pair refl refl refl
+    at-checkpoint-paired false true = tt
+    at-checkpoint-paired false false = sending-paired k
 
     renewing-paired : (stands : Point) → StaysPaired pair (renewing_step number k pair downs records stands)
     renewing-paired stands = by stands
@@ -127,7 +127,7 @@ module _ (site : Site) (number : ℕ) (pair : Pair) (records : Records) where
     free-paired stands false false = own-paired k (own_of site number k pair records stands)
 
     point-paired : (stands : Point) → StaysPaired pair (step_at site number k pair downs records stands)
-    point-paired point.AtCheckpoint = checkpoint-paired (may_pass downs k pair) (copy_of k pair).sent
+    point-paired point.AtCheckpoint = at-checkpoint-paired (may_pass downs k pair) (copy_of k pair).sent
     point-paired point.Inner = free-paired point.Inner _ _
     point-paired point.Take = free-paired point.Take _ _
     point-paired point.Ask = free-paired point.Ask _ _
