@@ -12,6 +12,9 @@ pub const MOST_PROCESSORS: u8 = 16;
 /// The number of the node that carries the terminals: it comes after those of the processors.
 pub const TERMINAL_NODE: u8 = 16;
 
+/// A site has at most this many nodes: its processors, and the node that carries the terminals.
+pub const MOST_NODES: u8 = 17;
+
 /// A processor can be loaded again this often.
 pub const MOST_RELOADS: u8 = 127;
 
@@ -26,6 +29,12 @@ pub const MOST_REQUESTS: usize = 1_000;
 
 /// A disc has at most this many sectors.
 pub const MOST_SECTORS: u32 = 64;
+
+/// A sector has this many words.
+pub const SECTOR_WORDS: usize = 8;
+
+/// A request, a reply, an input and an output have at most this many words.
+pub const MOST_MESSAGE_WORDS: usize = 16;
 
 /// The lines of a schedule ask for at most this many single events together.
 pub const MOST_SINGLES: u64 = 1_000_000;
