@@ -1,6 +1,5 @@
 -- A run of an accepted site, by how it ended.
-use Rattle.std.proofs.Common.{◌≡◌, ◌<◌, ℕ, true, List, length, Option, reverse, refl, sym, ap}
-use Rattle.std.proofs.Common.{◌∙◌, subst}
+use Rattle.std.proofs.Common.{◌≡◌, ◌<◌, ℕ, true, List, length, Option, reverse, refl, sym, subst}
 use Rattle.std.specs.Option.{IsSome}
 use Rattle.tal_tree.specs.declared.act.Act.{Act}
 use Rattle.tal_tree.specs.declared.site.Site.{Site}
@@ -8,7 +7,8 @@ use Rattle.schedule.specs.declared.event.Event.{Event}
 use Rattle.schedule.specs.declared.line.Line.{Line}
 use Rattle.player.specs.declared.stop.ProcessorStop.{ProcessorStop}
 use Rattle.plain_semantics.specs.Machine.{IsNoneLeft, IsPossible, shown_by}
-use Rattle.packet_lengths.specs.world_semantics.specs.Kept.{acts_of, closed}
+use Rattle.packet_lengths.specs.world_semantics.specs.Kept.{acts_of}
+use Rattle.packet_lengths.specs.world_semantics.specs.Shares.{closed}
 use Rattle.packet_lengths.specs.world_semantics.specs.World.{World}
 use Rattle.agendas.specs.Agendas.{Agenda}
 use Rattle.packet_lengths.specs.packet_wires.specs.Idle.{is_idle}
@@ -43,7 +43,6 @@ pub record Known (site : Site) : Type 0 where
   pub closed_shown : (events : List Event) (s : Packeted) → length events < 4294967295 → IsPlayed site events s
       → is_idle s ≡ true
       → shown_by site (closed s.world) ≡ reverse s.world.shown
-  pub closed_acts : (w : World) → acts_of (closed_world w) ≡ closed w
   pub schedule : (lines : List Line) (stop : Option ProcessorStop) (events : List Event) (agenda : Agenda)
       (s : Packeted) → Plays packet_rules (course_on site lines stop) events agenda s
       → IsPlayed site events s
@@ -60,11 +59,10 @@ module _ (site : Site) (known : Known site) (lines : List Line) (stop : Option P
 
   keeps-closed : (s : Packeted) → IsPlayed site events s → is_idle s ≡ true → Keeps site (closed_world s.world) Idle
   keeps-closed s played idle =
-      let none : IsNoneLeft site (acts_of (closed_world s.world)) =
-      subst (IsNoneLeft site) (sym (known.closed_acts s.world)) (known.none events s few played idle) in
+      let none : IsNoneLeft site (closed s.world) = known.none events s few played idle in
       record {
-        possible = none-possible site (acts_of (closed_world s.world)) none;
-        shown = sym (ap (shown_by site) (known.closed_acts s.world) ∙ known.closed_shown events s few played idle);
+        possible = none-possible site (closed s.world) none;
+        shown = sym (known.closed_shown events s few played idle);
         none = λ same. none;
       }
 

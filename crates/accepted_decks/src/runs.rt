@@ -11,8 +11,8 @@ ghost use Rattle.packet_lengths.specs.packet_runs.specs.declared.ran.Ran.{Ran};
 ghost use Rattle.accepted_decks.specs.Left.{KeepsPossibleActs};
 
 use packet_lengths::{
-    a_closed_world_has_the_closed_run, an_idle_end_that_is_played_leaves_none,
-    events_of_a_schedule_are_played, what_is_played_is_possible,
+    an_idle_end_that_is_played_leaves_none, events_of_a_schedule_are_played,
+    what_is_played_is_possible,
 };
 
 /// Whatever its schedule, a run of an accepted site within the limits keeps possible acts, and none is left at an idle
@@ -24,6 +24,5 @@ pub fn a_run_of_an_accepted_site_keeps_possible_acts()
 {
     what_is_played_is_possible();
     an_idle_end_that_is_played_leaves_none();
-    a_closed_world_has_the_closed_run();
     events_of_a_schedule_are_played();
 }

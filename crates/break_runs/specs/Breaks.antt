@@ -11,7 +11,7 @@ use Rattle.schedule_runs.specs.declared.ran.Ending.TheVariants.{Idle, Cut, Secon
 use Rattle.schedule_runs.specs.declared.ran.Ran.{Ran}
 use Rattle.unfailing_judge.specs.Sound.{IsJudged}
 use Rattle.unfailing_judge.specs.declared.wrong.Wrong.{Wrong}
-use Rattle.world_semantics.specs.Kept.{closed}
+use Rattle.world_semantics.specs.Shares.{closed}
 use Rattle.break_runs.specs.declared.found.Break.{Break}
 use Rattle.break_runs.specs.declared.found.Search.{Search}
 use Rattle.break_runs.specs.declared.found.StopBreak.{StopBreak}

@@ -5,14 +5,10 @@ ghost use Rattle.schedule.specs.declared.line.Line.{Line};
 ghost use Rattle.player.specs.declared.stop.ProcessorStop.{ProcessorStop};
 ghost use Rattle.schedule_runs.specs.Ends.{IsRunOfPairs};
 ghost use Rattle.schedule_runs.specs.declared.ran.Ran.{Ran};
-ghost use Rattle.world_semantics.specs.Kept.{closed};
-
-use schedule_runs::a_closed_world_has_the_closed_run;
+ghost use Rattle.world_semantics.specs.Shares.{closed};
 
 /// A run does at most as many acts as events were played, and so fewer than there are numbers of 32 bits.
 pub fn a_run_does_few_acts()
     ensures { (site : Site) (lines : List Line) (stop : Option ProcessorStop) (ran : Ran)
         → IsRunOfPairs site lines stop ran → length (closed ran.machine.state.world) < 4294967295 }
-{
-    a_closed_world_has_the_closed_run();
-}
+{}

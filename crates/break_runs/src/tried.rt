@@ -3,7 +3,7 @@ ghost use Rattle.std.specs.Prelude.{◌≡◌, ◌<◌, IfOk, length};
 ghost use Rattle.unfailing_judge.specs.plain_machine.specs.Standing.{IsPlayable};
 ghost use Rattle.schedule_runs.specs.pair_machine.specs.process_copies.specs.Starting.{IsStartable};
 ghost use Rattle.schedule_runs.specs.Lengths.{AsksForFewEvents};
-ghost use Rattle.world_semantics.specs.Kept.{closed};
+ghost use Rattle.world_semantics.specs.Shares.{closed};
 ghost use Rattle.break_runs.specs.Breaks.{IsRunJudged, IsTriedAs, is_idle_end};
 
 use crate::laws::a_run_does_few_acts;
@@ -11,7 +11,7 @@ use gd_words::NoMemory;
 use logs::Shared;
 use player::ProcessorStop;
 use schedule::Line;
-use schedule_runs::{Ending, Ran, a_closed_world_has_the_closed_run, run};
+use schedule_runs::{Ending, Ran, run};
 use std::alloc::Global;
 use tal_tree::Site;
 use unfailing_judge::{Wrong, wrong_in};
@@ -39,7 +39,6 @@ pub(crate) fn wrong_of(alloc: Global, site: &Site, ran: Ran) -> Result<Option<Wr
     requires few { length (closed ran.machine.state.world) < 4294967295 }
     ensures { IfOk result (IsRunJudged site.now ran) }
 {
-    a_closed_world_has_the_closed_run();
     let idle = is_idle_end(ran.ending);
     let mut machine = ran.machine;
     machine.close()?;

@@ -6,7 +6,7 @@ use Rattle.tal_tree.specs.declared.site.Site.{Site}
 use Rattle.plain_semantics.specs.Machine.{Plain, made_all, plain_start}
 use Rattle.world_semantics.specs.declared.which.Which.{Which}
 use Rattle.world_semantics.specs.declared.which.Which.TheVariants.{First, Second}
-use Rattle.world_semantics.specs.Kept.{closed}
+use Rattle.world_semantics.specs.Shares.{closed}
 use Rattle.world_semantics.specs.World.{Pair, copy_of}
 use Rattle.process_histories.specs.Bounds.{AreBounded}
 use Rattle.plain_histories.specs.Agreeing.{Agrees}
@@ -72,7 +72,7 @@ module _ {site : Site} {events : ℕ} {post : Post} (end : IsEnd site events pos
 
           ran : made_all site (plain_start site) (closed post.world)
               ≡ Some (record { plain = run.plain; shown = reverse post.world.shown })
-          ran = subst (λ (acts : List Act). made_all site (plain_start site) acts
+          ran = subst (λ (acts : List Act). made_all site (plain_start site) (reverse acts)
               ≡ Some (record { plain = run.plain; shown = reverse post.world.shown })) all.order run.ran
 
           each : (number : ℕ) (pair : Pair) → slice_get post.world.processes number ≡ Some pair

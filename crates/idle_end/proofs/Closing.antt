@@ -1,9 +1,7 @@
 -- The held acts after the kept ones, process after process: they are possible, show nothing, and leave each process as
 -- its copy that acts is.
-use Rattle.std.proofs.Common.{◌≡◌, ℕ, zero, suc, ◌+◌, ◌<◌, List, [], ◌∷◌, ◌++◌, length, reverse, Some, slice_get, refl}
-use Rattle.std.proofs.Common.{ap, sym, ◌∙◌, subst, arith, append_assoc, append-nil, length-append}
-use Rattle.std.proofs.lemmas.List.{reverse-append}
-use Rattle.std.specs.List.{flat_map}
+use Rattle.std.proofs.Common.{◌≡◌, ℕ, zero, suc, ◌+◌, ◌<◌, List, [], ◌∷◌, ◌++◌, length, Some, slice_get, refl, ap}
+use Rattle.std.proofs.Common.{◌∙◌, subst, arith, length-append}
 use Rattle.tal_tree.specs.declared.act.Act.{Act}
 use Rattle.tal_tree.specs.declared.act.Shown.{Shown}
 use Rattle.tal_tree.specs.declared.site.Site.{Site}
@@ -11,7 +9,7 @@ use Rattle.tal_tree.specs.declared.site.ProcessSpec.{ProcessSpec}
 use Rattle.world_semantics.specs.declared.which.Which.{Which}
 use Rattle.world_semantics.specs.declared.which.Which.TheVariants.{First, Second}
 use Rattle.world_semantics.specs.Core.{Deed}
-use Rattle.world_semantics.specs.Kept.{held_by}
+use Rattle.world_semantics.specs.Shares.{closed_by, closed_by_all}
 use Rattle.world_semantics.specs.World.{Copy, Pair, copy_of, other_of}
 use Rattle.world_semantics.proofs.Lists.{some-same}
 use Rattle.process_histories.specs.Devices.{sectors_after}
@@ -48,17 +46,17 @@ pub record AreClosed (site : Site) (kept : List Act) (shown : List Shown) (ledge
   pub acts : List Act
   pub closed : Ledger
   pub booked : AreBooked site acts shown closed
-  pub order : reverse acts ≡ reverse kept ++ flat_map held_by pairs
+  pub order : acts ≡ closed_by_all kept pairs
   pub entered : closed.entered ≡ ledger.entered
   pub printed : closed.printed ≡ ledger.printed
   pub before : (number : ℕ) → number < from → closed.deeds number ≡ ledger.deeds number
   pub each : (place : ℕ) (pair : Pair) → slice_get pairs place ≡ Some pair
       → HasClosed site ledger closed (from + place) (copy_of (who pair) pair)
 
-held-order : (pair : Pair) (k : Which) → (copy_of (other_of k) pair).held ≡ []
-    → held_by pair ≡ reverse (copy_of k pair).held
-held-order pair First free = rw free (append-nil (reverse pair.first.held))
-held-order pair Second free = rw free refl
+held-order : (kept : List Act) (pair : Pair) (k : Which) → (copy_of (other_of k) pair).held ≡ []
+    → (copy_of k pair).held ++ kept ≡ closed_by kept pair
+held-order kept pair First free = rw free refl
+held-order kept pair Second free = rw free refl
 
 still-closes : {site : Site} {ledger more : Ledger} {number : ℕ} {pair : Pair} {k : Which}
     → IsLeft site ledger more number → CanClose site ledger number pair k
@@ -106,7 +104,7 @@ module _ (site : Site) (regular : AreRegular site) (shown : List Shown) (who : P
     acts = kept;
     closed = ledger;
     booked = booked;
-    order = sym (append-nil (reverse kept));
+    order = refl;
     entered = refl;
     printed = refl;
     before = λ number less. refl;
@@ -138,11 +136,7 @@ module _ (site : Site) (regular : AreRegular site) (shown : List Shown) (who : P
         acts = rest.acts;
         closed = rest.closed;
         booked = rest.booked;
-        order = rest.order
-            ∙ ap (λ acts. acts ++ flat_map held_by pairs)
-            (reverse-append (copy_of (who pair) pair).held kept
-            ∙ ap (λ acts. reverse kept ++ acts) (sym (held-order pair (who pair) first.free)))
-            ∙ append_assoc (reverse kept) (held_by pair) (flat_map held_by pairs);
+        order = rest.order ∙ ap (λ acts. closed_by_all acts pairs) (held-order kept pair (who pair) first.free);
         entered = rest.entered ∙ settled.entered;
         printed = rest.printed ∙ settled.printed;
         before = λ number less. rest.before number (omega (arith, less))

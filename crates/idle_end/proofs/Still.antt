@@ -21,7 +21,7 @@ use Rattle.disc_device.specs.Sectors.{Stored}
 use Rattle.world_semantics.specs.declared.role.Role.TheVariants.{Acting}
 use Rattle.world_semantics.specs.declared.which.Which.{Which}
 use Rattle.world_semantics.specs.Core.{Core, Deed, Took, Advances, goes, checkpoints, takes, asks, gets, answers, acts}
-use Rattle.world_semantics.specs.Kept.{closed}
+use Rattle.world_semantics.specs.Shares.{closed}
 use Rattle.world_semantics.specs.Rules.{by_enter}
 use Rattle.world_semantics.specs.World.{Pair, copy_of}
 use Rattle.world_semantics.proofs.Lists.{some-same}

@@ -3,7 +3,7 @@ ghost use Rattle.schedule.specs.declared.event.Event.{Event};
 ghost use Rattle.tal_tree.specs.declared.act.Act.TheVariants.{Take};
 ghost use Rattle.plain_semantics.specs.Machine.{IsPossible, IsNoneLeft, process_at_first};
 ghost use Rattle.process_histories.specs.Served.{disc, disc_site, after_one};
-ghost use Rattle.world_semantics.specs.Kept.{closed};
+ghost use Rattle.world_semantics.specs.Shares.{closed};
 ghost use Rattle.letters.specs.Idle.{IsIdle};
 ghost use Rattle.letters.specs.Posts.{Post, HasPlayed, post_at_boot};
 ghost use Rattle.awaited_requests.specs.Examples.{disc_pair};

@@ -1,7 +1,7 @@
 ghost use Rattle.std.specs.Prelude.{ℕ, [], ◌∷◌};
 ghost use Rattle.schedule.specs.declared.event.Event.TheVariants.{Enter, Fail, Tick};
 ghost use Rattle.plain_semantics.specs.Machine.{IsNoneLeft};
-ghost use Rattle.world_semantics.specs.Kept.{closed};
+ghost use Rattle.world_semantics.specs.Shares.{closed};
 ghost use Rattle.letters.specs.Idle.{IsIdle};
 ghost use Rattle.letters.specs.Posts.{Post, HasPlayed};
 ghost use Rattle.served_requests.specs.awaited_requests.specs.Examples.{site_with};

@@ -5,7 +5,7 @@ ghost use Rattle.schedule.specs.declared.event.Event.{Event};
 ghost use Rattle.process_semantics.specs.declared.point.Point.TheVariants.{Ended};
 ghost use Rattle.process_semantics.specs.Process.{point};
 ghost use Rattle.plain_semantics.specs.Machine.{Made, PlainProcess, made_all, plain_start, IsNoneLeft, shown_by};
-ghost use Rattle.world_semantics.specs.Kept.{closed};
+ghost use Rattle.world_semantics.specs.Shares.{closed};
 ghost use Rattle.world_semantics.specs.World.{Pair, copy_of};
 ghost use Rattle.world_semantics.specs.declared.role.Role.TheVariants.{Acting};
 ghost use Rattle.world_semantics.specs.declared.which.Which.{Which};

@@ -1,3 +1,2 @@
-mod Closings
 mod Coverings
 mod Tables

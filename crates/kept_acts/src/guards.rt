@@ -5,7 +5,8 @@ ghost use Rattle.tal_tree.specs.declared.act.Act.{Act};
 ghost use Rattle.tal_tree.specs.declared.act.Act.TheVariants.{Enter, Step, Take};
 ghost use Rattle.world_semantics.specs.Kept.{own_acts};
 ghost use Rattle.world_semantics.specs.Shares.{Share, covered_count, share_after_cover, share_after_act};
-ghost use Rattle.world_semantics.specs.Shares.{share_after_pass, share_from};
+ghost use Rattle.world_semantics.specs.Shares.{closed, share_after_pass, share_from};
+ghost use Rattle.world_semantics.specs.World.{Copy, Pair, World};
 
 /// What a copy does anew that holds nothing adds nothing, whatever act it is: the copy only comes one further.
 pub fn what_is_done_anew_adds_nothing()
@@ -65,4 +66,18 @@ pub fn a_checkpoint_of_what_is_done_anew_keeps_nothing()
         → share_after_cover number stands kept (share_from position)
         ≡ record { share = share_from position; kept = kept } }
     ensures base { covered_count 1 AtCheckpoint (Step 1 ∷ Step 1 ∷ Step 1 ∷ []) (share_from 1) ≡ 2 }
+{}
+
+/// What copies hold at the end is kept behind what was kept before: of each process in the order of the deck, and of
+/// its first copy before its second one.
+pub fn what_is_held_at_the_end_is_kept_in_order()
+    ensures { (w : World) (pair : Pair) (copy : Copy) → closed (record w {
+      kept = Step 2 ∷ Enter 0 ∷ [];
+      processes = record pair {
+        first = record copy { held = Step 0 ∷ Take 0 1 ∷ [] };
+        second = record copy { held = Take 0 2 ∷ [] };
+      }
+          ∷ record pair { first = record copy { held = [] }; second = record copy { held = Take 1 3 ∷ [] } } ∷ [];
+    })
+        ≡ Enter 0 ∷ Step 2 ∷ Take 0 1 ∷ Step 0 ∷ Take 0 2 ∷ Take 1 3 ∷ [] }
 {}

@@ -1,12 +1,12 @@
-ghost use Rattle.std.specs.Prelude.{◌≡◌, ℕ, ◌+◌, List, reverse};
+ghost use Rattle.std.specs.Prelude.{◌≡◌, ℕ, ◌+◌, List};
 ghost use Rattle.world_semantics.specs.process_semantics.specs.declared.point.Point.{Point};
 ghost use Rattle.tal_tree.specs.declared.act.Act.{Act};
 ghost use Rattle.world_semantics.specs.declared.role.Role.{Role};
 ghost use Rattle.world_semantics.specs.Core.{Core};
-ghost use Rattle.world_semantics.specs.World.{Copy, World, copy_at_boot};
-ghost use Rattle.world_semantics.specs.Kept.{closed, own_acts};
+ghost use Rattle.world_semantics.specs.World.{Copy, copy_at_boot};
+ghost use Rattle.world_semantics.specs.Kept.{own_acts};
 ghost use Rattle.world_semantics.specs.Rules.{taken_over};
-ghost use Rattle.world_semantics.specs.Shares.{Share, acts_at, closed_by_all, covered_count, share_after_cover};
+ghost use Rattle.world_semantics.specs.Shares.{Share, acts_at, covered_count, share_after_cover};
 ghost use Rattle.world_semantics.specs.Shares.{share_from, share_of, with_share};
 
 /// A copy of the world of copies has a share, which is its position and its held acts: at the beginning it has done
@@ -29,9 +29,4 @@ pub fn a_covered_copy_stands_before_its_checkpoint()
 /// A copy that took over goes on from the base, and holds nothing.
 pub fn a_copy_takes_over_from_the_base()
     ensures { (base : ℕ) (copy : Copy) → share_of (taken_over base copy) ≡ share_from base }
-{}
-
-/// Where all copies close in the order of the deck, the kept acts are those of the closed run.
-pub fn all_that_close_make_the_closed_run()
-    ensures { (w : World) → reverse (closed_by_all w.kept w.processes) ≡ closed w }
 {}

@@ -27,7 +27,6 @@ pub use address::Address;
 pub use downs::Downs;
 pub use file_calls::{Arrival, Waiting};
 pub use kept_acts::CopyShare;
-pub use kept_acts::laws::all_that_close_make_the_closed_run;
 pub use number_ranges::{ChangeMessage, Effect};
 pub use one::NodeCopy;
 pub use process_control::{Asking, CopyControl};

@@ -10,7 +10,6 @@ pub mod telling;
 
 pub use links::{NodeLinks, RequestName};
 pub use telling::links_of;
-pub use world_copies::laws::a_closed_world_has_the_closed_run;
 pub use world_copies::{
     CopyControl, CopyShare, Disc, Downs, DriveState, Message, NodeCopy, Process, ProcessCopies,
     Sending, StepOutcome, Terminal, Waiting, WorldCopies, copy_request,

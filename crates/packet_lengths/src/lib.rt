@@ -16,4 +16,4 @@ pub use laws::{
     a_schedule_asks_for_so_many_events, an_accepted_site_can_be_played,
 };
 pub use packet_numbers::{an_idle_end_that_is_played_leaves_none, what_is_played_is_possible};
-pub use packet_runs::{a_closed_world_has_the_closed_run, events_of_a_schedule_are_played};
+pub use packet_runs::events_of_a_schedule_are_played;

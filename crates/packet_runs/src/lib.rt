@@ -16,6 +16,4 @@ pub use laws::events_of_a_schedule_are_played;
 pub use packets::PlayedPackets;
 pub use ran::Ran;
 pub use running::{run, sizes_of};
-pub use site_machine::{
-    Machine, ProcessCopies, a_closed_world_has_the_closed_run, stopped_processors,
-};
+pub use site_machine::{Machine, ProcessCopies, stopped_processors};

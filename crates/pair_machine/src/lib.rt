@@ -18,4 +18,3 @@ mod turning;
 mod whole;
 
 pub use pairs::PairMachine;
-pub use world_copies::laws::a_closed_world_has_the_closed_run;

@@ -6,7 +6,7 @@ ghost use Rattle.process_semantics.specs.declared.point.Point.TheVariants.{Ended
 ghost use Rattle.process_semantics.specs.Process.{point};
 ghost use Rattle.plain_semantics.specs.Machine.{IsNoneLeft, shown_by};
 ghost use Rattle.world_semantics.specs.Examples.{adder_for, reply};
-ghost use Rattle.world_semantics.specs.Kept.{closed};
+ghost use Rattle.world_semantics.specs.Shares.{closed};
 ghost use Rattle.awaited_requests.specs.Seats.{IsLaidOut};
 ghost use Rattle.accepted_sites.specs.Premises.{IsAcceptedSite};
 ghost use Rattle.message_wires.specs.Idle.{is_idle};

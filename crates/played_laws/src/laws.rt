@@ -8,7 +8,8 @@ ghost use Rattle.plain_semantics.specs.Machine.{Made, PlainProcess, made_all, pl
 ghost use Rattle.plain_semantics.specs.Machine.{shown_by};
 ghost use Rattle.world_semantics.specs.declared.role.Role.TheVariants.{Acting};
 ghost use Rattle.world_semantics.specs.declared.which.Which.{Which};
-ghost use Rattle.world_semantics.specs.Kept.{acts_of, closed};
+ghost use Rattle.world_semantics.specs.Kept.{acts_of};
+ghost use Rattle.world_semantics.specs.Shares.{closed};
 ghost use Rattle.world_semantics.specs.World.{Pair, copy_of};
 ghost use Rattle.awaited_requests.specs.Seats.{IsLaidOut};
 ghost use Rattle.accepted_sites.specs.Premises.{IsAcceptedSite};

@@ -23,8 +23,7 @@ pub use copies::ProcessCopies;
 pub use disc_device::{Disc, DriveState};
 pub use node_copies::{
     Address, ChangeMessage, CopyControl, CopyShare, Downs, Effect, Message, NodeCopy, Process,
-    Records, Sending, StepOutcome, TERMINAL_NODE, Waiting, all_that_close_make_the_closed_run,
-    copy_request, is_running,
+    Records, Sending, StepOutcome, TERMINAL_NODE, Waiting, copy_request, is_running,
 };
 pub use reloading::BlankCopies;
 pub use schedule::DriveEvent;

@@ -13,6 +13,5 @@ pub mod ran;
 mod running;
 
 pub use laws::events_of_a_schedule_are_played;
-pub use pair_machine::a_closed_world_has_the_closed_run;
 pub use ran::{Ending, Ran};
 pub use running::run;

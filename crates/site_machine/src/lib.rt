@@ -26,6 +26,6 @@ pub use machine::Machine;
 pub use node::{Effect, set_of};
 pub use open_links::{
     CopyControl, CopyShare, Downs, NodeCopy, NodeLinks, Process, ProcessCopies, RequestName,
-    Terminal, Waiting, a_closed_world_has_the_closed_run, copy_request,
+    Terminal, Waiting, copy_request,
 };
 pub use stopped::stopped_processors;

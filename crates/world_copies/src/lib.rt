@@ -16,7 +16,6 @@ mod counts;
 mod entering;
 mod handing;
 mod idle;
-pub mod laws;
 mod marking;
 mod printing;
 mod processors;

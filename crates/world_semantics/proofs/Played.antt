@@ -14,7 +14,7 @@ use Rattle.checkpoint_image.specs.declared.receive.RequestStanding.TheVariants.{
 use Rattle.world_semantics.specs.declared.role.Role.{Role}
 use Rattle.world_semantics.specs.declared.role.Role.TheVariants.{Acting}
 use Rattle.world_semantics.specs.World.{Pair, World, First, Second, boot}
-use Rattle.world_semantics.specs.Kept.{closed}
+use Rattle.world_semantics.specs.Shares.{closed}
 use Rattle.world_semantics.specs.Examples.{adder_for, disc_site, takeover_events, takeover_acts, takeover_shown}
 use Rattle.world_semantics.specs.Examples.{lost_take_events, lost_take_acts, lost_take_shown, disc_events, disc_acts}
 use Rattle.world_semantics.specs.Examples.{disc_shown, bank_site, repeat_events, repeat_acts, repeat_shown, echo_site}

@@ -26,7 +26,7 @@ use Rattle.checkpoint_image.specs.declared.receive.RequestStanding.{RequestStand
 use Rattle.world_semantics.specs.declared.role.Role.{Role}
 use Rattle.checkpoint_image.specs.Receive.{standing}
 use Rattle.world_semantics.specs.World.{Copy, World}
-use Rattle.world_semantics.specs.Kept.{closed}
+use Rattle.world_semantics.specs.Shares.{closed}
 use Rattle.world_semantics.specs.Follows.{IsRun}
 
 abbrev pub read : Spot → Expr

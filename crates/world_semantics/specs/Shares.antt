@@ -1,10 +1,10 @@
 -- What the kept acts ask of a copy, by itself: its position in them and the acts that it holds back. How they change is
 -- our own rule: a copy that does anew what its process did already adds nothing, and a take and the acts after it are
 -- held back until the next checkpoint.
-use Rattle.std.specs.Prelude.{ℕ, ◌+◌, Bool, true, false, nat_lt, List, [], ◌∷◌, ◌++◌}
+use Rattle.std.specs.Prelude.{ℕ, ◌+◌, Bool, true, false, nat_lt, List, [], ◌∷◌, ◌++◌, reverse}
 use Rattle.checkpoint_image.specs.tal_tree.specs.declared.act.Act.{Act}
 use Rattle.checkpoint_image.specs.tal_tree.specs.declared.act.Act.TheVariants.{Step}
-use Rattle.world_semantics.specs.World.{Copy, Pair}
+use Rattle.world_semantics.specs.World.{Copy, Pair, World}
 use Rattle.world_semantics.specs.Kept.{own_acts, is_take}
 use Rattle.plain_semantics.specs.process_semantics.specs.declared.point.Point.{Point}
 use Rattle.plain_semantics.specs.process_semantics.specs.declared.point.Point.TheVariants as point
@@ -126,10 +126,16 @@ share_at_close kept share = record { share = share_without_held share; kept = sh
 abbrev pub let_go : Pair → Pair
 let_go pair = record pair { first = without_held pair.first; second = without_held pair.second }
 
--- the kept acts after both copies of a process closed, and of all processes in the order of the deck
+-- the kept acts after a process was closed: what its first copy holds comes before what its second one holds
 abbrev pub closed_by : List Act → Pair → List Act
 closed_by kept pair = (share_at_close (share_at_close kept (share_of pair.first)).kept (share_of pair.second)).kept
 
+-- after all processes were closed, in the order of the deck
 abbrev pub closed_by_all : List Act → List Pair → List Act
 closed_by_all kept [] = kept
 closed_by_all kept (pair ∷ pairs) = closed_by_all (closed_by kept pair) pairs
+
+-- the acts after the run was closed at an idle end, the oldest first: what each copy still holds is kept, in the order
+-- of the deck
+abbrev pub closed : World → List Act
+closed w = reverse (closed_by_all w.kept w.processes)

@@ -14,7 +14,6 @@ returns c = λ site lines stop ran accepted limits out is.
       closed_shown = λ events s few played idle.
           c.an_idle_end_that_is_played_leaves_none.ensures.shown site events s accepted limits out few
           played idle;
-      closed_acts = c.a_closed_world_has_the_closed_run.ensures.acts;
       schedule = λ lines stop events agenda s plays.
           c.events_of_a_schedule_are_played.ensures site lines stop events agenda s plays;
     }) is
