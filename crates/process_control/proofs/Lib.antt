@@ -1,6 +1,5 @@
 mod Consistent
 mod Numbers
 mod Ordered
-pub mod Roles
 pub mod Starting
-mod Tables
+pub mod Tables

@@ -1,4 +1,4 @@
--- What a receive table is after a request is taken or answered, or a whole table is put.
+-- What a receive table is after a request is taken or answered, or a whole table or what changed is put.
 use Rattle.std.proofs.Common.{◌≡◌, ◌<◌, ℕ, zero, suc, arith, ℤ, Bool, true, if◌then◌else◌, List, Option, Some, [], ◌∷◌}
 use Rattle.std.proofs.Common.{◌++◌, length, slice_get, slice_set, refl, ap, ap₂, sym, ◌∙◌}
 use Rattle.process_semantics.specs.Process as process
@@ -6,9 +6,11 @@ use Rattle.process_semantics.specs.Process.{ProcessState}
 use Rattle.checkpoint_image.specs.Receive.{after_answering, last_ones}
 use Rattle.checkpoint_image.specs.declared.receive.OpenerBlock.{OpenerBlock}
 use Rattle.checkpoint_image.specs.declared.receive.ReceiveBlock.{ReceiveBlock}
-use Rattle.computed_changes.specs.sync_ids.specs.Tables.{Remembered, IsSound, are_of_depths, can_hold, last_taken}
-use Rattle.computed_changes.specs.sync_ids.specs.Tables.{taken_in}
-use Rattle.computed_changes.specs.sync_ids.proofs.Tables.{and-left, lengths}
+use Rattle.computed_changes.specs.sync_ids.specs.Changes.{add_few, changed, fits_change}
+use Rattle.computed_changes.specs.sync_ids.specs.Tables.{Remembered, IsSound, are_of_depths, can_hold, fits}
+use Rattle.computed_changes.specs.sync_ids.specs.Tables.{last_taken, taken_in}
+use Rattle.computed_changes.specs.sync_ids.specs.declared.change.ReceiveChange.{ReceiveChange}
+use Rattle.computed_changes.specs.sync_ids.proofs.Tables.{and-left, and-right, lengths}
 use Rattle.computed_changes.specs.world_semantics.specs.Core.{Core}
 use Rattle.process_control.specs.Cores.{answering_at, answering_of, core_answered, core_answering, core_answering_at}
 
@@ -68,3 +70,8 @@ pub put-table : (fit told : Bool) (block before after : ReceiveBlock) → told �
     → after ≡ (if told then block else before) → after ≡ block
 put-table fit told block before after same yes_fit is =
     is ∙ ap (λ (b : Bool). if b then block else before) (same ∙ yes_fit)
+
+-- the table that comes of a change which fits does so too
+pub fits_whole : (r : Remembered) (change : ReceiveChange) → fits_change r change ≡ true
+    → fits r (changed r.depths r.table change) ≡ true
+fits_whole r change is = and-right (add_few r.depths 0 change.changes) (fits r (changed r.depths r.table change)) is

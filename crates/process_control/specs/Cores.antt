@@ -1,14 +1,11 @@
 -- What the steps of a copy do to its core, with the depths of its openers. What each step makes of a core stands with
 -- the world of copies.
-use Rattle.std.specs.Option.{option_and_then, option_map}
+use Rattle.std.specs.Option.{option_map}
 use Rattle.std.specs.Prelude.{ℕ, List, map, slice_get, Option, Some, None}
 use Rattle.gd_words.specs.declared.message.Request.{Request}
 use Rattle.tal_tree.specs.declared.site.OpenerSpec.{OpenerSpec}
 use Rattle.process_semantics.specs.Process as process
 use Rattle.checkpoint_image.specs.declared.receive.OpenerBlock.{OpenerBlock}
-use Rattle.computed_changes.specs.change_layout.specs.Changing.{made_whole}
-use Rattle.computed_changes.specs.change_layout.specs.declared.message.ChangeMessage.{ChangeMessage}
-use Rattle.computed_changes.specs.Fitting.{put_fitting}
 use Rattle.computed_changes.specs.sync_ids.specs.Tables.{last_taken}
 use Rattle.computed_changes.specs.world_semantics.specs.Core.{Core, core_asked, core_replied, core_taken, next_on}
 use Rattle.process_control.specs.declared.told.Asking.{Asking}
@@ -28,12 +25,6 @@ abbrev pub core_taking : Request → Core → Option Core
 core_taking request core =
     option_map (λ block. core_taken request.opener request.words block core)
     (slice_get core.receive.openers request.opener)
-
--- the core after a checkpoint that came as what changed was made whole by its table, and put into it; none where it
--- doesn't fit
-abbrev pub core_with_change : List ℕ → Core → ChangeMessage → Option Core
-core_with_change depths core change =
-    option_and_then (λ message. put_fitting depths core message.image) (made_whole depths core.receive change)
 
 -- A request that is asked
 

@@ -1,4 +1,3 @@
-pub mod Changing
 pub mod Consistent
 pub mod Copies
 pub mod Cores

@@ -3,9 +3,10 @@ ghost use Rattle.std.specs.Option.{option_map, unwrap_or};
 ghost use Rattle.gd_words.specs.Ranges.{HasNext};
 ghost use Rattle.process_semantics.specs.declared.point.Point.TheVariants.{AtCheckpoint};
 ghost use Rattle.process_semantics.specs.Process.{point};
+ghost use Rattle.computed_changes.specs.change_layout.specs.Changing.{whole_of};
+ghost use Rattle.computed_changes.specs.sync_ids.specs.Changes.{fits_change};
 ghost use Rattle.computed_changes.specs.world_semantics.specs.declared.role.Role.TheVariants.{Watching, Gone};
 ghost use Rattle.computed_changes.specs.Checkpoints.{core_where, is_next_for, is_of_last};
-ghost use Rattle.process_control.specs.Changing.{changing_where};
 ghost use Rattle.process_control.specs.Copies.{copy_applied, copy_applying, copy_changed, copy_changing};
 ghost use Rattle.process_control.specs.Copies.{copy_checkpoint, copy_ending, copy_passing, copy_renewed, copy_sending};
 ghost use Rattle.process_control.specs.Copies.{copy_taking_over, copy_told};
@@ -54,11 +55,13 @@ impl<B: Behaviour> CopyControl<B> {
 
     /// Applies a checkpoint that came as what changed since the one before it, or ignores it: its own receive table
     /// makes it whole. It answers whether it was applied. It takes no memory.
-    #[tactic(auto, using(crate::proofs::Roles::by_role))]
     pub fn change_in(&mut self, change: &ChangeMessage) -> bool
         ensures told { result ≡ is_some (copy_changing change.now self.old) }
         ensures copy { self.new ≡ unwrap_or (copy_changing change.now self.old) self.old }
     {
+        if !self.core.fits_change(change) {
+            return false;
+        }
         match self.role {
             Role::Watching | Role::Blank => {
                 let is_next = self.is_next(change.era, change.number);
@@ -82,10 +85,15 @@ impl<B: Behaviour> CopyControl<B> {
     }
 
     fn change_where(&mut self, change: &ChangeMessage, is_next: bool) -> bool
-        ensures told { result ≡ is_some (changing_where self.old.depths self.old.core change.now is_next) }
+        requires { fits_change (record { table = self.old.core.receive; depths = self.old.depths })
+            change.now.image.receive ≡ true }
+        ensures told { result
+            ≡ is_some (core_where self.old.depths self.old.core
+            (whole_of self.old.depths self.old.core.receive change.now) is_next) }
         ensures copy { self.new
             ≡ unwrap_or (option_map (copy_changed change.now self.old)
-            (changing_where self.old.depths self.old.core change.now is_next)) self.old }
+            (core_where self.old.depths self.old.core
+            (whole_of self.old.depths self.old.core.receive change.now) is_next)) self.old }
     {
         if !is_next {
             return false;

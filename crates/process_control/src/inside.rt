@@ -1,4 +1,4 @@
-ghost use Rattle.std.specs.Prelude.{◌≡◌, ◌<◌, ◌≤◌, ◌+◌, All, false, is_some, length, Some, IfOk};
+ghost use Rattle.std.specs.Prelude.{◌≡◌, ◌<◌, ◌≤◌, ◌+◌, All, false, true, is_some, length, Some, IfOk};
 ghost use Rattle.std.specs.Option.{unwrap_or};
 ghost use Rattle.gd_words.specs.Ranges.{HasNext};
 ghost use Rattle.process_semantics.specs.declared.point.Point.TheVariants.{Inner, Take, Ask, Await, Answer};
@@ -9,12 +9,14 @@ ghost use Rattle.whole_states.specs.Processes.{IsWholeProcess};
 ghost use Rattle.checkpoint_image.specs.Behaving.{last_write_of};
 ghost use Rattle.checkpoint_image.specs.Receive.{standing};
 ghost use Rattle.checkpoint_image.specs.declared.receive.RequestStanding.TheVariants.{Next};
+ghost use Rattle.computed_changes.specs.change_layout.specs.Changing.{whole_of};
+ghost use Rattle.computed_changes.specs.sync_ids.specs.Changes.{fits_change};
 ghost use Rattle.computed_changes.specs.sync_ids.specs.Tables.{IsDepth};
 ghost use Rattle.computed_changes.specs.world_semantics.specs.Core.{after_passing, carried, carried_by, carried_whole};
 ghost use Rattle.computed_changes.specs.world_semantics.specs.Core.{core_acting, core_at_start};
 ghost use Rattle.computed_changes.specs.world_semantics.specs.Core.{core_getting, core_going, next_on};
 ghost use Rattle.process_control.specs.Cores.{answering_of, asking_of, core_asking, core_taking, with_depths};
-ghost use Rattle.process_control.specs.Cores.{core_answering, core_with_change};
+ghost use Rattle.process_control.specs.Cores.{core_answering};
 ghost use Rattle.computed_changes.specs.Fitting.{put_fitting};
 
 use crate::files::{are_files, next_on, numbers_of, put_files};
@@ -236,19 +238,30 @@ impl<B: Behaviour> CopyCore<B> {
         self.behaviour.checkpointed();
     }
 
+    /// Whether what changed fits its receive table, so that the table makes it whole.
+    pub fn fits_change(&self, change: &ChangeMessage) -> bool
+        ensures { result
+            ≡ fits_change (record { table = self.now.core.receive; depths = self.now.depths })
+            change.now.image.receive }
+    {
+        self.receive.fits_change(&change.image.receive)
+    }
+
     /// Puts what a checkpoint carries that came as what changed in the place of its own, all of it or nothing, and says
-    /// whether it did.
-    #[tactic(auto, using(crate::proofs::Roles::fits_whole))]
+    /// whether it did. What changed fits its receive table.
+    #[tactic(auto, using(crate::proofs::Tables::fits_whole))]
     pub fn put_change(&mut self, change: &ChangeMessage) -> bool
-        ensures told { result ≡ is_some (core_with_change self.old.depths self.old.core change.now) }
+        requires { fits_change (record { table = self.old.core.receive; depths = self.old.depths })
+            change.now.image.receive ≡ true }
+        ensures told { result
+            ≡ is_some (put_fitting self.old.depths self.old.core
+            (whole_of self.old.depths self.old.core.receive change.now).image) }
         ensures core { self.new.core
-            ≡ unwrap_or (core_with_change self.old.depths self.old.core change.now) self.old.core }
+            ≡ unwrap_or (put_fitting self.old.depths self.old.core
+            (whole_of self.old.depths self.old.core.receive change.now).image) self.old.core }
         ensures depths { self.new.depths ≡ self.old.depths }
     {
         let image = &change.image;
-        if !self.receive.fits_change(&image.receive) {
-            return false;
-        }
         if !are_files(&self.asker, image.files.as_slice()) {
             return false;
         }
