@@ -5,20 +5,22 @@ ghost use Rattle.std.specs.List.{list_all};
 ghost use Rattle.deck_lines.specs.Numbers.{digits_value, are_digits, written_number, small_of, word_of, as_negative};
 ghost use Rattle.deck_lines.specs.Numbers.{as_positive};
 
-/// What decimal digits stand for.
-fn digits_value(digits: &[u8]) -> u32
+/// What ten decimal digits at most stand for.
+pub fn digits_value(digits: &[u8]) -> u64
     requires digits { IsTrue (list_all is_ascii_digit digits.now) }
-    requires few { length digits.now ≤ 9 }
-    ensures { result ≡ digits_value digits.now }
+    requires few { length digits.now ≤ 10 }
+    ensures value { result ≡ digits_value digits.now }
+    ensures bound { result < 10 ^ length digits.now }
 {
     let mut value = 0;
     for c in digits {
-        value = value * 10 + u32::from(*c - b'0');
+        value = value * 10 + u64::from(*c - b'0');
     }
     value
 }
 
-fn are_digits(most: usize, word: &[u8]) -> bool
+/// Whether a text is one to `most` decimal digits.
+pub fn are_digits(most: usize, word: &[u8]) -> bool
     ensures { result ≡ are_digits most word.now }
 {
     1 <= word.len() && word.len() <= most && are_all_digits(word)
@@ -35,7 +37,7 @@ pub fn written_number(word: &[u8]) -> Option<u32>
     ensures { result ≡ written_number word.now }
 {
     if are_digits(9, word) {
-        Some(digits_value(word))
+        Some(digits_value(word) as u32)
     } else {
         None
     }
@@ -45,8 +47,8 @@ fn small_of(most: u32, word: &[u8]) -> Option<u32>
     ensures value { result ≡ small_of most word.now }
     ensures bound { IfSome result (λ n. n ≤ most) }
 {
-    if are_digits(5, word) && digits_value(word) <= most {
-        Some(digits_value(word))
+    if are_digits(5, word) && digits_value(word) <= u64::from(most) {
+        Some(digits_value(word) as u32)
     } else {
         None
     }

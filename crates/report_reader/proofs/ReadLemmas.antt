@@ -1,11 +1,10 @@
 -- Words that are counted, and lines that are read, one after the other.
-use Rattle.std.proofs.Common.{◌≡◌, ℕ, ◌+◌, ◌<◌, ◌≤◌, ◌^◌, Bool, true, false, cond, ◌&&◌, List, [], ◌∷◌, ◌++◌, length}
+use Rattle.std.proofs.Common.{◌≡◌, ℕ, ◌+◌, ◌≤◌, Bool, true, false, cond, ◌&&◌, List, [], ◌∷◌, ◌++◌, length}
 use Rattle.std.proofs.Common.{Option, Some, None, refl, sym, ap, ◌∙◌, arith, append_assoc, append-nil, length-append}
 use Rattle.std.proofs.Common.{if◌then◌else◌}
 use Rattle.std.specs.Prelude.{Result, Ok, Err}
 use Rattle.std.specs.List.{list_all}
 use Rattle.std.specs.Option.{option_map}
-use Rattle.std.proofs.Math.Nat.{pow-le-pow_right}
 use Rattle.tal_tree.specs.declared.site.Site.{Site}
 use Rattle.report_reader.specs.Numbers.{are_words, is_word}
 use Rattle.trace_print.specs.declared.closing.End.{End}
@@ -15,12 +14,6 @@ use Rattle.report_reader.specs.Reading.{closed, ended_by, read_lines, read_on, r
 use Rattle.report_reader.specs.Telling.{next_told}
 use Rattle.report_reader.specs.declared.reading.Reading.{Reading}
 use Rattle.report_reader.specs.declared.told.Told.{Told}
-
--- what nine digits at most stand for
-pub nine_digits : (k value : ℕ) → k < 10 → value < 10 ^ k → value < 1000000000
-nine_digits k value few h =
-    let most : 10 ^ k ≤ 10 ^ 9 = pow-le-pow_right {n = 10} (omega arith) {i = k} {j = 9} (omega arith) in
-    omega arith
 
 -- so many words before others
 abbrev pub words_more : ℕ → Option ℕ → Option ℕ

@@ -1,15 +1,12 @@
 //! Numbers and words as a report writes them.
-ghost use Rattle.std.specs.Prelude.{◌≡◌, ◌≤◌, Some, None, IsTrue, if◌then◌else◌, nat_le, length};
-ghost use Rattle.std.specs.Char.{is_ascii_digit};
-ghost use Rattle.std.specs.List.{list_all};
-ghost use Rattle.deck_lines.specs.Numbers.{digits_value};
+ghost use Rattle.std.specs.Prelude.{◌≡◌, Some, None, if◌then◌else◌, nat_le};
 ghost use Rattle.report_reader.specs.Numbers.{begins_with_zero, is_numeral, is_plain, is_plain_word, is_word};
 ghost use Rattle.report_reader.specs.Numbers.{number_told, word_count};
 ghost use Rattle.report_reader.specs.Numbers.{are_words};
 ghost use Rattle.report_reader.specs.Parts.{parts_of};
 
 use crate::parts::cut_at;
-use deck_lines::numbers::word_of;
+use deck_lines::numbers::{are_digits, digits_value, word_of};
 
 /// A number of 32 bits in decimal digits, without zeros before it.
 pub fn number_told(text: &[u8]) -> Option<u32>
@@ -35,13 +32,7 @@ fn small(value: u64) -> Option<u32>
 fn is_numeral(text: &[u8]) -> bool
     ensures { result ≡ is_numeral text.now }
 {
-    1 <= text.len() && text.len() <= 10 && are_digits(text) && is_plain(text)
-}
-
-fn are_digits(text: &[u8]) -> bool
-    ensures { result ≡ list_all is_ascii_digit text.now }
-{
-    text.iter().all(|c| c.is_ascii_digit())
+    are_digits(10, text) && is_plain(text)
 }
 
 /// Whether no zero stands before other digits.
@@ -58,19 +49,6 @@ fn begins_with_zero(digits: &[u8]) -> bool
         [] => false,
         [first, ..] => *first == b'0',
     }
-}
-
-/// What decimal digits stand for.
-fn digits_value(digits: &[u8]) -> u64
-    requires digits { IsTrue (list_all is_ascii_digit digits.now) }
-    requires few { length digits.now ≤ 10 }
-    ensures { result ≡ digits_value digits.now }
-{
-    let mut value = 0;
-    for c in digits {
-        value = value * 10 + u64::from(*c - b'0');
-    }
-    value
 }
 
 /// Whether a text is a word of 16 bits in decimal digits, without zeros before it.
