@@ -1,4 +1,5 @@
 pub mod Examples
+pub mod HasRoom
 pub mod Idle
 pub mod Play
 pub mod Runs

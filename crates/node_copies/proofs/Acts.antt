@@ -6,8 +6,8 @@ use Rattle.tal_tree.specs.declared.act.Act.TheVariants as act
 use Rattle.tal_tree.specs.declared.site.OpenerSpec.{OpenerSpec}
 use Rattle.tal_tree.specs.declared.site.Site.{Site}
 use Rattle.process_semantics.specs.Process as process
-use Rattle.number_ranges.specs.plain_semantics.specs.declared.slot.Opener.{Opener}
-use Rattle.number_ranges.specs.plain_semantics.specs.Openers.{openers_of}
+use Rattle.message_wires.specs.plain_semantics.specs.declared.slot.Opener.{Opener}
+use Rattle.message_wires.specs.plain_semantics.specs.Openers.{openers_of}
 use Rattle.checkpoint_image.specs.declared.receive.OpenerBlock.{OpenerBlock}
 use Rattle.process_control.specs.computed_changes.specs.Fitting.{depths_of}
 use Rattle.file_calls.specs.sync_ids.specs.Tables.{taken_in}

@@ -5,8 +5,8 @@ use Rattle.tal_tree.specs.declared.program.FileUse.{FileUse}
 use Rattle.tal_tree.specs.declared.site.ProcessSpec.{ProcessSpec}
 use Rattle.tal_tree.specs.declared.site.Site.{Site}
 use Rattle.tal_tree.specs.declared.site.Who.TheVariants as who
-use Rattle.number_ranges.specs.plain_semantics.specs.declared.slot.Opener.{Opener}
-use Rattle.number_ranges.specs.plain_semantics.specs.Openers.{file_of, files_of, opener_of, opener_on, server_of_file}
+use Rattle.message_wires.specs.plain_semantics.specs.declared.slot.Opener.{Opener}
+use Rattle.message_wires.specs.plain_semantics.specs.Openers.{file_of, files_of, opener_of, opener_on, server_of_file}
 use Rattle.node_copies.specs.Acting.{opener_among}
 use Rattle.node_copies.specs.Seen.{file_row, files_by, openers_on}
 

@@ -5,7 +5,7 @@ use Rattle.std.specs.Option.{option_and_then}
 use Rattle.gd_words.specs.declared.message.Request.{Request}
 use Rattle.tal_tree.specs.declared.site.Site.{Site}
 use Rattle.process_semantics.specs.declared.point.Point.{Point}
-use Rattle.number_ranges.specs.plain_semantics.specs.declared.slot.Opener.{Opener}
+use Rattle.message_wires.specs.plain_semantics.specs.declared.slot.Opener.{Opener}
 use Rattle.disc_device.specs.Sectors.{Stored}
 use Rattle.kept_acts.specs.world_semantics.specs.Messages.{sent_at}
 use Rattle.kept_acts.specs.world_semantics.specs.Own.{Around, around_with}

@@ -2,14 +2,13 @@ pub mod Acting
 pub mod Receiving
 pub mod Seen
 pub mod ShownCounts
-pub use Rattle.number_ranges.specs.message_wires
-pub use Rattle.number_ranges
+pub use Rattle.message_wires
 pub use Rattle.process_control
 pub use Rattle.processes
 pub use Rattle.file_calls
 pub use Rattle.sendings
-pub use Rattle.number_ranges.specs.change_layout
+pub use Rattle.message_wires.specs.change_layout
 pub use Rattle.process_control.specs.computed_changes
 pub use Rattle.sendings.specs.letters
-pub use Rattle.number_ranges.specs.machine_states
+pub use Rattle.message_wires.specs.machine_states
 pub use Rattle.file_calls.specs.sync_ids

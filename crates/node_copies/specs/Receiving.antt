@@ -1,6 +1,6 @@
 -- What becomes of a copy to which something came. The rules are those of the world of copies.
 use Rattle.std.specs.Prelude.{Option, Some, None}
-use Rattle.number_ranges.specs.change_layout.specs.declared.message.ChangeMessage.{ChangeMessage}
+use Rattle.message_wires.specs.change_layout.specs.declared.message.ChangeMessage.{ChangeMessage}
 use Rattle.checkpoint_image.specs.declared.message.ImageMessage.{ImageMessage}
 use Rattle.kept_acts.specs.world_semantics.specs.Core.{Core}
 use Rattle.kept_acts.specs.world_semantics.specs.Passes.{after_getting}

@@ -5,8 +5,8 @@ use Rattle.tal_tree.specs.declared.program.FileUse.{FileUse}
 use Rattle.tal_tree.specs.declared.site.ProcessSpec.{ProcessSpec}
 use Rattle.tal_tree.specs.declared.site.Site.{Site}
 use Rattle.tal_tree.specs.declared.site.Who.TheVariants as who
-use Rattle.number_ranges.specs.plain_semantics.specs.declared.slot.Opener.{Opener}
-use Rattle.number_ranges.specs.plain_semantics.specs.Openers.{files_of, opener_of}
+use Rattle.message_wires.specs.plain_semantics.specs.declared.slot.Opener.{Opener}
+use Rattle.message_wires.specs.plain_semantics.specs.Openers.{files_of, opener_of}
 use Rattle.disc_device.specs.Sectors.{Stored}
 use Rattle.disc_device.specs.mirror.specs.Mirror.{DriveHeld, content}
 use Rattle.disc_device.specs.mirror.specs.States.{states_of}

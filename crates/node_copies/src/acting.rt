@@ -5,7 +5,7 @@ ghost use Rattle.process_semantics.specs.Process.{asked_file, point};
 ghost use Rattle.checkpoint_image.specs.Behaving.{last_write_of};
 ghost use Rattle.process_control.specs.computed_changes.specs.Fitting.{depths_of};
 ghost use Rattle.gd_words.specs.Ranges.{HasNext, HasNextLong};
-ghost use Rattle.number_ranges.specs.HasRoom.{CopyHasRoom};
+ghost use Rattle.message_wires.specs.HasRoom.{CopyHasRoom};
 ghost use Rattle.kept_acts.specs.world_semantics.specs.Core.{next_on};
 ghost use Rattle.kept_acts.specs.world_semantics.specs.Passes.{after_sending, after_sent, checkpoint_of};
 ghost use Rattle.kept_acts.specs.world_semantics.specs.Running.{copy_passed, records_passed};

@@ -1,7 +1,7 @@
 ghost use Rattle.std.specs.Prelude.{◌≡◌, ◌<◌, Some};
 ghost use Rattle.std.specs.Option.{IfSome};
 
-use number_ranges::Opener;
+use message_wires::Opener;
 use std::marker::Model;
 
 /// Where an opener stands: its server's place in the deck, and its own place among the server's openers.
@@ -12,7 +12,7 @@ pub struct Address {
 }
 
 impl Model for Address {
-    ghost use Rattle.number_ranges.specs.plain_semantics.specs.declared.slot.Opener.{Opener};
+    ghost use Rattle.message_wires.specs.plain_semantics.specs.declared.slot.Opener.{Opener};
 
     ghost Value = { Opener };
 

@@ -27,7 +27,7 @@ pub use address::Address;
 pub use downs::Downs;
 pub use file_calls::{Arrival, Waiting};
 pub use kept_acts::CopyShare;
-pub use number_ranges::{ChangeMessage, Effect};
+pub use message_wires::{ChangeMessage, Effect};
 pub use one::NodeCopy;
 pub use process_control::{Asking, CopyControl};
 pub use processes::Process;

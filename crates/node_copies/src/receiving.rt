@@ -13,7 +13,7 @@ ghost use Rattle.process_control.specs.computed_changes.specs.Changed.{core_chan
 ghost use Rattle.process_control.specs.computed_changes.specs.Checkpoints.{core_applying, is_of_last};
 ghost use Rattle.process_control.specs.computed_changes.specs.Replies.{copy_got, kept_got};
 ghost use Rattle.process_control.specs.computed_changes.specs.Requests.{after_early_request, after_request};
-ghost use Rattle.number_ranges.specs.HasRoom.{CopyHasRoom};
+ghost use Rattle.message_wires.specs.HasRoom.{CopyHasRoom};
 ghost use Rattle.node_copies.specs.Receiving.{copy_applying, copy_changing, with_changed};
 ghost use Rattle.kept_acts.specs.world_semantics.specs.Shares.{share_at_close, covered_count, share_after_cover};
 ghost use Rattle.kept_acts.specs.world_semantics.specs.Shares.{share_of, with_share};
@@ -25,7 +25,7 @@ use crate::settling::settle;
 use checkpoint_image::{ImageMessage, ReceiveBlock, TakenMessage};
 use file_calls::Arrival;
 use gd_words::{List, NoMemory, Request, Words};
-use number_ranges::ChangeMessage;
+use message_wires::ChangeMessage;
 use sendings::Sending;
 use std::alloc::Global;
 use tal_tree::Act;

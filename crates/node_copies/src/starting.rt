@@ -1,6 +1,6 @@
 ghost use Rattle.std.specs.Prelude.{◌≡◌, ◌≤◌, All, false, length, map, IfOk};
 ghost use Rattle.process_semantics.specs.Process.{in_hand, start_of};
-ghost use Rattle.number_ranges.specs.plain_semantics.specs.Openers.{files_of};
+ghost use Rattle.message_wires.specs.plain_semantics.specs.Openers.{files_of};
 ghost use Rattle.processes.specs.Seen.{IsLoadableKind, state_of};
 ghost use Rattle.file_calls.specs.sync_ids.specs.Tables.{IsDepth};
 ghost use Rattle.process_control.specs.whole_states.specs.Listing as listing;
@@ -13,7 +13,7 @@ use crate::one::NodeCopy;
 use file_calls::Waiting;
 use gd_words::NoMemory;
 use kept_acts::{CopyShare, Role};
-use number_ranges::files_of;
+use message_wires::files_of;
 use process_control::CopyControl;
 use processes::Process;
 use std::alloc::Global;

@@ -17,20 +17,20 @@ use Rattle.world_semantics.specs.World.{World, has_noted, is_running, pairs_at_b
 use Rattle.world_semantics.proofs.Roles.{both-true}
 use Rattle.computed_changes.specs.Handed.{handed_done}
 use Rattle.computed_changes.specs.Stopped.{world_at_down, may_note, marked_where, mark_where, down_done, reload_done}
-use Rattle.number_ranges.specs.letters.specs.Routes.{Letter, letters_of}
-use Rattle.number_ranges.specs.letters.specs.Again.{sent_again}
-use Rattle.number_ranges.specs.machine_states.specs.States.{Played, Makes, Skips, Would}
-use Rattle.number_ranges.specs.message_wires.specs.Wires.{Sent, Wires, wires_after_post, wires_after_posts, paid}
-use Rattle.number_ranges.specs.message_wires.specs.Wires.{paid_between}
-use Rattle.number_ranges.specs.message_wires.specs.Wires.{is_current, without_packet}
-use Rattle.number_ranges.specs.message_wires.specs.Play.{MachineState, machine_at_boot, after_done, made_by, after_any}
-use Rattle.number_ranges.specs.message_wires.specs.Play.{state_after_handing}
-use Rattle.number_ranges.specs.message_wires.specs.Play.{is_admitted, deliver_played, lose_played, repeat_played}
-use Rattle.number_ranges.specs.message_wires.specs.Play.{stop_played, fail_played}
-use Rattle.number_ranges.specs.message_wires.specs.Play.{reload_played, noted_by, notes_from, state_after_tick}
-use Rattle.number_ranges.specs.message_wires.specs.Play.{tick_played, packet_at}
-use Rattle.number_ranges.specs.message_wires.specs.Play.{play}
-use Rattle.number_ranges.specs.message_wires.specs.Runs.{IsPlayed, played_none, played_more, skipped}
+use Rattle.message_wires.specs.letters.specs.Routes.{Letter, letters_of}
+use Rattle.message_wires.specs.letters.specs.Again.{sent_again}
+use Rattle.message_wires.specs.machine_states.specs.States.{Played, Makes, Skips, Would}
+use Rattle.message_wires.specs.Wires.{Sent, Wires, wires_after_post, wires_after_posts, paid}
+use Rattle.message_wires.specs.Wires.{paid_between}
+use Rattle.message_wires.specs.Wires.{is_current, without_packet}
+use Rattle.message_wires.specs.Play.{MachineState, machine_at_boot, after_done, made_by, after_any}
+use Rattle.message_wires.specs.Play.{state_after_handing}
+use Rattle.message_wires.specs.Play.{is_admitted, deliver_played, lose_played, repeat_played}
+use Rattle.message_wires.specs.Play.{stop_played, fail_played}
+use Rattle.message_wires.specs.Play.{reload_played, noted_by, notes_from, state_after_tick}
+use Rattle.message_wires.specs.Play.{tick_played, packet_at}
+use Rattle.message_wires.specs.Play.{play}
+use Rattle.message_wires.specs.Runs.{IsPlayed, played_none, played_more, skipped}
 use Rattle.number_laws.proofs.Within.{AnyWithin, WatchersWithin, watchers-within}
 use Rattle.number_laws.proofs.Quiet.{IsQuiet, IsQuietAny, run-quiet, enter-quiet, handed-quiet, stop-quiet}
 use Rattle.number_laws.proofs.Unmarked.{left_marks, left-less, left-most, left-reloaded}
@@ -38,7 +38,7 @@ use Rattle.number_laws.proofs.Letters.{letters-few, mark-few}
 use Rattle.number_laws.proofs.Marks.{mark-watchers, mark-within}
 use Rattle.number_laws.proofs.Reloads.{reload-cases, reloaded-length}
 use Rattle.number_laws.proofs.Played.{WholeWithin, kinds_of, later, marked-watchers, marked-within, played-within}
-use Rattle.number_ranges.specs.machine_states.proofs.Turning.{drive-cases}
+use Rattle.message_wires.specs.machine_states.proofs.Turning.{drive-cases}
 
 posted-count : (letters : List Letter) (wires : Wires)
     → (wires_after_posts letters wires).count ≡ wires.count + length letters

@@ -26,12 +26,12 @@ use Rattle.world_semantics.specs.Messages.{Message, Asking, Replying, Sending, s
 use Rattle.world_semantics.specs.Own.{request_to}
 use Rattle.world_semantics.specs.Rules.{taker, takeover_sendings, told_at_down}
 use Rattle.world_semantics.specs.World.{Copy, Pair, Terminal, World, terminal_node}
-use Rattle.number_ranges.specs.letters.specs.Again.{is_rerouted, rerouted, awaited_at, awaited_by, entered_last}
-use Rattle.number_ranges.specs.letters.specs.Again.{awaited_from, is_moved}
-use Rattle.number_ranges.specs.letters.specs.Again.{numbered, kept_in as replies_in, kept_for, kept_from, if_acts_on}
-use Rattle.number_ranges.specs.letters.specs.Again.{asks_again}
-use Rattle.number_ranges.specs.letters.specs.Again.{tells_again, of_copies, of_terminals, terminals_ask, sent_again}
-use Rattle.number_ranges.specs.letters.specs.Routes.{receiver_of, letters_of}
+use Rattle.message_wires.specs.letters.specs.Again.{is_rerouted, rerouted, awaited_at, awaited_by, entered_last}
+use Rattle.message_wires.specs.letters.specs.Again.{awaited_from, is_moved}
+use Rattle.message_wires.specs.letters.specs.Again.{numbered, kept_in as replies_in, kept_for, kept_from, if_acts_on}
+use Rattle.message_wires.specs.letters.specs.Again.{asks_again}
+use Rattle.message_wires.specs.letters.specs.Again.{tells_again, of_copies, of_terminals, terminals_ask, sent_again}
+use Rattle.message_wires.specs.letters.specs.Routes.{receiver_of, letters_of}
 use Rattle.number_laws.proofs.Each.{Each}
 use Rattle.number_laws.proofs.Within.{PairWithin, PairsWithin, kept_in, filter-few}
 use Rattle.number_laws.proofs.Quiet.{repeated-few}

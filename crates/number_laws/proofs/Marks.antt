@@ -20,9 +20,9 @@ use Rattle.world_semantics.specs.World.{Copy, Pair, Terminal, World, copy_of, is
 use Rattle.world_semantics.proofs.Lists.{map-all}
 use Rattle.world_semantics.proofs.Roles.{taker-is}
 use Rattle.computed_changes.specs.Stopped.{stop_if, stop_where, stop_done, marked_where, mark_where, down_done}
-use Rattle.number_ranges.specs.letters.specs.Again.{rerouted, awaited_from, if_acts_on, asks_again, tells_again}
-use Rattle.number_ranges.specs.letters.specs.Again.{of_copies, of_terminals}
-use Rattle.number_ranges.specs.letters.specs.Again.{terminals_ask, sent_again}
+use Rattle.message_wires.specs.letters.specs.Again.{rerouted, awaited_from, if_acts_on, asks_again, tells_again}
+use Rattle.message_wires.specs.letters.specs.Again.{of_copies, of_terminals}
+use Rattle.message_wires.specs.letters.specs.Again.{terminals_ask, sent_again}
 use Rattle.number_laws.proofs.Each.{Each, each-append, each-map, each-always}
 use Rattle.number_laws.proofs.Within.{PairWithin, MessageWithin, AreSendings, WorldWithin, AnyWithin}
 use Rattle.number_laws.proofs.Within.{WatchersWithin, held_of, held_in, held-mapped, filter-few}

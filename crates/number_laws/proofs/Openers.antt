@@ -43,9 +43,9 @@ use Rattle.world_semantics.proofs.Lifted.{run_as, run_at}
 use Rattle.computed_changes.proofs.Lifted.{acknowledged_where, applied_as, applied_made, applied_where, asked_done}
 use Rattle.computed_changes.proofs.Lifted.{checkpoint_done, got_done, got_where, taken_done}
 use Rattle.computed_changes.specs.Stopped.{stop_if, stop_where, stop_done, marked_where, mark_where, down_done}
-use Rattle.number_ranges.specs.letters.specs.Again.{rerouted, awaited_at, awaited_from, entered_last, if_acts_on}
-use Rattle.number_ranges.specs.letters.specs.Again.{asks_again, tells_again}
-use Rattle.number_ranges.specs.letters.specs.Again.{of_copies, of_terminals, terminals_ask, sent_again}
+use Rattle.message_wires.specs.letters.specs.Again.{rerouted, awaited_at, awaited_from, entered_last, if_acts_on}
+use Rattle.message_wires.specs.letters.specs.Again.{asks_again, tells_again}
+use Rattle.message_wires.specs.letters.specs.Again.{of_copies, of_terminals, terminals_ask, sent_again}
 use Rattle.number_laws.proofs.Each.{Each, each-append, each-map, each-always, each-filter}
 
 -- Openers

@@ -19,23 +19,23 @@ use Rattle.world_semantics.specs.World.{Copy, Pair, World, pairs_at_boot, copy_o
 use Rattle.world_semantics.proofs.Beginning.{all-begin}
 use Rattle.world_semantics.proofs.Lists.{some-same}
 use Rattle.computed_changes.specs.Stopped.{down_done}
-use Rattle.number_ranges.specs.letters.specs.Routes.{Letter, receiver_of, letters_of}
-use Rattle.number_ranges.specs.letters.specs.Again.{sent_again}
-use Rattle.number_ranges.specs.machine_states.specs.States.{Played, Makes, Skips, Would}
-use Rattle.number_ranges.specs.message_wires.specs.Wires.{Sent, Wires, has_room, put_on, wires_after_post}
-use Rattle.number_ranges.specs.message_wires.specs.Wires.{wires_after_posts, is_sending}
-use Rattle.number_ranges.specs.message_wires.specs.Wires.{without_number, paid, without_packet, is_due, is_current}
-use Rattle.number_ranges.specs.message_wires.specs.Wires.{put_again}
-use Rattle.number_ranges.specs.message_wires.specs.Play.{MachineState, machine_at_boot, after_done, made_by, after_any}
-use Rattle.number_ranges.specs.message_wires.specs.Play.{state_after_handing}
-use Rattle.number_ranges.specs.message_wires.specs.Play.{is_admitted, deliver_played, lose_played, repeat_played}
-use Rattle.number_ranges.specs.message_wires.specs.Play.{stop_played, fail_played}
-use Rattle.number_ranges.specs.message_wires.specs.Play.{reload_played, noted_by, notes_from, state_after_tick}
-use Rattle.number_ranges.specs.message_wires.specs.Play.{tick_played, packet_at}
-use Rattle.number_ranges.specs.message_wires.specs.Play.{play}
-use Rattle.number_ranges.specs.message_wires.specs.Runs.{IsPlayed, played_none, played_more, skipped}
+use Rattle.message_wires.specs.letters.specs.Routes.{Letter, receiver_of, letters_of}
+use Rattle.message_wires.specs.letters.specs.Again.{sent_again}
+use Rattle.message_wires.specs.machine_states.specs.States.{Played, Makes, Skips, Would}
+use Rattle.message_wires.specs.Wires.{Sent, Wires, has_room, put_on, wires_after_post}
+use Rattle.message_wires.specs.Wires.{wires_after_posts, is_sending}
+use Rattle.message_wires.specs.Wires.{without_number, paid, without_packet, is_due, is_current}
+use Rattle.message_wires.specs.Wires.{put_again}
+use Rattle.message_wires.specs.Play.{MachineState, machine_at_boot, after_done, made_by, after_any}
+use Rattle.message_wires.specs.Play.{state_after_handing}
+use Rattle.message_wires.specs.Play.{is_admitted, deliver_played, lose_played, repeat_played}
+use Rattle.message_wires.specs.Play.{stop_played, fail_played}
+use Rattle.message_wires.specs.Play.{reload_played, noted_by, notes_from, state_after_tick}
+use Rattle.message_wires.specs.Play.{tick_played, packet_at}
+use Rattle.message_wires.specs.Play.{play}
+use Rattle.message_wires.specs.Runs.{IsPlayed, played_none, played_more, skipped}
 use Rattle.gd_words.specs.Ranges.{HasNext}
-use Rattle.number_ranges.specs.HasRoom.{CopyHasRoom, TerminalHasRoom, HasRoom}
+use Rattle.message_wires.specs.HasRoom.{CopyHasRoom, TerminalHasRoom, HasRoom}
 use Rattle.number_laws.proofs.Each.{Each, each-all, each-more, each-get, each-append, each-map, each-always}
 use Rattle.number_laws.proofs.Each.{each-filter, each-remove}
 use Rattle.number_laws.proofs.Boot.{boot-core}
@@ -46,7 +46,7 @@ use Rattle.number_laws.proofs.Runs.{run-within}
 use Rattle.number_laws.proofs.Hands.{handed-within, enter-within}
 use Rattle.number_laws.proofs.Marks.{AnyWatchersWithin, stop-within, mark-within, mark-watchers, again-within}
 use Rattle.number_laws.proofs.Reloads.{AreKinds, reload-within}
-use Rattle.number_ranges.specs.machine_states.proofs.Turning.{drive-cases}
+use Rattle.message_wires.specs.machine_states.proofs.Turning.{drive-cases}
 
 -- Wires
 

@@ -13,25 +13,25 @@ use Rattle.world_semantics.specs.Messages.{Asking, Sending}
 use Rattle.world_semantics.specs.Running.{Done}
 use Rattle.world_semantics.specs.World.{World, is_running}
 use Rattle.computed_changes.specs.Stopped.{down_done}
-use Rattle.number_ranges.specs.letters.specs.Routes.{Letter, receiver_of, letters_of}
-use Rattle.number_ranges.specs.letters.specs.Again.{sent_again}
-use Rattle.number_ranges.specs.machine_states.specs.States.{Played, Makes, Skips, Would}
-use Rattle.number_ranges.specs.message_wires.specs.Wires.{Sent, Wires, has_room, put_on, wires_after_post}
-use Rattle.number_ranges.specs.message_wires.specs.Wires.{wires_after_posts, is_sending}
-use Rattle.number_ranges.specs.message_wires.specs.Wires.{without_number, paid, without_packet, is_due, is_current}
-use Rattle.number_ranges.specs.message_wires.specs.Wires.{put_again}
-use Rattle.number_ranges.specs.message_wires.specs.Play.{MachineState, after_done, made_by, after_any}
-use Rattle.number_ranges.specs.message_wires.specs.Play.{state_after_handing, is_admitted}
-use Rattle.number_ranges.specs.message_wires.specs.Play.{deliver_played, lose_played, repeat_played, stop_played}
-use Rattle.number_ranges.specs.message_wires.specs.Play.{fail_played}
-use Rattle.number_ranges.specs.message_wires.specs.Play.{reload_played, noted_by, notes_from, state_after_tick}
-use Rattle.number_ranges.specs.message_wires.specs.Play.{tick_played, packet_at}
-use Rattle.number_ranges.specs.message_wires.specs.Play.{play}
-use Rattle.number_ranges.specs.message_wires.specs.Runs.{IsPlayed, played_none, played_more, skipped}
+use Rattle.message_wires.specs.letters.specs.Routes.{Letter, receiver_of, letters_of}
+use Rattle.message_wires.specs.letters.specs.Again.{sent_again}
+use Rattle.message_wires.specs.machine_states.specs.States.{Played, Makes, Skips, Would}
+use Rattle.message_wires.specs.Wires.{Sent, Wires, has_room, put_on, wires_after_post}
+use Rattle.message_wires.specs.Wires.{wires_after_posts, is_sending}
+use Rattle.message_wires.specs.Wires.{without_number, paid, without_packet, is_due, is_current}
+use Rattle.message_wires.specs.Wires.{put_again}
+use Rattle.message_wires.specs.Play.{MachineState, after_done, made_by, after_any}
+use Rattle.message_wires.specs.Play.{state_after_handing, is_admitted}
+use Rattle.message_wires.specs.Play.{deliver_played, lose_played, repeat_played, stop_played}
+use Rattle.message_wires.specs.Play.{fail_played}
+use Rattle.message_wires.specs.Play.{reload_played, noted_by, notes_from, state_after_tick}
+use Rattle.message_wires.specs.Play.{tick_played, packet_at}
+use Rattle.message_wires.specs.Play.{play}
+use Rattle.message_wires.specs.Runs.{IsPlayed, played_none, played_more, skipped}
 use Rattle.number_laws.proofs.Each.{Each, each-get, each-append, each-filter, each-remove}
 use Rattle.number_laws.proofs.Openers.{Names, AreNaming, AnyNames, run-named, enter-named, handed-named, stop-named}
 use Rattle.number_laws.proofs.Openers.{mark-named, again-named}
-use Rattle.number_ranges.specs.machine_states.proofs.Turning.{drive-cases}
+use Rattle.message_wires.specs.machine_states.proofs.Turning.{drive-cases}
 
 -- Wires
 

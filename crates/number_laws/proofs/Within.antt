@@ -17,7 +17,7 @@ use Rattle.world_semantics.specs.declared.which.Which.{Which}
 use Rattle.world_semantics.specs.declared.which.Which.TheVariants.{First, Second}
 use Rattle.world_semantics.specs.World.{Copy, Pair, Terminal, World, copy_of, with_copy}
 use Rattle.world_semantics.proofs.Lists.{some-same}
-use Rattle.number_ranges.specs.message_wires.specs.Wires.{Sent, Wires}
+use Rattle.message_wires.specs.Wires.{Sent, Wires}
 use Rattle.number_laws.proofs.Each.{Each, each-more}
 
 -- Cores, copies and processes

@@ -1,3 +1,2 @@
-pub use Rattle.number_ranges.specs.message_wires
-pub use Rattle.number_ranges
-pub use Rattle.number_ranges.specs.machine_states
+pub use Rattle.message_wires
+pub use Rattle.message_wires.specs.machine_states

@@ -3,14 +3,14 @@ ghost use Rattle.gd_words.specs.Members.{IsAmong};
 ghost use Rattle.gd_words.specs.declared.message.Request.{Request};
 ghost use Rattle.tal_tree.specs.declared.site.Site.{Site};
 ghost use Rattle.schedule.specs.declared.event.Event.{Event};
-ghost use Rattle.number_ranges.specs.message_wires.specs.Play.{MachineState, noted_by, notes_from};
+ghost use Rattle.message_wires.specs.Play.{MachineState, noted_by, notes_from};
 ghost use Rattle.world_semantics.specs.Running.{Done};
-ghost use Rattle.number_ranges.specs.message_wires.specs.Runs.{IsPlayed};
-ghost use Rattle.number_ranges.specs.message_wires.specs.Wires.{Sent};
+ghost use Rattle.message_wires.specs.Runs.{IsPlayed};
+ghost use Rattle.message_wires.specs.Wires.{Sent};
 ghost use Rattle.plain_semantics.specs.Openers.{openers_of};
 ghost use Rattle.plain_semantics.specs.SiteLimits.{KeepsSiteLimits};
 ghost use Rattle.world_semantics.specs.Messages.{Asking};
-ghost use Rattle.number_ranges.specs.HasRoom.{HasRoom, HasRoomForLetters};
+ghost use Rattle.message_wires.specs.HasRoom.{HasRoom, HasRoomForLetters};
 
 /// After fewer than 4,294,967,294 events each number has a successor. Request numbers begin with 1, so after so many
 /// events the next one on a file is at most one more; the other numbers are at most as many as the events.

@@ -35,7 +35,7 @@ use Rattle.packets_played.specs.letter_laws.proofs.Given.{letter-from}
 use Rattle.packets_played.specs.letter_laws.proofs.Honest.{played-honest}
 use Rattle.number_laws.specs.message_wires.specs.Play.{machine_at_boot}
 use Rattle.number_laws.specs.message_wires.specs.Runs as whole
-use Rattle.number_laws.specs.number_ranges.specs.HasRoom.{CopyHasRoom, TerminalHasRoom, WorldHasRoom}
+use Rattle.number_laws.specs.message_wires.specs.HasRoom.{CopyHasRoom, TerminalHasRoom, WorldHasRoom}
 use Rattle.number_laws.proofs.Each.{Each, each-all, each-append, each-more}
 use Rattle.number_laws.proofs.Hands.{enter-within, handed-within}
 use Rattle.number_laws.proofs.Marks.{AnyWatchersWithin, again-within, mark-watchers, mark-within, stop-watchers}

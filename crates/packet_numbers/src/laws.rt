@@ -4,7 +4,7 @@ ghost use Rattle.tal_tree.specs.declared.site.Site.{Site};
 ghost use Rattle.schedule.specs.declared.event.Event.{Event};
 ghost use Rattle.plain_semantics.specs.SiteLimits.{KeepsSiteLimits};
 ghost use Rattle.packets_played.specs.accepted_sites.specs.Premises.{IsAcceptedSite};
-ghost use Rattle.number_laws.specs.number_ranges.specs.HasRoom.{WorldHasRoom};
+ghost use Rattle.number_laws.specs.message_wires.specs.HasRoom.{WorldHasRoom};
 ghost use Rattle.computed_changes.specs.Laws.{HasCopiesApart};
 ghost use Rattle.packets_played.specs.takeover_laws.specs.Fit.{IsFit};
 ghost use Rattle.packets_played.specs.awaited_requests.specs.Seats.{IsLaidOut};

@@ -15,7 +15,7 @@ use Rattle.message_wires.specs.Play.{MachineState, made_by, noted_by, notes_from
 use Rattle.message_wires.specs.Wires.{Wires, wires_after_posts, wires_after_post}
 use Rattle.number_laws.proofs.Counts.{downs-grow}
 use Rattle.gd_words.specs.Ranges.{HasNextLong}
-use Rattle.number_laws.specs.number_ranges.specs.HasRoom.{HasRoom, HasRoomForLetters}
+use Rattle.number_laws.specs.message_wires.specs.HasRoom.{HasRoom, HasRoomForLetters}
 use Rattle.world_copies.specs.Room.{AllWatchersHaveRoom}
 use Rattle.world_copies.specs.Told.{sent_in}
 use Rattle.world_copies.proofs.Room.{all-marked-room}

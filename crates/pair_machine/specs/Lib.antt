@@ -4,7 +4,6 @@ pub mod Told
 pub use Rattle.world_copies.specs.node_copies
 pub use Rattle.number_laws
 pub use Rattle.world_copies.specs.process_copies
-pub use Rattle.number_laws.specs.number_ranges
 pub use Rattle.world_copies
 pub use Rattle.message_wires.specs.computed_changes
 pub use Rattle.message_wires.specs.letters

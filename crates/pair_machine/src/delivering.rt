@@ -1,7 +1,7 @@
 ghost use Rattle.std.specs.Prelude.{◌≡◌, ◌&&◌, IfOk, OnOk};
 ghost use Rattle.message_wires.specs.computed_changes.specs.Handed.{handed_done};
 ghost use Rattle.machine_states.specs.States.{Settles};
-ghost use Rattle.number_laws.specs.number_ranges.specs.HasRoom.{HasRoom};
+ghost use Rattle.number_laws.specs.message_wires.specs.HasRoom.{HasRoom};
 ghost use Rattle.message_wires.specs.Play.{after_any, deliver_played, is_admitted, lose_played, packet_at};
 ghost use Rattle.message_wires.specs.Play.{state_after_receiving, repeat_played};
 ghost use Rattle.message_wires.specs.Wires.{is_current};

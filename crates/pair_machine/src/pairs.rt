@@ -4,7 +4,7 @@ ghost use Rattle.world_semantics.specs.Kept.{acts_of};
 ghost use Rattle.world_copies.specs.node_copies.specs.ShownCounts.{replies_in, writes_in};
 ghost use Rattle.message_wires.specs.Idle.{is_idle};
 ghost use Rattle.message_wires.specs.Play.{play, machine_at_boot};
-ghost use Rattle.number_laws.specs.number_ranges.specs.HasRoom.{HasRoom, HasRoomForLetters};
+ghost use Rattle.number_laws.specs.message_wires.specs.HasRoom.{HasRoom, HasRoomForLetters};
 ghost use Rattle.world_copies.specs.process_copies.specs.Starting.{IsStartable};
 ghost use Rattle.world_copies.specs.Seen.{ArePlaced, pairs_in};
 ghost use Rattle.pair_machine.specs.Room.{OpenersAreThere};

@@ -3,7 +3,7 @@ ghost use Rattle.machine_states.specs.States.{Settles};
 ghost use Rattle.message_wires.specs.computed_changes.specs.Stopped.{reload_done};
 ghost use Rattle.message_wires.specs.Play.{reload_played};
 ghost use Rattle.message_wires.specs.Wires.{wires_after_reload};
-ghost use Rattle.number_laws.specs.number_ranges.specs.HasRoom.{HasRoom};
+ghost use Rattle.number_laws.specs.message_wires.specs.HasRoom.{HasRoom};
 ghost use Rattle.pair_machine.specs.Told.{unsent};
 
 use crate::whole::MachineParts;

@@ -2,7 +2,7 @@ ghost use Rattle.std.specs.Prelude.{◌≡◌, IfOk, OnOk};
 ghost use Rattle.message_wires.specs.computed_changes.specs.Entered.{enter_done};
 ghost use Rattle.machine_states.specs.States.{Settles};
 ghost use Rattle.message_wires.specs.Play.{made_by};
-ghost use Rattle.number_laws.specs.number_ranges.specs.HasRoom.{HasRoom};
+ghost use Rattle.number_laws.specs.message_wires.specs.HasRoom.{HasRoom};
 ghost use Rattle.world_semantics.specs.Running.{run_done};
 ghost use Rattle.world_copies.specs.node_copies.specs.Seen.{step_sendings};
 ghost use Rattle.world_copies.specs.Told.{sent_in};

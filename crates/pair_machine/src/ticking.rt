@@ -2,7 +2,7 @@ ghost use Rattle.std.specs.Prelude.{◌≡◌, ◌++◌, IfOk, OnOk, length};
 ghost use Rattle.machine_states.specs.States.{Settles};
 ghost use Rattle.message_wires.specs.computed_changes.specs.Stopped.{down_done, world_at_down};
 ghost use Rattle.message_wires.specs.letters.specs.Again.{sent_again};
-ghost use Rattle.number_laws.specs.number_ranges.specs.HasRoom.{HasRoom};
+ghost use Rattle.number_laws.specs.message_wires.specs.HasRoom.{HasRoom};
 ghost use Rattle.message_wires.specs.Play.{after_noted, noted_by, notes_from, tick_played};
 ghost use Rattle.message_wires.specs.Wires.{paid_between, wires_again};
 ghost use Rattle.world_copies.specs.Room.{AllWatchersHaveRoom};

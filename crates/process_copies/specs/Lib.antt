@@ -9,7 +9,6 @@ pub use Rattle.disc_device
 pub use Rattle.node_copies.specs.machine_states
 pub use Rattle.node_copies.specs.message_wires
 pub use Rattle.node_copies
-pub use Rattle.node_copies.specs.number_ranges
 pub use Rattle.node_copies.specs.processes
 pub use Rattle.node_copies.specs.change_layout
 pub use Rattle.node_copies.specs.computed_changes

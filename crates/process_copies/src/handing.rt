@@ -5,7 +5,7 @@ ghost use Rattle.node_copies.specs.file_calls.specs.Queue.{sent_again};
 ghost use Rattle.plain_semantics.specs.Openers.{openers_of};
 ghost use Rattle.world_semantics.specs.checkpoint_image.specs.Receive.{repeated};
 ghost use Rattle.world_semantics.specs.Shares.{covered_count, share_of, with_share};
-ghost use Rattle.node_copies.specs.number_ranges.specs.HasRoom.{CopyHasRoom, PairHasRoom};
+ghost use Rattle.node_copies.specs.message_wires.specs.HasRoom.{CopyHasRoom, PairHasRoom};
 ghost use Rattle.node_copies.specs.sendings.specs.Seen.{message_of};
 ghost use Rattle.world_semantics.specs.World.{copy_of, other_of};
 ghost use Rattle.world_semantics.specs.Messages.{Replying, Taking, sent_at};

@@ -4,7 +4,7 @@
 //! with messages. The layer above uses that each call makes of the process and the records what the world of copies
 //! computes for one process: the step where it runs (`world_semantics`), that of a message that comes
 //! (`computed_changes`), and what its definitions say of stops, marks and reloads. What may raise numbers requires that
-//! they have successors (`number_ranges`). A request that comes in must name an opener that is there.
+//! they have successors (`HasRoom` of `message_wires`). A request that comes in must name an opener that is there.
 #![tactic(auto)]
 
 mod asking_again;

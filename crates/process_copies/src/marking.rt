@@ -4,7 +4,7 @@ ghost use Rattle.world_semantics.specs.World.{copy_of, other_of};
 ghost use Rattle.world_semantics.specs.Rules.{after_takeover, pair_after_down, pair_at_down, renewals_ended};
 ghost use Rattle.world_semantics.specs.Rules.{stopped_pair, taken_over, taker, takes_over, told_again, told_at_down};
 ghost use Rattle.world_semantics.specs.Shares.{closed_by};
-ghost use Rattle.node_copies.specs.number_ranges.specs.HasRoom.{CopyHasRoom};
+ghost use Rattle.node_copies.specs.message_wires.specs.HasRoom.{CopyHasRoom};
 ghost use Rattle.process_copies.specs.Receiving.{placed_with};
 ghost use Rattle.world_semantics.specs.Shares.{let_go};
 

@@ -2,7 +2,7 @@ ghost use Rattle.std.specs.Prelude.{◌≡◌, ◌<◌, length, IfOk, None, Some
 ghost use Rattle.std.specs.Option.{IfSome};
 ghost use Rattle.gd_words.specs.Ranges.{HasNext};
 ghost use Rattle.node_copies.specs.computed_changes.specs.Fitting.{depths_of};
-ghost use Rattle.node_copies.specs.number_ranges.specs.HasRoom.{PairHasRoom};
+ghost use Rattle.node_copies.specs.message_wires.specs.HasRoom.{PairHasRoom};
 ghost use Rattle.process_copies.specs.Reloading.{blank_after, blanks_by, blanks_of};
 ghost use Rattle.process_copies.specs.Reloading.{pair_with_blanks, placed_reloaded};
 ghost use Rattle.process_copies.specs.Starting.{IsStartable};

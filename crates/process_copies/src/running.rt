@@ -2,7 +2,7 @@ ghost use Rattle.std.specs.Prelude.{◌≡◌, List, Some, false, length, not, t
 ghost use Rattle.process_semantics.specs.Process.{point};
 ghost use Rattle.world_semantics.specs.World.{Down, copy_of, has_noted, may_pass, other_of};
 ghost use Rattle.gd_words.specs.Ranges.{HasNext};
-ghost use Rattle.node_copies.specs.number_ranges.specs.HasRoom.{CopyHasRoom, PairHasRoom};
+ghost use Rattle.node_copies.specs.message_wires.specs.HasRoom.{CopyHasRoom, PairHasRoom};
 ghost use Rattle.world_semantics.specs.Records as happened;
 ghost use Rattle.node_copies.specs.Seen.{step_sendings};
 ghost use Rattle.process_copies.specs.Acting.{HasStepped, step_by_act};

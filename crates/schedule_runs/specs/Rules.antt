@@ -2,7 +2,7 @@
 use Rattle.pair_machine.specs.message_wires.specs.Idle.{is_idle}
 use Rattle.pair_machine.specs.message_wires.specs.Play.{MachineState, play}
 use Rattle.pair_machine.specs.message_wires.specs.Wires.{Wires}
-use Rattle.pair_machine.specs.number_ranges.specs.HasRoom.{HasRoom, HasRoomForLetters}
+use Rattle.pair_machine.specs.message_wires.specs.HasRoom.{HasRoom, HasRoomForLetters}
 use Rattle.pair_machine.specs.Room.{OpenersAreThere}
 use Rattle.pair_machine.specs.Seen.{closed_state}
 use Rattle.schedule_loop.specs.Rules.{Rules}

@@ -12,7 +12,7 @@ use Rattle.node.specs.computed_changes.specs.Stopped.{stopped_world}
 use Rattle.node.specs.machine_states.specs.States.{Settles, Skips}
 use Rattle.node.specs.machine_states.specs.declared.effect.Effect.{Effect}
 use Rattle.node.specs.machine_states.specs.declared.effect.Effect.TheVariants as effect
-use Rattle.open_links.specs.world_copies.specs.number_ranges.specs.HasRoom.{CopyHasRoom}
+use Rattle.open_links.specs.world_copies.specs.message_wires.specs.HasRoom.{CopyHasRoom}
 use Rattle.node.specs.packet_wires.specs.Lines.{line_pulled}
 use Rattle.node.specs.packet_wires.specs.Play.{Packeted, ended, line_of, marks_and_declares, over, pulled, pulls}
 use Rattle.node.specs.packet_wires.specs.Play.{pulled_running, pulls_its}

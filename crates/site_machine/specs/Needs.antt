@@ -19,7 +19,7 @@ use Rattle.node.specs.packet_wires.specs.Parcels.{form_of}
 use Rattle.node.specs.packet_wires.specs.Nodes.{Node}
 use Rattle.node.specs.event_parts.specs.Numbers.{CanPush}
 use Rattle.node.specs.packet_wires.specs.Play.{Packeted}
-use Rattle.open_links.specs.world_copies.specs.number_ranges.specs.HasRoom.{WorldHasRoom}
+use Rattle.open_links.specs.world_copies.specs.message_wires.specs.HasRoom.{WorldHasRoom}
 
 -- a message that is sent in this world keeps to the layout, whole and in the form in which it goes
 abbrev pub IsSentWithin : World → Message → Type 0

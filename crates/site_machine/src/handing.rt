@@ -7,7 +7,7 @@ ghost use Rattle.node.specs.packet_wires.specs.message_layout.specs.Messages.{Ca
 ghost use Rattle.node.specs.packet_wires.specs.message_layout.specs.Reading.{if_known, node_message_in};
 ghost use Rattle.node.specs.message_words.specs.Seen as seen;
 ghost use Rattle.open_links.specs.world_copies.specs.node_copies.specs.Seen.{step_sendings};
-ghost use Rattle.open_links.specs.world_copies.specs.number_ranges.specs.HasRoom.{WorldHasRoom};
+ghost use Rattle.open_links.specs.world_copies.specs.message_wires.specs.HasRoom.{WorldHasRoom};
 ghost use Rattle.node.specs.packet_wires.specs.Play.{handed, handed_any, handed_words};
 ghost use Rattle.open_links.specs.sendings.specs.Seen.{message_of};
 ghost use Rattle.open_links.specs.world_copies.specs.Room.{NamesItsOpener};

@@ -4,7 +4,7 @@ ghost use Rattle.node.specs.computed_changes.specs.Stopped.{reload_done};
 ghost use Rattle.node.specs.machine_states.specs.States.{Settles};
 ghost use Rattle.node.specs.event_parts.specs.Numbers.{CanReload};
 ghost use Rattle.node.specs.event_parts.specs.Parts.{carried_out};
-ghost use Rattle.open_links.specs.world_copies.specs.number_ranges.specs.HasRoom.{WorldHasRoom};
+ghost use Rattle.open_links.specs.world_copies.specs.message_wires.specs.HasRoom.{WorldHasRoom};
 ghost use Rattle.node.specs.packet_wires.specs.Play.{play};
 ghost use Rattle.node.specs.packet_wires.specs.Wires.{loaded_again};
 ghost use Rattle.site_machine.specs.Needs.{IsReady};

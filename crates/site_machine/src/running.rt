@@ -4,7 +4,7 @@ ghost use Rattle.node.specs.computed_changes.specs.Entered.{enter_done};
 ghost use Rattle.node.specs.world_semantics.specs.Running.{run_done};
 ghost use Rattle.node.specs.machine_states.specs.States.{Settles};
 ghost use Rattle.open_links.specs.world_copies.specs.node_copies.specs.Seen.{step_sendings};
-ghost use Rattle.open_links.specs.world_copies.specs.number_ranges.specs.HasRoom.{WorldHasRoom};
+ghost use Rattle.open_links.specs.world_copies.specs.message_wires.specs.HasRoom.{WorldHasRoom};
 ghost use Rattle.node.specs.packet_wires.specs.Play.{play};
 ghost use Rattle.open_links.specs.world_copies.specs.Told.{sent_in};
 ghost use Rattle.site_machine.specs.Needs.{IsReady};

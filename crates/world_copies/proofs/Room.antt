@@ -6,7 +6,7 @@ use Rattle.world_semantics.specs.declared.which.Which.TheVariants.{First, Second
 use Rattle.world_semantics.specs.Rules.{pair_after_down, pair_at_down, renewals_ended, taker}
 use Rattle.world_semantics.specs.World.{Pair, World}
 use Rattle.world_semantics.proofs.Lists.{map-all, set-all}
-use Rattle.process_copies.specs.number_ranges.specs.HasRoom.{PairHasRoom, WorldHasRoom}
+use Rattle.process_copies.specs.message_wires.specs.HasRoom.{PairHasRoom, WorldHasRoom}
 use Rattle.process_copies.specs.Seen.{Placed}
 use Rattle.world_copies.specs.Room.{AllHaveRoom, AllWatchersHaveRoom, WatchersHaveRoom}
 use Rattle.world_copies.specs.Seen.{pairs_in}

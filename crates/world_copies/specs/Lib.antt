@@ -8,7 +8,7 @@ pub mod SiteWorld
 pub mod Starting
 pub mod Told
 pub use Rattle.process_copies.specs.node_copies
-pub use Rattle.process_copies.specs.number_ranges
+pub use Rattle.process_copies.specs.message_wires
 pub use Rattle.process_copies
 pub use Rattle.process_copies.specs.processes
 pub use Rattle.process_copies.specs.sendings

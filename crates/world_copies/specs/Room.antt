@@ -8,7 +8,7 @@ use Rattle.world_semantics.specs.declared.which.Which.{Which}
 use Rattle.world_semantics.specs.World.{Pair, copy_of}
 use Rattle.world_semantics.specs.Messages.{Message, Asking}
 use Rattle.process_copies.specs.computed_changes.specs.Laws.{NamesOpener}
-use Rattle.process_copies.specs.number_ranges.specs.HasRoom.{CopyHasRoom, PairHasRoom}
+use Rattle.process_copies.specs.message_wires.specs.HasRoom.{CopyHasRoom, PairHasRoom}
 
 -- of a process at a mark: each copy that watches has room, since only such a copy takes over. A copy that took over
 -- acts, and the other one keeps its numbers, so this lasts from one mark of a tick to the next

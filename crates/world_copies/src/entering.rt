@@ -2,7 +2,7 @@ ghost use Rattle.std.specs.Prelude.{◌≡◌, true, ◌∷◌, [], IfOk, OnOk};
 ghost use Rattle.std.specs.Option.{option_map};
 ghost use Rattle.process_copies.specs.computed_changes.specs.Entered.{enter_done, enter_where, entered_done};
 ghost use Rattle.gd_words.specs.Ranges.{HasNext};
-ghost use Rattle.process_copies.specs.number_ranges.specs.HasRoom.{WorldHasRoom};
+ghost use Rattle.process_copies.specs.message_wires.specs.HasRoom.{WorldHasRoom};
 ghost use Rattle.plain_semantics.specs.Machine.{next_request};
 ghost use Rattle.process_copies.specs.node_copies.specs.Seen.{step_sendings};
 ghost use Rattle.world_copies.specs.SiteWorld.{changed_by};

@@ -3,7 +3,7 @@ ghost use Rattle.std.specs.Option.{option_map};
 ghost use Rattle.process_copies.specs.computed_changes.specs.Changed.{change_done};
 ghost use Rattle.process_copies.specs.computed_changes.specs.Handed.{brought, handed_done, replied_done, replied_to};
 ghost use Rattle.process_copies.specs.computed_changes.specs.Laws.{NamesOpener};
-ghost use Rattle.process_copies.specs.number_ranges.specs.HasRoom.{WorldHasRoom};
+ghost use Rattle.process_copies.specs.message_wires.specs.HasRoom.{WorldHasRoom};
 ghost use Rattle.plain_semantics.specs.Openers.{openers_of};
 ghost use Rattle.process_copies.specs.sendings.specs.Seen.{message_of};
 ghost use Rattle.process_copies.specs.node_copies.specs.Seen.{step_sendings};

@@ -2,7 +2,7 @@ ghost use Rattle.std.specs.Prelude.{◌≡◌, ◌<◌, false, is_some, length, 
 ghost use Rattle.std.specs.Prelude.{IfOk, IsTrue, OnErr, OnOk};
 ghost use Rattle.process_copies.specs.computed_changes.specs.Stopped.{reload_counted, reload_done, reload_if};
 ghost use Rattle.process_copies.specs.computed_changes.specs.Stopped.{reloaded_world};
-ghost use Rattle.process_copies.specs.number_ranges.specs.HasRoom.{WorldHasRoom};
+ghost use Rattle.process_copies.specs.message_wires.specs.HasRoom.{WorldHasRoom};
 ghost use Rattle.process_copies.specs.Reloading.{blanks_of, placed_reloaded};
 ghost use Rattle.process_copies.specs.Starting.{IsStartable};
 ghost use Rattle.world_semantics.specs.Rules.{most_reloads, reloaded_from, without_downs};

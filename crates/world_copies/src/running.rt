@@ -1,6 +1,6 @@
 ghost use Rattle.std.specs.Prelude.{◌≡◌, IfOk, OnOk};
 ghost use Rattle.world_semantics.specs.Running.{run_done};
-ghost use Rattle.process_copies.specs.number_ranges.specs.HasRoom.{WorldHasRoom};
+ghost use Rattle.process_copies.specs.message_wires.specs.HasRoom.{WorldHasRoom};
 ghost use Rattle.process_copies.specs.node_copies.specs.Seen.{step_sendings};
 ghost use Rattle.world_copies.specs.SiteWorld.{changed_by};
 ghost use Rattle.world_copies.specs.Told.{sent_in};

@@ -1,6 +1,6 @@
 use Rattle.std.proofs.Common.{◌≡◌, ◌∙◌, ap, ap₂, arith, get_or, length, Some, slice_get, slice_set, subst, sym}
 use Rattle.std.proofs.lemmas.Option.{get_or_from_slice_get}
-use Rattle.process_copies.specs.number_ranges.specs.HasRoom.{PairHasRoom}
+use Rattle.process_copies.specs.message_wires.specs.HasRoom.{PairHasRoom}
 use Rattle.process_copies.specs.Reloading.{placed_reloaded}
 use Rattle.process_copies.specs.Seen.{Placed}
 use Rattle.world_copies.proofs.Reloads.{IsReloadedFrom, reload-next}

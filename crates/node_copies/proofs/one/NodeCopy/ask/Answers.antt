@@ -1,5 +1,5 @@
 use Rattle.std.proofs.Common.{◌≡◌, ◌∙◌, Option, ap, sym, rules}
-use Rattle.number_ranges.specs.plain_semantics.specs.declared.slot.Opener.{Opener}
+use Rattle.message_wires.specs.plain_semantics.specs.declared.slot.Opener.{Opener}
 use Rattle.process_semantics.specs.Process.{asked_file, asked_words}
 use Rattle.process_control.specs.declared.told.Asking.{Asking}
 use Rattle.kept_acts.specs.world_semantics.specs.Core.{next_on}

@@ -1,6 +1,6 @@
 use Rattle.std.proofs.Common.{ap, subst, sym}
 use Rattle.message_wires.specs.Play.{MachineState}
-use Rattle.number_laws.specs.number_ranges.specs.HasRoom.{WorldHasRoom}
+use Rattle.number_laws.specs.message_wires.specs.HasRoom.{WorldHasRoom}
 use Rattle.pair_machine.specs.Room.{OpenersAreThere}
 use Rattle.pair_machine.proofs.Room.{is-among}
 use Rattle.pair_machine.proofs.whole.MachineParts.deliver.Goals as goal

@@ -1,7 +1,7 @@
 use Rattle.std.proofs.Common.{◌≡◌, ◌∙◌, ℕ, Option, Some, ap, slice_get, refl, subst, subst₂, sym, arith}
 use Rattle.std.proofs.lemmas.Option.{slice_get_read}
 use Rattle.world_copies.specs.SiteWorld.{SiteWorld}
-use Rattle.process_copies.specs.number_ranges.specs.HasRoom.{WorldHasRoom}
+use Rattle.process_copies.specs.message_wires.specs.HasRoom.{WorldHasRoom}
 use Rattle.process_copies.specs.sendings.specs.Seen.{message_of}
 use Rattle.process_copies.specs.computed_changes.specs.Handed.{brought}
 use Rattle.world_semantics.specs.Running.{Done}

@@ -2,7 +2,7 @@ use Rattle.std.proofs.Common.{◌≡◌, Some, ap, slice_get, refl, subst, sym, 
 use Rattle.std.proofs.lemmas.Option.{slice_get_read}
 use Rattle.world_copies.specs.SiteWorld.{SiteWorld}
 use Rattle.world_semantics.specs.Running.{run_done}
-use Rattle.process_copies.specs.number_ranges.specs.HasRoom.{WorldHasRoom}
+use Rattle.process_copies.specs.message_wires.specs.HasRoom.{WorldHasRoom}
 use Rattle.world_copies.proofs.Places.{standing-set}
 use Rattle.world_copies.proofs.Room.{placed-room}
 use Rattle.world_copies.proofs.Steps.{IsFound, run-found, stands, tells}

@@ -3,13 +3,13 @@
 -- the count of letters 64. The ranges are our own.
 use Rattle.std.specs.Prelude.{◌≡◌, ◌<◌, ℕ, ◌^◌, length, slice_get, Some}
 use Rattle.std.specs.List.{All}
-use Rattle.message_wires.specs.gd_words.specs.Ranges.{HasNext, HasNextLong}
+use Rattle.tal_tree.specs.gd_words.specs.Ranges.{HasNext, HasNextLong}
 use Rattle.schedule.specs.declared.event.Event.{Event}
-use Rattle.message_wires.specs.checkpoint_image.specs.declared.receive.OpenerBlock.{OpenerBlock}
-use Rattle.message_wires.specs.checkpoint_image.specs.Behaving.{last_write_of}
-use Rattle.message_wires.specs.world_semantics.specs.declared.which.Which.{Which}
-use Rattle.message_wires.specs.world_semantics.specs.World.{Copy, Pair, Terminal, World, copy_of}
-use Rattle.message_wires.specs.machine_states.specs.States.{Makes}
+use Rattle.computed_changes.specs.checkpoint_image.specs.declared.receive.OpenerBlock.{OpenerBlock}
+use Rattle.computed_changes.specs.checkpoint_image.specs.Behaving.{last_write_of}
+use Rattle.computed_changes.specs.world_semantics.specs.declared.which.Which.{Which}
+use Rattle.computed_changes.specs.world_semantics.specs.World.{Copy, Pair, Terminal, World, copy_of}
+use Rattle.machine_states.specs.States.{Makes}
 use Rattle.message_wires.specs.Play.{MachineState, play}
 
 -- of a copy: the number of the next request on each file, the number last taken from each opener, that of a disc's last
