@@ -3,8 +3,8 @@ ghost use Rattle.node_copies.specs.ShownCounts.{replies_in, writes_in};
 
 use crate::shown::ShownLog;
 use gd_words::{NoMemory, Reply, Request};
-use ghost_logs::GhostLog;
 use kept_acts::KeptActs;
+use logs::GhostLog;
 use std::alloc::Global;
 use std::marker::Model;
 use tal_tree::{Act, Shown};

@@ -3,7 +3,7 @@ ghost use Rattle.gd_words.specs.Ranges.{HasNext};
 ghost use Rattle.node_copies.specs.ShownCounts.{is_write, replies_in, writes_in};
 
 use gd_words::NoMemory;
-use ghost_logs::Log;
+use logs::Log;
 use std::alloc::Global;
 use std::marker::Model;
 use tal_tree::Shown;

@@ -13,7 +13,7 @@ use crate::sent::SentCheckpoints;
 use crate::two::TwoCopies;
 use disc_device::{Disc, DriveState, Stored};
 use gd_words::List;
-use ghost_logs::GhostLog;
+use logs::GhostLog;
 use node_copies::{Address, NodeCopy};
 use process_semantics::Point;
 use std::marker::Model;

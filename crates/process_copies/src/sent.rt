@@ -3,8 +3,7 @@ ghost use Rattle.std.specs.Option.{option_copied};
 ghost use Rattle.node_copies.specs.computed_changes.specs.Changed.{one_before};
 
 use gd_words::NoMemory;
-use ghost_logs::GhostLog;
-use logs::Shared;
+use logs::{GhostLog, Shared};
 use std::alloc::Global;
 use std::marker::Model;
 use std::mem;

@@ -17,7 +17,7 @@ use crate::sent::SentCheckpoints;
 use crate::two::TwoCopies;
 use disc_device::Disc;
 use gd_words::{List, NoMemory};
-use ghost_logs::GhostLog;
+use logs::GhostLog;
 use node_copies::{Address, NodeCopy};
 use plain_semantics::{Opener, files_of, opener_of, openers};
 use std::alloc::Global;

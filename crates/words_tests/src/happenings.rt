@@ -1,5 +1,4 @@
-use ghost_logs::GhostLog;
-use logs::{Log, Shared};
+use logs::{GhostLog, Log, Shared};
 use std::test::Fail;
 
 #[test]
