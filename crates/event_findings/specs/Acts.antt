@@ -3,6 +3,7 @@
 use Rattle.std.specs.Prelude.{ℕ, List, [], length, map, drop, reverse, if◌then◌else◌, slice_get, Option, Some}
 use Rattle.std.specs.Prelude.{None}
 use Rattle.std.specs.Option.{option_and_then, option_map}
+use Rattle.machine_views.specs.Views.{acting_in}
 use Rattle.plain_semantics.specs.Openers.{openers_of}
 use Rattle.schedule.specs.declared.event.Event.{Event}
 use Rattle.schedule.specs.declared.event.Event.TheVariants.{Run, Enter, Deliver, Lose, Repeat, Tick, Fail, Reload}
@@ -18,16 +19,10 @@ use Rattle.trace_lines.specs.declared.finding.Finding.{Finding}
 use Rattle.trace_lines.specs.declared.finding.Finding.TheVariants as finding
 use Rattle.world_semantics.specs.Kept.{acts_of}
 use Rattle.world_semantics.specs.Shares.{Share, share_of}
-use Rattle.world_semantics.specs.World.{Copy, Pair, World}
-use Rattle.event_findings.specs.Steps.{is_acting}
+use Rattle.world_semantics.specs.World.{World}
 use Rattle.event_findings.specs.declared.noting.Holding.{Holding}
 
 -- Before the event
-
-abbrev pub acting_in : Pair → Option Copy
-acting_in pair =
-    if is_acting pair.first.role then Some pair.first
-    else if is_acting pair.second.role then Some pair.second else None
 
 -- the share of the kept acts that the copy has which acts for a process
 abbrev pub share_at : World → ℕ → Option Share

@@ -1,5 +1,5 @@
 -- The step that a process made, by the views before it and after it.
-use Rattle.std.specs.Prelude.{ℕ, ◌==◌, Bool, true, false, if◌then◌else◌, List, [], ◌∷◌, slice_get, Option, Some, None}
+use Rattle.std.specs.Prelude.{ℕ, ◌==◌, Bool, false, if◌then◌else◌, List, [], ◌∷◌, slice_get, Option, Some, None}
 use Rattle.image_places.specs.Running.{next_in}
 use Rattle.machine_views.specs.declared.views.CopyView.{CopyView}
 use Rattle.process_semantics.specs.declared.point.Point.{Point}
@@ -11,8 +11,7 @@ use Rattle.tal_tree.specs.declared.site.ProcessSpec.{ProcessSpec}
 use Rattle.tal_tree.specs.declared.site.Site.{Site}
 use Rattle.trace_lines.specs.declared.finding.Finding.{Finding}
 use Rattle.trace_lines.specs.declared.finding.Finding.TheVariants as finding
-use Rattle.world_semantics.specs.declared.role.Role.{Role}
-use Rattle.world_semantics.specs.declared.role.Role.TheVariants as role
+use Rattle.world_semantics.specs.World.{is_acting}
 
 -- Statements
 
@@ -42,12 +41,6 @@ abbrev pub statement_of : Site → CopyView → Option ℕ
 statement_of site copy = statement_by (slice_get site.processes copy.process) copy
 
 -- Steps
-
-abbrev pub is_acting : Role → Bool
-is_acting role.Acting = true
-is_acting role.Watching = false
-is_acting role.Blank = false
-is_acting role.Gone = false
 
 -- whether a copy acts for this process
 abbrev pub acts_for : ℕ → CopyView → Bool

@@ -1,13 +1,13 @@
 ghost use Rattle.std.specs.Prelude.{◌≡◌, ◌++◌, drop, map, OnOk};
 ghost use Rattle.std.specs.Option.{option_copied, option_map};
+ghost use Rattle.machine_views.specs.Views.{acting_in};
 ghost use Rattle.world_semantics.specs.Shares.{share_of};
-ghost use Rattle.event_findings.specs.Acts.{acting_in, act_named, held_beyond, held_since, holding_at, holding_of};
+ghost use Rattle.event_findings.specs.Acts.{act_named, held_beyond, held_since, holding_at, holding_of};
 ghost use Rattle.event_findings.specs.Acts.{holds_back, keeps, kept_since, share_at};
 
 use crate::noting::Holding;
-use crate::steps::is_acting;
 use gd_words::{List, NoMemory};
-use machine_views::{CopyShare, Machine, ProcessCopies};
+use machine_views::{CopyShare, Machine, ProcessCopies, is_acting};
 use schedule::Event;
 use tal_tree::Act;
 use trace_lines::{ActName, Finding};

@@ -1,16 +1,15 @@
 ghost use Rattle.std.specs.Prelude.{◌≡◌, if◌then◌else◌};
 ghost use Rattle.std.specs.Option.{option_copied};
 ghost use Rattle.event_findings.specs.Steps as spec;
-ghost use Rattle.event_findings.specs.Steps.{acting_of, acts_for, checkpoint_step, elsewhere_step, is_acting, made};
+ghost use Rattle.event_findings.specs.Steps.{acting_of, acts_for, checkpoint_step, elsewhere_step, made};
 ghost use Rattle.event_findings.specs.Steps.{statement_at, statement_in, step_at};
 ghost use Rattle.process_semantics.specs.declared.point.Point.TheVariants as point;
 
 use image_places::next_in;
-use machine_views::CopyView;
+use machine_views::{CopyView, is_acting};
 use process_semantics::Point;
 use tal_tree::{Kind, Program, Site};
 use trace_lines::Finding;
-use world_semantics::Role;
 
 /// The step of a process between the copies before it and after it.
 pub(crate) fn step_found(
@@ -70,18 +69,6 @@ fn acts_for(process: u8, copy: &CopyView) -> bool
         is_acting(copy.role)
     } else {
         false
-    }
-}
-
-/// Whether a copy acts.
-pub(crate) fn is_acting(role: Role) -> bool
-    ensures { result ≡ is_acting role }
-{
-    match role {
-        Role::Acting => true,
-        Role::Watching => false,
-        Role::Blank => false,
-        Role::Gone => false,
     }
 }
 

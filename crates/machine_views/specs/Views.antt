@@ -12,7 +12,7 @@ use Rattle.process_semantics.specs.Process.{ProcessState, asked_file, point}
 use Rattle.site_machine.specs.processes.specs.Seen.{next_number_of}
 use Rattle.world_semantics.specs.Core.{Core, next_on}
 use Rattle.world_semantics.specs.World as world
-use Rattle.world_semantics.specs.World.{Copy, Pair, World, has_noted, terminal_node}
+use Rattle.world_semantics.specs.World.{Copy, Pair, World, has_noted, is_acting, terminal_node}
 use Rattle.machine_views.specs.declared.views.Awaited.{Awaited}
 use Rattle.machine_views.specs.declared.views.CopyView.{CopyView}
 use Rattle.machine_views.specs.declared.views.DownView.{DownView}
@@ -32,6 +32,14 @@ each_number give number (suc more) = give number ++ each_number give (number + 1
 abbrev pub each_at : {A B : Type 0} → (ℕ → A → List B) → ℕ → List A → List B
 each_at give place [] = []
 each_at give place (one ∷ rest) = give place one ++ each_at give (place + 1) rest
+
+-- Processes
+
+-- the copy of a process that acts, if one does
+abbrev pub acting_in : Pair → Option Copy
+acting_in pair =
+    if is_acting pair.first.role then Some pair.first
+    else if is_acting pair.second.role then Some pair.second else None
 
 -- Nodes
 

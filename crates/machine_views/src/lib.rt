@@ -20,4 +20,4 @@ pub use laws::{marks_are_told, stopped_processors_are_told};
 pub use process::image_of_everything;
 pub use site_machine::{CopyShare, Machine, Process, ProcessCopies, set_of};
 pub use telling::view;
-pub use views::{Awaited, CopyView, DownView, SectorView, TerminalView, View};
+pub use views::{Awaited, CopyView, DownView, SectorView, TerminalView, View, is_acting};

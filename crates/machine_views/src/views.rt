@@ -1,3 +1,6 @@
+ghost use Rattle.std.specs.Prelude.{◌≡◌};
+ghost use Rattle.world_semantics.specs.World.{is_acting};
+
 use checkpoint_image::{FileNumber, ReceiveBlock};
 use gd_words::{List, Request, Sector};
 use process_semantics::Point;
@@ -67,4 +70,16 @@ pub struct SectorView {
     pub sector: u8,
     pub words: Sector,
     pub number: u32,
+}
+
+/// Whether a copy acts.
+pub fn is_acting(role: Role) -> bool
+    ensures { result ≡ is_acting role }
+{
+    match role {
+        Role::Acting => true,
+        Role::Watching => false,
+        Role::Blank => false,
+        Role::Gone => false,
+    }
 }

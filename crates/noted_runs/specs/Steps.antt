@@ -1,8 +1,8 @@
 -- With which step each process ended, as it is noted over the steps of a run. Our own.
 use Rattle.std.specs.Option.{option_map, option_and_then}
-use Rattle.std.specs.Prelude.{ℕ, ℤ, Bool, true, false, if◌then◌else◌, List, [], slice_get, slice_set, Option, Some}
+use Rattle.std.specs.Prelude.{ℕ, ℤ, Bool, true, false, List, [], slice_get, slice_set, Option, Some}
 use Rattle.std.specs.Prelude.{None}
-use Rattle.machine_views.specs.Views.{image_of_everything}
+use Rattle.machine_views.specs.Views.{acting_in, image_of_everything}
 use Rattle.noted_rules.specs.Noted.{Noting}
 use Rattle.process_semantics.specs.Image.{image_of}
 use Rattle.process_semantics.specs.Process.{ProcessState, in_hand, point}
@@ -16,29 +16,15 @@ use Rattle.tal_tree.specs.declared.site.Kind.{Kind}
 use Rattle.tal_tree.specs.declared.site.Kind.TheVariants as kind
 use Rattle.tal_tree.specs.declared.site.ProcessSpec.{ProcessSpec}
 use Rattle.tal_tree.specs.declared.site.Site.{Site}
-use Rattle.world_semantics.specs.World.{Copy, Pair, World}
-use Rattle.world_semantics.specs.declared.role.Role.{Role}
-use Rattle.world_semantics.specs.declared.role.Role.TheVariants as role
+use Rattle.world_semantics.specs.World.{World}
 use Rattle.noted_runs.specs.declared.steps.Stood.{Stood}
 
 -- Where a process stands
 
-abbrev pub is_acting : Role → Bool
-is_acting role.Acting = true
-is_acting role.Watching = false
-is_acting role.Blank = false
-is_acting role.Gone = false
-
--- the copy of a process that acts, if one does
-abbrev pub acting_of : Pair → Option Copy
-acting_of pair =
-    if is_acting pair.first.role then Some pair.first
-    else if is_acting pair.second.role then Some pair.second else None
-
 -- the state of the process of a number, that of its copy that acts
 abbrev pub state_in : World → ℕ → Option ProcessState
 state_in w process =
-    option_map (λ copy. copy.core.state) (option_and_then acting_of (slice_get w.processes process))
+    option_map (λ copy. copy.core.state) (option_and_then acting_in (slice_get w.processes process))
 
 abbrev pub is_inner : Point → Bool
 is_inner point.Inner = true

@@ -1,19 +1,20 @@
 ghost use Rattle.std.specs.Prelude.{◌≡◌, Some, IfOk};
 ghost use Rattle.std.specs.Option.{option_copied, option_map};
+ghost use Rattle.machine_views.specs.Views.{acting_in};
 ghost use Rattle.machine_views.specs.processes.specs.Seen.{state_of};
 ghost use Rattle.program_ends.specs.Ends.{end_of_program};
-ghost use Rattle.noted_runs.specs.Steps.{acting_of, end_of_kind, end_of_spec, everything_at_end, has_ended};
-ghost use Rattle.noted_runs.specs.Steps.{is_acting, is_inner, stood_at, stood_by, with_end};
+ghost use Rattle.noted_runs.specs.Steps.{end_of_kind, end_of_spec, everything_at_end, has_ended};
+ghost use Rattle.noted_runs.specs.Steps.{is_inner, stood_at, stood_by, with_end};
 
 use checkpoint_image::{Behaviour, Listed};
 use gd_words::{List, NoMemory};
-use machine_views::{Process, image_of_everything};
+use machine_views::{Process, image_of_everything, is_acting};
 use noted_rules::ProcessCopies;
 use process_semantics::Point;
 use program_ends::{LastStep, end_of_program};
 use std::alloc::Global;
 use tal_tree::{Kind, ProcessSpec, Program};
-use world_semantics::{Role, Which};
+use world_semantics::Which;
 
 /// Where a process stood before a step inside it: the words of its image with nothing listed, and whether it had a
 /// request in hand.
@@ -26,7 +27,7 @@ pub struct Stood {
 /// The process of the copy that acts, if one does.
 pub(crate) fn acting_of(place: &ProcessCopies) -> Option<&Process>
     ensures { option_map state_of (option_copied result) ≡ option_map (λ copy. copy.core.state)
-        (acting_of place.now.pair) }
+        (acting_in place.now.pair) }
 {
     if is_acting(place.role(Which::First)) {
         return Some(place.copy(Which::First).control().behaviour());
@@ -35,17 +36,6 @@ pub(crate) fn acting_of(place: &ProcessCopies) -> Option<&Process>
         return Some(place.copy(Which::Second).control().behaviour());
     }
     None
-}
-
-fn is_acting(role: Role) -> bool
-    ensures { result ≡ is_acting role }
-{
-    match role {
-        Role::Acting => true,
-        Role::Watching => false,
-        Role::Blank => false,
-        Role::Gone => false,
-    }
 }
 
 /// Where a process stands, if its next step is inside it.
