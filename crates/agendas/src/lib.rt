@@ -1,8 +1,8 @@
 //! Where a schedule stands, which event is its next one, and what it means that a schedule was played, on whatever
 //! machine (`specs/Agendas.antt`). No code runs here.
 //!
-//! Below stands `player` with the events of one line. The layer above says what its machine counts, and what an event
-//! makes of it.
+//! Below stand `player` with the events of one line, and `tal_tree` with sites. The layer above says what its machine
+//! counts, and what an event makes of it.
 #![tactic(auto)]
 
 pub mod laws;

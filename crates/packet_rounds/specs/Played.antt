@@ -1,15 +1,10 @@
 -- What a schedule plays over packets.
-use Rattle.std.specs.Prelude.{◌≡◌, ◌⊎◌, Bool, true, false, List, length}
-use Rattle.tal_tree.specs.declared.site.Site.{Site}
+use Rattle.std.specs.Prelude.{◌≡◌, ◌⊎◌, Bool, true, false, List}
 use Rattle.schedule.specs.declared.event.Event.{Event}
-use Rattle.player.specs.declared.standing.Sizes.{Sizes}
+pub use Rattle.agendas.specs.Sizes.{sizes_of}
 use Rattle.packet_words.specs.declared.packet.Packet.{Packet}
 use Rattle.machine_states.specs.States.{Makes, Skips}
 use Rattle.packet_wires.specs.Play.{Packeted, IsClear, play}
-
-abbrev pub sizes_of : Site → Sizes
-sizes_of site =
-    record { processors = site.processors; processes = length site.processes; terminals = length site.terminals }
 
 -- events name bus Y by true
 abbrev pub buses_of : Packeted → Bool → List Packet

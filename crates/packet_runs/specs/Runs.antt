@@ -1,11 +1,11 @@
 -- The machine over packets, as a schedule is played on it.
-use Rattle.std.specs.Prelude.{ℕ, Bool, true, false, List, length, Option, Some, None}
+use Rattle.std.specs.Prelude.{ℕ, Bool, true, false, List, Option, Some, None}
 use Rattle.tal_tree.specs.declared.site.Site.{Site}
 use Rattle.schedule.specs.declared.event.Counts.{Counts}
 use Rattle.schedule.specs.declared.line.Line.{Line}
+pub use Rattle.agendas.specs.Sizes.{sizes_of}
 use Rattle.player.specs.Lines.{aimed}
 use Rattle.player.specs.declared.player.Player.{Player}
-use Rattle.player.specs.declared.standing.Sizes.{Sizes}
 use Rattle.player.specs.declared.stop.ProcessorStop.{ProcessorStop}
 use Rattle.site_machine.specs.node_copies.specs.ShownCounts.{replies_in, writes_in}
 use Rattle.packet_words.specs.declared.packet.Packet.{Packet}
@@ -17,10 +17,6 @@ use Rattle.site_machine.specs.packet_wires.specs.Wires.{Wires, bus_named}
 use Rattle.schedule_loop.specs.Ends.{Course}
 use Rattle.schedule_loop.specs.Rules.{Rules}
 use Rattle.site_machine.specs.Seen.{closed_state}
-
-abbrev pub sizes_of : Site → Sizes
-sizes_of site =
-    record { processors = site.processors; processes = length site.processes; terminals = length site.terminals }
 
 -- a schedule with a stop, from the beginning of a site
 abbrev pub course_on : Site → List Line → Option ProcessorStop → Course Wires

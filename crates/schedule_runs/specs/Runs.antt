@@ -5,9 +5,9 @@ use Rattle.tal_tree.specs.declared.site.Site.{Site}
 use Rattle.schedule.specs.declared.event.Counts.{Counts}
 use Rattle.schedule.specs.declared.event.Event.{Event}
 use Rattle.schedule.specs.declared.line.Line.{Line}
-use Rattle.player.specs.declared.standing.Sizes.{Sizes}
 use Rattle.player.specs.declared.stop.ProcessorStop.{ProcessorStop}
 pub use Rattle.agendas.specs.Agendas.{Agenda, Plan, PlaysOn, plays_none, plays_on}
+pub use Rattle.agendas.specs.Sizes.{sizes_of}
 pub use Rattle.agendas.specs.Agendas.{agenda_of, coming, planned_by, stopped_by, upcoming, upcoming_after}
 use Rattle.machine_states.specs.States.{Makes, Skips, Would, Harm}
 use Rattle.pair_machine.specs.message_wires.specs.Idle.{is_idle}
@@ -15,10 +15,6 @@ use Rattle.pair_machine.specs.message_wires.specs.Play.{MachineState, play, mach
 use Rattle.pair_machine.specs.node_copies.specs.ShownCounts.{replies_in, writes_in}
 
 -- What is counted before an event
-
-abbrev pub sizes_of : Site → Sizes
-sizes_of site =
-    record { processors = site.processors; processes = length site.processes; terminals = length site.terminals }
 
 -- the counts of a state: all packets are on bus X, and none is an alive one
 abbrev pub counts_of : MachineState → Counts
