@@ -1,12 +1,11 @@
 -- What the parts of this crate's code show.
-use Rattle.std.specs.Prelude.{ℕ, ◌+◌, List, [], ◌∷◌, slice_get, Option, Some, None}
+use Rattle.std.specs.Prelude.{ℕ, List, [], ◌∷◌, slice_get, Option, Some, None}
 use Rattle.gd_words.specs.declared.message.Request.{Request}
-use Rattle.tal_tree.specs.declared.program.FileUse.{FileUse}
 use Rattle.tal_tree.specs.declared.site.ProcessSpec.{ProcessSpec}
 use Rattle.tal_tree.specs.declared.site.Site.{Site}
-use Rattle.tal_tree.specs.declared.site.Who.TheVariants as who
 use Rattle.message_wires.specs.plain_semantics.specs.declared.slot.Opener.{Opener}
-use Rattle.message_wires.specs.plain_semantics.specs.Openers.{files_of, opener_of}
+pub use Rattle.message_wires.specs.plain_semantics.specs.OpenerRows.{file_row}
+use Rattle.message_wires.specs.plain_semantics.specs.Openers.{files_of}
 use Rattle.disc_device.specs.Sectors.{Stored}
 use Rattle.disc_device.specs.mirror.specs.Mirror.{DriveHeld, content}
 use Rattle.disc_device.specs.mirror.specs.States.{states_of}
@@ -52,12 +51,6 @@ sectors_on (Some drives) = content drives
 abbrev pub drives_on : Option (List DriveHeld) → List DriveState
 drives_on None = []
 drives_on (Some drives) = states_of drives
-
--- for each file of a process, from a number on, the opener that it is
-abbrev pub file_row : Site → ℕ → ℕ → List FileUse → List (Option Opener)
-file_row site process number [] = []
-file_row site process number (file ∷ files) =
-    opener_of site (who.File process number) ∷ file_row site process (number + 1) files
 
 abbrev pub files_by : Site → ℕ → Option ProcessSpec → List (Option Opener)
 files_by site process None = []

@@ -1,10 +1,7 @@
 -- What the parts of the world in code show.
-use Rattle.std.specs.Prelude.{◌≡◌, ℕ, ◌+◌, List, [], ◌∷◌, map, slice_get, Option, Some, None}
+use Rattle.std.specs.Prelude.{◌≡◌, ℕ, List, [], map, slice_get, Option, Some, None}
 use Rattle.tal_tree.specs.declared.site.Site.{Site}
-use Rattle.tal_tree.specs.declared.site.TerminalSpec.{TerminalSpec}
-use Rattle.tal_tree.specs.declared.site.Who.TheVariants as who
-use Rattle.plain_semantics.specs.declared.slot.Opener.{Opener}
-use Rattle.plain_semantics.specs.Openers.{opener_of}
+pub use Rattle.plain_semantics.specs.OpenerRows.{terminal_row}
 use Rattle.world_semantics.specs.World.{Pair}
 use Rattle.process_copies.specs.Seen.{Placed}
 use Rattle.process_copies.specs.disc_device.specs.Sectors.{Stored}
@@ -27,9 +24,3 @@ drives_in places = map (λ placed. placed.drives) places
 abbrev pub ArePlaced : Site → List Placed → Type 0
 ArePlaced site places = (number : ℕ) (placed : Placed) → slice_get places number ≡ Some placed
     → (placed.site ≡ site) × (placed.number ≡ number)
-
--- for each terminal, from a number on, the opener that it is
-abbrev pub terminal_row : Site → ℕ → List TerminalSpec → List (Option Opener)
-terminal_row site number [] = []
-terminal_row site number (terminal ∷ terminals) =
-    opener_of site (who.Terminal number) ∷ terminal_row site (number + 1) terminals
