@@ -4,11 +4,11 @@ use Rattle.std.specs.Prelude.{slice_get, Option, Some, None}
 use Rattle.std.specs.Fmt.{decimal}
 use Rattle.pair_findings.specs.advice.specs.declared.answer.Advice.{Advice}
 use Rattle.pair_findings.specs.advice.specs.declared.answer.Advised.{Advised}
+use Rattle.pair_findings.specs.advice.specs.reason_dues.specs.Amounts.{depth_in}
 use Rattle.path_semantics.specs.declared.reason.Reason.{Reason}
 use Rattle.path_semantics.specs.declared.reason.Reason.TheVariants.{Data, SyncBlock, Input, Depth}
 use Rattle.pair_findings.specs.statement_dues.specs.declared.checkpoints.NamedCheckpoint.{NamedCheckpoint}
 use Rattle.statement_lines.specs.Lines.{line_among}
-use Rattle.tal_tree.specs.declared.program.FileUse.{FileUse}
 use Rattle.tal_tree.specs.declared.program.Program.{Program}
 use Rattle.pair_findings.specs.declared.finding.PairFinding.{PairFinding}
 use Rattle.pair_findings.specs.declared.finding.Remedy.{Remedy}
@@ -49,10 +49,6 @@ lack_text start program named advised =
 abbrev pub lacks_text : ℕ → Program → List NamedCheckpoint → List Advised → List ℕ
 lacks_text start program checkpoints advised = flat_map (λ named. lack_text start program named advised) checkpoints
 
-abbrev pub depth_of : Option FileUse → ℕ
-depth_of None = 0
-depth_of (Some file) = file.depth
-
 abbrev pub kept_text : Program → ℕ → ℕ → List ℕ
 kept_text program file depth =
     codes "lacking: the OPEN of " ++ file_name program file ++ codes " has to keep " ++ decimal depth
@@ -61,7 +57,7 @@ kept_text program file depth =
 -- a file whose OPEN keeps fewer replies than this
 abbrev pub depth_text : Program → ℕ → ℕ → List ℕ
 depth_text program file depth =
-    if nat_le depth (depth_of (slice_get program.files file)) then [] else kept_text program file depth
+    if nat_le depth (depth_in (slice_get program.files file)) then [] else kept_text program file depth
 
 -- the files whose OPENs keep too few, of which the first has this number
 abbrev pub depths_text : Program → ℕ → List ℕ → List ℕ

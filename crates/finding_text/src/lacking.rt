@@ -1,6 +1,7 @@
 ghost use Rattle.std.specs.Prelude.{◌≡◌, ◌≤◌, ◌+◌, ◌++◌, length, OnOk};
 ghost use Rattle.std.specs.Option.{option_copied};
-ghost use Rattle.finding_text.specs.Lacking.{depth_of, depth_text, depths_text, kept_text, lack_text, lacks_text};
+ghost use Rattle.finding_text.specs.Lacking.{depth_text, depths_text, kept_text, lack_text, lacks_text};
+ghost use Rattle.pair_findings.specs.advice.specs.reason_dues.specs.Amounts.{depth_in};
 ghost use Rattle.finding_text.specs.Lacking.{lists_text, names_text, others_text, remedy_text, unmendable_text};
 ghost use Rattle.finding_text.specs.Lacking.{behind_text, call_line, deepest_text, lacking_line, last_line};
 ghost use Rattle.finding_text.specs.Lacking.{listed_text, unmended_text, whole_text};
@@ -192,14 +193,14 @@ fn put_depths(text: &mut List<u8>, program: &Program, depths: &[u8]) -> Result<(
 fn put_depth(text: &mut List<u8>, program: &Program, file: usize, depth: u8) -> Result<(), NoMemory>
     ensures { OnOk result (text.new ≡ text.old ++ depth_text program.now file depth) }
 {
-    if depth <= depth_of(program.files.get(file)) {
+    if depth <= depth_in(program.files.get(file)) {
         return Ok(());
     }
     put_kept(text, program, file, depth)
 }
 
-fn depth_of(file: Option<&FileUse>) -> u8
-    ensures { result ≡ depth_of (option_copied file.entry) }
+fn depth_in(file: Option<&FileUse>) -> u8
+    ensures { result ≡ depth_in (option_copied file.entry) }
 {
     match file {
         None => 0,
