@@ -1,14 +1,15 @@
 -- What the links of a node are for in a world of copies: the requests that wait at its copies, those that its acting
 -- copies have in hand, and those whose replies its acting copies and terminals await.
-use Rattle.std.specs.Prelude.{ℕ, ◌+◌, ◌==◌, if◌then◌else◌, List, [], ◌∷◌, ◌++◌, slice_get, Option, Some, None}
+use Rattle.std.specs.Prelude.{ℕ, ◌==◌, if◌then◌else◌, List, [], ◌∷◌, ◌++◌, slice_get, Option, Some, None}
 use Rattle.gd_words.specs.declared.message.Request.{Request}
 use Rattle.message_wires.specs.tal_tree.specs.declared.site.Site.{Site}
 use Rattle.message_wires.specs.checkpoint_image.specs.declared.receive.OpenerBlock.{OpenerBlock}
 use Rattle.message_wires.specs.checkpoint_image.specs.declared.receive.ReceiveBlock.{ReceiveBlock}
 use Rattle.message_wires.specs.world_semantics.specs.declared.role.Role.{Role}
 use Rattle.message_wires.specs.world_semantics.specs.declared.role.Role.TheVariants.{Gone}
-use Rattle.message_wires.specs.world_semantics.specs.World.{Copy, Pair, Terminal, World, terminal_node}
+use Rattle.message_wires.specs.world_semantics.specs.World.{Copy, World, terminal_node}
 use Rattle.message_wires.specs.letters.specs.Again.{awaited_by, awaited_from, if_acts_on}
+pub use Rattle.message_wires.specs.letters.specs.Again.{of_copies, of_terminals}
 use Rattle.standing_links.specs.Needs.{Name, Needs}
 
 -- Copies
@@ -40,18 +41,6 @@ in_hand_at node number copy =
 -- the request whose reply it awaits there
 abbrev pub awaited_at : Site → ℕ → ℕ → Copy → List Request
 awaited_at site node number copy = if_acts_on node copy.role copy.processor (awaited_by site number copy.core)
-
--- of both copies of each process, in the order of the deck
-abbrev pub of_copies : {A : Type 0} → (ℕ → Copy → List A) → ℕ → List Pair → List A
-of_copies f number [] = []
-of_copies f number (pair ∷ pairs) = f number pair.first ++ f number pair.second ++ of_copies f (number + 1) pairs
-
--- Terminals
-
--- of each terminal, in the order of the deck
-abbrev pub of_terminals : {A : Type 0} → (ℕ → Terminal → List A) → ℕ → List Terminal → List A
-of_terminals f number [] = []
-of_terminals f number (terminal ∷ terminals) = f number terminal ++ of_terminals f (number + 1) terminals
 
 -- Nodes
 
