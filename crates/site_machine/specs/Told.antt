@@ -1,19 +1,15 @@
 -- What becomes of the machine where something is done: first of the world, and then of the wires, to which what it
 -- sends is posted. Our own rule.
-use Rattle.std.specs.Prelude.{◌≡◌, ℕ, List, Option, Some, None}
+use Rattle.std.specs.Prelude.{ℕ, List, Option}
 use Rattle.node.specs.world_semantics.specs.Messages.{Sending}
-use Rattle.node.specs.world_semantics.specs.Running.{Done, world_after}
 use Rattle.node.specs.letters.specs.Routes.{letters_of}
+use Rattle.node.specs.machine_states.specs.Answered.{AnswersBy}
+pub use Rattle.node.specs.machine_states.specs.Answered.{unsent}
 use Rattle.node.specs.machine_states.specs.declared.effect.Effect.{Effect}
-use Rattle.node.specs.machine_states.specs.declared.effect.Effect.TheVariants as effect
 use Rattle.node.specs.packet_wires.specs.Parcels.{parcels_of}
 use Rattle.node.specs.packet_wires.specs.Play.{Packeted, Underway, underway, over}
 use Rattle.node.specs.packet_wires.specs.Wires.{all_posted, nothing_sent, ticked}
 use Rattle.node.specs.event_parts.specs.Parts.{carried_out}
-
--- the state after a change of its world, if one is made, where what that sends isn't posted yet
-abbrev pub unsent : Packeted → Option Done → Packeted
-unsent s done = record s { world = world_after s.world done }
 
 -- the state after these messages were sent, by its routes
 abbrev pub sent_all : List Sending → Packeted → Packeted
@@ -25,8 +21,7 @@ sent_all sendings s =
 
 -- the answer where nothing was done, and where something was done that sends this, and the state after that was posted
 abbrev pub Answers : Option (List Sending) → Packeted → Effect → Packeted → Type 0
-Answers None before answer after = (answer ≡ effect.Skipped) × (after ≡ before)
-Answers (Some sendings) before answer after = (answer ≡ effect.Done) × (after ≡ sent_all sendings before)
+Answers = AnswersBy sent_all
 
 -- the state after a part of an event that began with it
 abbrev pub after_part : (Underway → Underway) → Packeted → Packeted
