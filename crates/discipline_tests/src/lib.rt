@@ -2,8 +2,8 @@
 //! statements make due, the depth of calls, where the edges of a known graph lead, which programs are too deep or too
 //! large, the order of reasons, and the lists and depths that mend known programs.
 //!
-//! Below stand `path_semantics`, `flow_paths`, `discipline` and `advise`, which are tested, and `worked_programs`,
-//! which reads the texts; nothing stands above.
+//! Below stand `path_semantics`, `flow_paths`, `discipline` and `advice_search`, which are tested, and
+//! `worked_programs`, which reads the texts; nothing stands above.
 #![tactic(auto)]
 
 #[cfg(test)]

@@ -26,8 +26,8 @@ struct Sample {
     least: Option<&'static [u16]>,
 }
 
-/// The path to the CHECKPOINT of the second turn.
-const SECOND_TURN: &[u16] = &[1, 2, 3, 4, 5, 6, 7, 8, 9, 10, 11, 12, 13, 4, 5, 6, 7];
+/// The path to the CHECKPOINT of the second turn of the bank.
+pub(crate) const SECOND_TURN: &[u16] = &[1, 2, 3, 4, 5, 6, 7, 8, 9, 10, 11, 12, 13, 4, 5, 6, 7];
 
 const BANKS: [Sample; 11] = [
     Sample {

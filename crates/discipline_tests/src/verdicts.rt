@@ -1,3 +1,4 @@
+use crate::paths::SECOND_TURN;
 use discipline::{breaks, check, is_path};
 use path_semantics::{Reason, RefusalFault};
 use std::alloc::Global;
@@ -12,9 +13,6 @@ struct Sample {
     turn: &'static [u8],
     broken: Option<(Reason, &'static [u16])>,
 }
-
-/// The path to the CHECKPOINT of the second turn.
-const SECOND_TURN: &[u16] = &[1, 2, 3, 4, 5, 6, 7, 8, 9, 10, 11, 12, 13, 4, 5, 6, 7];
 
 const BANKS: [Sample; 7] = [
     Sample {
