@@ -1,5 +1,7 @@
+use crate::limits::SECTOR_WORDS;
+
 /// The 8 words of a disc's sector.
-pub type Sector = [i16; 8];
+pub type Sector = [i16; SECTOR_WORDS];
 
 /// What a process does to its disc device in one step.
 #[derive(Clone, Copy, PartialEq, Eq)]

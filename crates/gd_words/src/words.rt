@@ -1,12 +1,14 @@
 ghost use Rattle.std.specs.Prelude.{◌≡◌, ◌<◌, ◌≤◌, ◌↔◌, [], ◌∷◌, ◌++◌, length, slice_get, IsOk, OnOk, OnErr, IfErr};
+ghost use Rattle.gd_words.specs.declared.limits.TheConstants.{MOST_MESSAGE_WORDS};
 
+use crate::limits::MOST_MESSAGE_WORDS;
 use arrayvec::ArrayVec;
 use std::marker::Model;
 
 /// The words of a request or a reply: at most 16.
 #[derive(Drop)]
 pub struct Words {
-    items: ArrayVec<i16, 16>,
+    items: ArrayVec<i16, MOST_MESSAGE_WORDS>,
 }
 
 impl Model for Words {
@@ -29,7 +31,7 @@ impl Words {
 
     /// Puts one word after the last, or gives it back where 16 are there.
     pub fn push(&mut self, word: i16) -> Result<(), i16>
-        ensures room { IsOk result ↔ (length self.old < 16) }
+        ensures room { IsOk result ↔ (length self.old < MOST_MESSAGE_WORDS) }
         ensures ok { OnOk result (self.new ≡ self.old ++ word ∷ []) }
         ensures err { OnErr result (self.new ≡ self.old) }
         ensures back { IfErr result (λ back. back ≡ word) }
@@ -50,7 +52,7 @@ impl Words {
     /// How many words there are.
     pub fn len(&self) -> usize
         ensures value { result ≡ length self.now }
-        ensures few { result ≤ 16 }
+        ensures few { result ≤ MOST_MESSAGE_WORDS }
     {
         self.items.len()
     }
@@ -58,7 +60,7 @@ impl Words {
     /// All words, in order.
     pub fn as_slice(&self) -> &[i16]
         ensures value { result.now ≡ self.now }
-        ensures few { length result.now ≤ 16 }
+        ensures few { length result.now ≤ MOST_MESSAGE_WORDS }
     {
         self.items.as_slice()
     }
