@@ -20,8 +20,8 @@ pub use expression::{Cond, Expr, Op, Rel, Spot, Variable};
 pub use fault::{DeckFault, TalFault};
 pub use gd_words::ident::is_ident_sign;
 pub use gd_words::limits::{
-    MOST_FILES, MOST_LEVELS, MOST_LOCALS, MOST_PROCEDURES, MOST_PROCESSES, MOST_REQUESTS,
-    MOST_STATEMENTS, MOST_TERMINALS,
+    MOST_DEPTH, MOST_FILES, MOST_LEVELS, MOST_LOCALS, MOST_MESSAGE_WORDS, MOST_PROCEDURES,
+    MOST_PROCESSES, MOST_REQUESTS, MOST_STATEMENTS, MOST_TERMINALS,
 };
 pub use gd_words::{
     Boxed, DeviceCall, Ident, List, Name, NoMemory, Sector, Words, div_trunc, wrap_add, wrap_mul,
