@@ -20,6 +20,7 @@ use Rattle.tal_names.specs.Places.{constant_of, name_of_argument, arguments_of}
 use Rattle.tal_names.specs.Scopes.{meaning_of}
 use Rattle.tal_names.specs.Systems.{system_of}
 use Rattle.gd_words.specs.declared.limits.TheConstants.{MOST_FILES}
+use Rattle.gd_words.specs.declared.limits.TheConstants.{MOST_DEPTH}
 
 -- a procedure that is declared after a place isn't known there as a constant; this one and those before it are
 abbrev pub declared_before : ℕ → Option Meaning → Option Meaning
@@ -51,7 +52,7 @@ file_by (g.value e) item number = m.StrayFile item number
 -- a depth from 1 to 4; another one plays no part
 abbrev pub depth_of : Option ℤ → ℕ
 depth_of None = 1
-depth_of (Some value) = if int_le (pos 1) value && int_le value (pos 4) then cast_unsigned w16 value else 1
+depth_of (Some value) = if int_le (pos 1) value && int_le value (pos MOST_DEPTH) then cast_unsigned w16 value else 1
 
 -- with the variable that an OPEN names, where it isn't one by an OPEN before. Those past the limit have the number 8
 abbrev pub with_file : Files → List ℕ → ℕ → g.Argument → ℕ → Files

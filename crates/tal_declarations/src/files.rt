@@ -10,7 +10,7 @@ ghost use Rattle.tal_syntax.specs.Seen.{seen_row};
 
 use crate::globals::{atom_of, constant_value};
 use crate::table::Files;
-use gd_words::limits::MOST_FILES;
+use gd_words::limits::{MOST_DEPTH, MOST_FILES};
 use gd_words::{Ident, NoMemory};
 use tal_names::alone::{argument, argument_count, constant_of, name_of_argument};
 use tal_names::lookup::meaning_of;
@@ -106,7 +106,7 @@ fn depth_of(value: Option<i16>) -> u8
     match value {
         None => 1,
         Some(value) => {
-            if 1 <= value && value <= 4 {
+            if 1 <= value && value <= i16::from(MOST_DEPTH) {
                 value as u8
             } else {
                 1
