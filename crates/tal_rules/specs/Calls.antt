@@ -25,6 +25,7 @@ use Rattle.tal_names.specs.Places.{first_of_argument, name_of_argument, front_na
 use Rattle.tal_names.specs.Scopes.{meaning_of, name_faults}
 use Rattle.tal_syntax.specs.gd_words.specs.declared.limits.TheConstants.{MOST_FILES}
 use Rattle.tal_tree.specs.declared.limit.ProgramLimit.TheVariants as program_limit
+use Rattle.tal_syntax.specs.gd_words.specs.declared.limits.TheConstants.{MOST_DEPTH}
 
 -- a procedure is called with as many values as it has parameters, on a right side only where it gives a value, and only
 -- after its own declaration has ended
@@ -162,7 +163,7 @@ file_limit opened (Some a) = if_so (nat_le MOST_FILES opened)
 -- a depth is from 1 to 4, and 1 for `$RECEIVE`
 abbrev pub is_depth : Bool → ℤ → Bool
 is_depth true value = int_le (pos 1) value && int_le value (pos 1)
-is_depth false value = int_le (pos 1) value && int_le value (pos 4)
+is_depth false value = int_le (pos 1) value && int_le value (pos MOST_DEPTH)
 
 abbrev pub depth_limit : Bool → g.Argument → Option ℤ → List RuleFault
 depth_limit receive a None = []

@@ -29,7 +29,7 @@ use tal_names::place::at_of_argument;
 use tal_names::scope::{Named, Scope};
 use tal_names::system::System;
 use tal_syntax::{Argument, Arguments, At, Constant, Ident, NextArgument, NextValue, NoMemory};
-use tal_tree::{MOST_FILES, ProgramLimit};
+use tal_tree::{MOST_DEPTH, MOST_FILES, ProgramLimit};
 
 /// Judges a call of what a name stands for with so many arguments; `wants` where its value goes to a target.
 #[tactic(auto, using(crate::proofs::Parts::parts))]
@@ -427,7 +427,7 @@ fn is_depth(receive: bool, value: i16) -> bool
     if receive {
         1 <= value && value <= 1
     } else {
-        1 <= value && value <= 4
+        1 <= value && value <= i16::from(MOST_DEPTH)
     }
 }
 
