@@ -6,6 +6,7 @@ ghost use Rattle.tal_syntax.specs.Seen.{seen_procedures, seen_text};
 ghost use Rattle.tal_meaning.specs.Judged.{Judged};
 ghost use Rattle.tal_meaning.specs.Programs.{shape_by, items_with, texts_of, procedure_with, body_statements};
 ghost use Rattle.tal_meaning.specs.Programs.{tree_of_procedure, trees_of, program_by};
+ghost use Rattle.tal_tree.specs.gd_words.specs.declared.limits.TheConstants.{MOST_LOCALS};
 
 use crate::statement::{push_row, push_statement};
 use std::alloc::Global;
@@ -66,7 +67,7 @@ fn texts_of(alloc: Global, parameters: &[Named], inner: &[Named]) -> Result<List
 
 /// How many parameters a procedure has; those past the limit play no part.
 fn count_of(parameters: &[Named]) -> u8
-    ensures { result ≡ min 12 (length parameters.now) }
+    ensures { result ≡ min MOST_LOCALS (length parameters.now) }
 {
     parameters.len().min(MOST_LOCALS) as u8
 }
