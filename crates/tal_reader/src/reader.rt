@@ -3,6 +3,7 @@ ghost use Rattle.tal_builder.specs.tal_syntax.specs.Expected.{IsWithin};
 ghost use Rattle.tal_reader.specs.Reads.{Reads, IsRead, IsRefused, IsJudged};
 ghost use Rattle.tal_tree.specs.declared.fault.TalFault.{TalFault as Fault};
 ghost use Rattle.tal_tree.specs.declared.program.Program.{Program as Tree};
+ghost use Rattle.tal_tree.specs.gd_words.specs.declared.limits.TheConstants.{MOST_LEVELS};
 
 use crate::place::place_of;
 use std::alloc::Global;
@@ -32,7 +33,7 @@ pub fn read_program(alloc: Global, text: &[u8]) -> Result<Program, TalFault>
 
 /// The program of tokens that have a syntax, or the least of its faults.
 fn program_of(alloc: Global, tokens: &[Token]) -> Result<Program, TalFault>
-    requires { IsWithin 33 tokens.now }
+    requires { IsWithin MOST_LEVELS tokens.now }
     ensures { IsJudged tokens.now result }
 {
     match build(alloc, tokens) {
