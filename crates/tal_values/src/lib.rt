@@ -15,7 +15,7 @@ pub use condition::truth;
 pub use expression::{cell, value};
 pub use memory::{Cell, Memory};
 pub use tal_tree::{
-    DeviceCall, FileUse, Item, Kind, List, MOST_FILES, MOST_PROCESSES, MOST_REQUESTS,
-    MOST_TERMINALS, Name, NoMemory, OpenerSpec, ProcessSpec, Sector, Shape, Site, Statement,
-    Target, TerminalSpec, Variable, Who, Words,
+    DeviceCall, FileUse, Item, Kind, List, MOST_DEPTH, MOST_FILES, MOST_MESSAGE_WORDS,
+    MOST_PROCESSES, MOST_REQUESTS, MOST_TERMINALS, Name, NoMemory, OpenerSpec, ProcessSpec, Sector,
+    Shape, Site, Statement, Target, TerminalSpec, Variable, Who, Words,
 };
