@@ -7,6 +7,7 @@ use Rattle.tal_values.specs.gd_words.specs.declared.device.DeviceCall.{DeviceCal
 use Rattle.tal_values.specs.gd_words.specs.declared.device.DeviceCall.TheVariants.{Nothing, Read, Write}
 use Rattle.process_semantics.specs.declared.disc.DiscState.{DiscState}
 use Rattle.process_semantics.specs.declared.point.Point.TheVariants.{Take, Answer, AtCheckpoint, Device}
+use Rattle.tal_values.specs.gd_words.specs.declared.limits.TheConstants.{SECTOR_WORDS}
 
 -- a disc at its beginning
 abbrev pub disc_start : DiscState
@@ -19,7 +20,7 @@ sector_of sectors (negsuc n) = None
 
 -- words that fill a sector, zeros after them
 abbrev pub filled : List ℤ → List ℤ
-filled words = words ++ replicate (8 - length words) (pos 0)
+filled words = words ++ replicate (SECTOR_WORDS - length words) (pos 0)
 
 -- `1 s` reads the sector s, `2 s w1 .. wk` with one to eight words writes it; anything else does nothing
 abbrev pub call_at : ℕ → ℤ → List ℤ → Option ℕ → DeviceCall
@@ -27,7 +28,7 @@ call_at number kind words None = Nothing
 call_at number kind words (Some sector) =
     if int_eq kind (pos 1) && (length words == 0) then Read sector
     else if int_eq kind (pos 2) && nat_le 1 (length words)
-    && nat_le (length words) 8 then Write sector (filled words) number
+    && nat_le (length words) SECTOR_WORDS then Write sector (filled words) number
     else Nothing
 
 -- what the words of a request ask of the device, under the number that a write would have

@@ -17,6 +17,7 @@ use Rattle.tal_values.specs.tal_tree.specs.declared.statement.What.{CheckMonitor
 use Rattle.tal_values.specs.tal_tree.specs.declared.statement.What.{end_of-Statement}
 use Rattle.tal_values.specs.tal_tree.specs.declared.statement.What.{more_of-Statement}
 use Rattle.tal_values.specs.Value.{Memory, value_of}
+use Rattle.tal_values.specs.gd_words.specs.declared.limits.TheConstants.{MOST_MESSAGE_WORDS}
 
 -- what remains to be done in a procedure: a statement by its own number, which of an IF, a WHILE or a DO is its test;
 -- the test of a FOR; or the last assignment of a FOR
@@ -133,7 +134,7 @@ words_of globals item = unwrap_or (slice_get globals item) []
 
 -- a count of words of an array, from its value
 abbrev pub good_count : List ℤ → ℤ → Option ℕ
-good_count words (pos n) = if nat_le n (length words) && nat_le n 16 then Some n else None
+good_count words (pos n) = if nat_le n (length words) && nat_le n MOST_MESSAGE_WORDS then Some n else None
 good_count words (negsuc n) = None
 
 -- a count of words of an array; none where it traps: it has no value, is below 0, or is above 16 or the array's words

@@ -4,6 +4,7 @@ use Rattle.std.specs.Option.{option_and_then}
 use Rattle.std.specs.Prelude.{ℕ, ◌-◌, ℤ, pos, negsuc, if◌then◌else◌, nat_le, List, [], ◌∷◌, length, take, drop, Option}
 use Rattle.std.specs.Prelude.{Some, None, ◌+◌, ◌*◌, ◌/◌, ◌%◌}
 use Rattle.tal_values.specs.gd_words.specs.Arithmetic.{wrap}
+use Rattle.tal_values.specs.gd_words.specs.declared.limits.TheConstants.{MOST_MESSAGE_WORDS}
 
 -- a number of 32 bits: two words, the high half first, each as a pattern of 16 bits
 abbrev pub long : ℕ → List ℤ
@@ -50,4 +51,5 @@ long_in _ = None
 
 -- how many, at most 16, and the words
 abbrev pub counted_in : List ℤ → Front (List ℤ)
-counted_in words = option_and_then (λ (n, left). if nat_le n 16 then words_in n left else None) (count_in words)
+counted_in words =
+    option_and_then (λ (n, left). if nat_le n MOST_MESSAGE_WORDS then words_in n left else None) (count_in words)

@@ -24,8 +24,8 @@ pub use entry::{Entry, body_before, entry_number};
 pub use laws::what_remains_is_told;
 pub use point::Point;
 pub use tal_values::{
-    Cell, DeviceCall, FileUse, Kind, List, MOST_FILES, MOST_PROCESSES, MOST_REQUESTS,
-    MOST_TERMINALS, Memory, Name, NoMemory, OpenerSpec, ProcessSpec, Sector, Site, Target,
-    TerminalSpec, Who, Words,
+    Cell, DeviceCall, FileUse, Kind, List, MOST_DEPTH, MOST_FILES, MOST_MESSAGE_WORDS,
+    MOST_PROCESSES, MOST_REQUESTS, MOST_TERMINALS, Memory, Name, NoMemory, OpenerSpec, ProcessSpec,
+    Sector, Site, Target, TerminalSpec, Who, Words,
 };
 pub use variable::variable_cell;
