@@ -8,14 +8,16 @@ use Rattle.process_semantics.specs.declared.point.Point.{Point}
 use Rattle.process_semantics.specs.declared.point.Point.TheVariants.{Take, Answer, AtCheckpoint, Device}
 use Rattle.process_semantics.specs.Process.{ProcessState, Runs, Serves}
 use Rattle.whole_states.specs.Whole.{IsWhole}
+use Rattle.process_semantics.specs.gd_words.specs.declared.limits.TheConstants.{MOST_MESSAGE_WORDS}
 
 -- a disc at Take has neither request nor reply, at AtCheckpoint and at Device a request, and at Answer a reply too,
 -- which isn't empty
 abbrev pub IsDiscAt : Point → Option (List ℤ) → Option (List ℤ) → Type 0
 IsDiscAt Take None None = Unit {0}
-IsDiscAt AtCheckpoint (Some request) None = length request ≤ 16
-IsDiscAt Device (Some request) None = length request ≤ 16
-IsDiscAt Answer (Some request) (Some reply) = (length request ≤ 16) × ((1 ≤ length reply) × (length reply ≤ 16))
+IsDiscAt AtCheckpoint (Some request) None = length request ≤ MOST_MESSAGE_WORDS
+IsDiscAt Device (Some request) None = length request ≤ MOST_MESSAGE_WORDS
+IsDiscAt Answer (Some request) (Some reply) =
+    (length request ≤ MOST_MESSAGE_WORDS) × ((1 ≤ length reply) × (length reply ≤ MOST_MESSAGE_WORDS))
 IsDiscAt _ _ _ = ⊥
 
 -- a whole state of a disc: the number of its last write fits in 32 bits

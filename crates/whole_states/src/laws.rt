@@ -11,6 +11,7 @@ ghost use Rattle.process_semantics.specs.Process.{after_inner, after_took, after
 ghost use Rattle.process_semantics.specs.Process.{after_checkpoint, after_device};
 ghost use Rattle.whole_states.specs.Processes.{IsRegularKind, IsWholeProcess};
 ghost use Rattle.whole_states.specs.Listing.{MayList, files_of};
+ghost use Rattle.process_semantics.specs.gd_words.specs.declared.limits.TheConstants.{MOST_MESSAGE_WORDS, SECTOR_WORDS};
 
 /// A process of a regular program, and a disc, begins in a whole state and comes to whole states alone. A request has
 /// at most 16 words. A disc's sector has 8, and the number of its last write is below the greatest of 32 bits when it
@@ -18,15 +19,15 @@ ghost use Rattle.whole_states.specs.Listing.{MayList, files_of};
 pub fn states_stay_whole()
     ensures start { (what : Kind) → IsRegularKind what → IsWholeProcess (start_of what) }
     ensures inner { (s : ProcessState) → IsWholeProcess s → IsWholeProcess (after_inner s) }
-    ensures took { (s : ProcessState) (words : List ℤ) → point s ≡ Take → length words ≤ 16 → IsWholeProcess s
-        → IsWholeProcess (after_took s words) }
+    ensures took { (s : ProcessState) (words : List ℤ) → point s ≡ Take → length words ≤ MOST_MESSAGE_WORDS
+        → IsWholeProcess s → IsWholeProcess (after_took s words) }
     ensures asked { (s : ProcessState) → point s ≡ Ask → IsWholeProcess s → IsWholeProcess (after_asked s) }
     ensures got { (s : ProcessState) (words : List ℤ) → point s ≡ Await → IsWholeProcess s
         → IsWholeProcess (after_got s words) }
     ensures answered { (s : ProcessState) → point s ≡ Answer → IsWholeProcess s → IsWholeProcess (after_answered s) }
     ensures checkpointed { (s : ProcessState) → point s ≡ AtCheckpoint → IsWholeProcess s
         → IsWholeProcess (after_checkpoint s) }
-    ensures device { (s : ProcessState) (found : List ℤ) → point s ≡ Device → length found ≤ 8
+    ensures device { (s : ProcessState) (found : List ℤ) → point s ≡ Device → length found ≤ SECTOR_WORDS
         → ((sectors : ℕ) (disc : DiscState) → s ≡ Serves sectors disc → HasNext disc.last_write) → IsWholeProcess s
         → IsWholeProcess (after_device s found) }
 {}

@@ -8,4 +8,7 @@
 pub mod laws;
 
 pub use laws::{hands_are_known, only_asking_awaits, states_stay_whole, what_is_named_is_there};
-pub use process_semantics::{Asked, DeviceCall, List, NoMemory, OpenerSpec, Point, Sector, Words};
+pub use process_semantics::{
+    Asked, DeviceCall, List, MOST_DEPTH, MOST_FILES, MOST_MESSAGE_WORDS, NoMemory, OpenerSpec,
+    Point, Sector, Words,
+};
