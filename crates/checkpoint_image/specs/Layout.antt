@@ -8,6 +8,7 @@ use Rattle.checkpoint_image.specs.declared.message.Image.{Image}
 use Rattle.checkpoint_image.specs.declared.message.ImageMessage.{ImageMessage}
 use Rattle.checkpoint_image.specs.declared.receive.OpenerBlock.{OpenerBlock}
 use Rattle.checkpoint_image.specs.declared.receive.ReceiveBlock.{ReceiveBlock}
+use Rattle.process_images.specs.gd_words.specs.declared.limits.TheConstants.{MOST_MESSAGE_WORDS}
 
 -- how many there are, and the words of each in order
 abbrev pub listed : {A : Type 0} → (A → List ℤ) → List A → List ℤ
@@ -62,7 +63,7 @@ pub record IsFile (named : FileNumber) : Type 0 where
 
 pub record IsOpener (block : OpenerBlock) : Type 0 where
   pub taken : block.taken < 2 ^ 32
-  pub replies : All (λ words. length words ≤ 16) block.kept
+  pub replies : All (λ words. length words ≤ MOST_MESSAGE_WORDS) block.kept
 
 -- what a checkpoint keeps to: lists and a place that fit, and each number and reply within its range
 pub record IsWithinLayout (message : ImageMessage) : Type 0 where

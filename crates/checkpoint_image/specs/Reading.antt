@@ -12,6 +12,7 @@ use Rattle.checkpoint_image.specs.declared.reading.ReadingFault.{ReadingFault}
 use Rattle.checkpoint_image.specs.declared.reading.ReadingFault.TheVariants as stop
 use Rattle.checkpoint_image.specs.declared.receive.OpenerBlock.{OpenerBlock}
 use Rattle.checkpoint_image.specs.declared.receive.ReceiveBlock.{ReceiveBlock}
+use Rattle.process_images.specs.gd_words.specs.declared.limits.TheConstants.{MOST_MESSAGE_WORDS}
 
 -- whether an integer is a word of 16 bits, as each is that code reads
 abbrev pub is_word : ℤ → Bool
@@ -52,7 +53,7 @@ abbrev pub file_in : List ℤ → Front FileNumber
 file_in = both_in (λ file next. record { file = file; next = next }) (number_in 255) pair_in
 
 abbrev pub reply_in : List ℤ → Front (List ℤ)
-reply_in = sized_in 16 words_in
+reply_in = sized_in MOST_MESSAGE_WORDS words_in
 
 abbrev pub opener_in : List ℤ → Front OpenerBlock
 opener_in = both_in (λ taken kept. record { taken = taken; kept = kept }) pair_in (listed_in reply_in)

@@ -20,5 +20,5 @@ pub mod receive;
 pub use behaviour::{Behaviour, Listed};
 pub use layout::{from_words, to_words, words_tell_their_message};
 pub use message::{FileNumber, Image, ImageMessage, TakenMessage};
-pub use process_images::{List, NoMemory, OpenerSpec, Words};
+pub use process_images::{List, MOST_DEPTH, MOST_FILES, NoMemory, OpenerSpec, Words};
 pub use receive::{OpenerBlock, ReceiveBlock, RequestStanding};

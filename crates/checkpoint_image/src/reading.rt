@@ -4,10 +4,11 @@ ghost use Rattle.checkpoint_image.specs.Reading.{Gives, Tells, number_in, pair_i
 ghost use Rattle.checkpoint_image.specs.Reading.{file_in, reply_in, opener_in, place_in, receive_in, contents_in};
 ghost use Rattle.checkpoint_image.specs.Reading.{image_in, named_in, heading_in, message_in};
 ghost use Rattle.checkpoint_image.specs.declared.reading.ReadingFault.TheVariants as variants;
+ghost use Rattle.process_images.specs.gd_words.specs.declared.limits.TheConstants.{MOST_MESSAGE_WORDS};
 
 use crate::message::{FileNumber, Image, ImageMessage};
 use crate::receive::{OpenerBlock, ReceiveBlock};
-use process_images::{List, NoMemory, Words};
+use process_images::{List, MOST_MESSAGE_WORDS, NoMemory, Words};
 use std::alloc::Global;
 
 /// Why no checkpoint is read: the words aren't those of one, or there is no memory.
@@ -128,7 +129,7 @@ fn file_in(words: &[i16]) -> Option<(FileNumber, &[i16])>
 
 /// These words as those of a reply.
 fn kept_of(words: &[i16]) -> Words
-    requires { length words.now ≤ 16 }
+    requires { length words.now ≤ MOST_MESSAGE_WORDS }
     ensures { result ≡ words.now }
 {
     let mut kept = Words::new();
@@ -142,7 +143,7 @@ fn kept_of(words: &[i16]) -> Words
 fn reply_in(words: &[i16]) -> Option<(Words, &[i16])>
     ensures { Gives (λ r. (r.0, r.1.now)) result (reply_in words.now) }
 {
-    let (count, left) = number_in(16, words)?;
+    let (count, left) = number_in(MOST_MESSAGE_WORDS as u16, words)?;
     let (front, rest) = words_in(count, left)?;
     Some((kept_of(front), rest))
 }
