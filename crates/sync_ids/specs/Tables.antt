@@ -4,10 +4,11 @@ use Rattle.std.specs.Prelude.{◌≡◌, ℕ, ◌<◌, ◌≤◌, ◌&&◌, Bool
 use Rattle.std.specs.Prelude.{nat_lt, slice_get, Option, Some, None}
 use Rattle.checkpoint_image.specs.declared.receive.OpenerBlock.{OpenerBlock}
 use Rattle.checkpoint_image.specs.declared.receive.ReceiveBlock.{ReceiveBlock}
+use Rattle.checkpoint_image.specs.gd_words.specs.declared.limits.TheConstants.{MOST_DEPTH}
 
 -- how many replies are kept at most of an opener
 abbrev pub IsDepth : ℕ → Type 0
-IsDepth depth = (1 ≤ depth) × (depth ≤ 4)
+IsDepth depth = (1 ≤ depth) × (depth ≤ MOST_DEPTH)
 
 -- a receive table, and for each opener its depth
 pub record Remembered : Type 0 where

@@ -1,13 +1,18 @@
 ghost use Rattle.std.specs.Prelude.{◌≡◌, ◌<◌, ◌≤◌, ◌+◌, length, replicate, slice_get, slice_index, slice_set};
 ghost use Rattle.checkpoint_image.specs.gd_words.specs.Ranges.{HasNext};
+ghost use Rattle.checkpoint_image.specs.gd_words.specs.declared.limits.TheConstants.{MOST_FILES};
 
 use arrayvec::ArrayVec;
+use checkpoint_image::MOST_FILES;
 use std::marker::Model;
+
+/// How many files a process has at most.
+const FILES: usize = MOST_FILES as usize;
 
 /// The number of the next request on each file of a process, from file 0 on.
 #[derive(Drop)]
 pub struct Asker {
-    next: ArrayVec<u32, 8>,
+    next: ArrayVec<u32, FILES>,
 }
 
 impl Model for Asker {
@@ -21,7 +26,7 @@ impl Model for Asker {
 impl Asker {
     /// So many files, of each of which the next request is its first.
     pub fn new(files: u8) -> Asker
-        requires { files ≤ 8 }
+        requires { files ≤ MOST_FILES }
         ensures { result ≡ replicate files 1 }
     {
         let mut next = ArrayVec::new();
@@ -34,7 +39,7 @@ impl Asker {
     /// How many files there are.
     pub fn len(&self) -> usize
         ensures value { result ≡ length self.now }
-        ensures few { result ≤ 8 }
+        ensures few { result ≤ MOST_FILES }
     {
         self.next.len()
     }

@@ -23,6 +23,6 @@ pub use checkpoint_image::putting::{
 pub use checkpoint_image::reading::{
     ReadingFault, contents_in, count_in, heading_in, many_replies, pair_in, place_in,
 };
-pub use checkpoint_image::{FileNumber, ImageMessage, List, NoMemory};
+pub use checkpoint_image::{FileNumber, ImageMessage, List, MOST_DEPTH, NoMemory};
 pub use receive::Receive;
 pub use since::change_between;
