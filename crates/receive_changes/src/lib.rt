@@ -8,7 +8,7 @@ pub mod laws;
 
 pub use laws::a_change_gives_the_later_table;
 pub use sync_ids::{
-    Asker, FileNumber, ImageMessage, List, NoMemory, OpenerChange, ReadingFault, Receive,
-    ReceiveChange, change_between, contents_in, count_in, heading_in, many_replies, pair_in,
-    place_in, put_count, put_counted, put_files, put_long, put_place, put_replies,
+    Asker, FileNumber, ImageMessage, List, MOST_DEPTH, NoMemory, OpenerChange, ReadingFault,
+    Receive, ReceiveChange, change_between, contents_in, count_in, heading_in, many_replies,
+    pair_in, place_in, put_count, put_counted, put_files, put_long, put_place, put_replies,
 };
