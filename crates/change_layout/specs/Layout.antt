@@ -8,6 +8,7 @@ use Rattle.receive_changes.specs.sync_ids.specs.declared.change.OpenerChange.{Op
 use Rattle.receive_changes.specs.sync_ids.specs.declared.change.ReceiveChange.{ReceiveChange}
 use Rattle.change_layout.specs.declared.message.ChangeImage.{ChangeImage}
 use Rattle.change_layout.specs.declared.message.ChangeMessage.{ChangeMessage}
+use Rattle.receive_changes.specs.gd_words.specs.declared.limits.TheConstants.{MOST_DEPTH, MOST_MESSAGE_WORDS}
 
 -- an opener's place and how many replies were added to it, in one number
 abbrev pub place_and_count : OpenerChange → ℕ
@@ -42,7 +43,7 @@ message_words message = heading_words message ++ image_words message.image
 -- the place and the count each fit their part of a word
 pub record IsShort (change : OpenerChange) : Type 0 where
   pub opener : change.opener < 4096
-  pub added : length change.added ≤ 4
+  pub added : length change.added ≤ MOST_DEPTH
 
 -- the counts and the places each fit their words
 pub record HasShortLists (message : ChangeMessage) : Type 0 where
@@ -54,7 +55,7 @@ pub record HasShortLists (message : ChangeMessage) : Type 0 where
 
 pub record IsChange (change : OpenerChange) : Type 0 where
   pub taken : change.taken < 2 ^ 32
-  pub replies : All (λ words. length words ≤ 16) change.added
+  pub replies : All (λ words. length words ≤ MOST_MESSAGE_WORDS) change.added
 
 -- what such a checkpoint keeps to: lists and places that fit, and each number and reply within its range
 pub record IsWithinLayout (message : ChangeMessage) : Type 0 where

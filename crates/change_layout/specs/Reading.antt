@@ -9,6 +9,7 @@ use Rattle.receive_changes.specs.sync_ids.specs.declared.change.OpenerChange.{Op
 use Rattle.receive_changes.specs.sync_ids.specs.declared.change.ReceiveChange.{ReceiveChange}
 use Rattle.change_layout.specs.declared.message.ChangeImage.{ChangeImage}
 use Rattle.change_layout.specs.declared.message.ChangeMessage.{ChangeMessage}
+use Rattle.receive_changes.specs.gd_words.specs.declared.limits.TheConstants.{MOST_DEPTH}
 
 -- the change of the opener at a place, with so many replies
 abbrev pub added_in : ℕ → ℕ → List ℤ → Front OpenerChange
@@ -17,7 +18,7 @@ added_in opener count =
 
 -- what follows a number that has a place and a count, which is at most 4
 abbrev pub change_by : ℕ → List ℤ → Front OpenerChange
-change_by n words = if nat_le (n % 8) 4 then added_in (n / 8) (n % 8) words else None
+change_by n words = if nat_le (n % 8) MOST_DEPTH then added_in (n / 8) (n % 8) words else None
 
 abbrev pub change_in : List ℤ → Front OpenerChange
 change_in = sized_in 32767 change_by

@@ -3,7 +3,7 @@ ghost use Rattle.change_layout.specs.Reading.{added_in, change_in, image_in, mes
 
 use crate::message::{ChangeImage, ChangeMessage};
 use receive_changes::{
-    List, OpenerChange, ReadingFault, ReceiveChange, contents_in, count_in, heading_in,
+    List, MOST_DEPTH, OpenerChange, ReadingFault, ReceiveChange, contents_in, count_in, heading_in,
     many_replies, pair_in, place_in,
 };
 use std::alloc::Global;
@@ -36,7 +36,7 @@ fn change_in(alloc: Global, words: &[i16]) -> Result<(OpenerChange, &[i16]), Rea
         return Err(ReadingFault::NoMessage);
     };
     let count = both % 8;
-    if count <= 4 {
+    if count <= u16::from(MOST_DEPTH) {
         added_in(alloc, both / 8, count, left)
     } else {
         Err(ReadingFault::NoMessage)
