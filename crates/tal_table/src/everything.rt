@@ -1,6 +1,7 @@
 ghost use Rattle.std.specs.Prelude.{◌≡◌, ◌≤◌, length, IfOk};
 ghost use Rattle.checkpoint_image.specs.process_images.specs.Images.{asking_from, asks_a_process, listable_from};
 ghost use Rattle.tal_tree.specs.Shapes.{has_words};
+ghost use Rattle.gd_words.specs.declared.limits.TheConstants.{MOST_FILES, MOST_GLOBALS};
 
 use checkpoint_image::Listed;
 use gd_words::{List, NoMemory};
@@ -14,8 +15,8 @@ pub(crate) fn everything(
     items: &[Item],
     files: &[FileUse],
 ) -> Result<Listed, NoMemory>
-    requires items { length items.now ≤ 64 }
-    requires files { length files.now ≤ 8 }
+    requires items { length items.now ≤ MOST_GLOBALS }
+    requires files { length files.now ≤ MOST_FILES }
     ensures items { IfOk result (λ listed. listed.items ≡ listable_from 0 items.now) }
     ensures files { IfOk result (λ listed. listed.files ≡ asking_from 0 files.now) }
 {
@@ -26,7 +27,7 @@ pub(crate) fn everything(
 
 /// The numbers of the items that have words.
 fn listable(alloc: Global, items: &[Item]) -> Result<List<u16>, NoMemory>
-    requires { length items.now ≤ 64 }
+    requires { length items.now ≤ MOST_GLOBALS }
     ensures { IfOk result (λ numbers. numbers ≡ listable_from 0 items.now) }
 {
     let mut numbers = List::new(alloc);
@@ -49,7 +50,7 @@ fn has_words(shape: Shape) -> bool
 
 /// The numbers of the files that are opened to a process.
 fn asking(alloc: Global, files: &[FileUse]) -> Result<List<u8>, NoMemory>
-    requires { length files.now ≤ 8 }
+    requires { length files.now ≤ MOST_FILES }
     ensures { IfOk result (λ numbers. numbers ≡ asking_from 0 files.now) }
 {
     let mut numbers = List::new(alloc);

@@ -4,6 +4,7 @@ ghost use Rattle.tal_tree.specs.Ordered.{numbers_in_all};
 ghost use Rattle.tal_tree.specs.Statements.{all_of};
 ghost use Rattle.tal_tree.specs.declared.program.Procedure.{Procedure};
 ghost use Rattle.tal_table.specs.Loads as loads;
+ghost use Rattle.gd_words.specs.declared.limits.TheConstants.{MOST_LOCALS, MOST_PROCEDURES};
 
 use crate::fill::{begins, put_list};
 use crate::node::{Heading, Node, Work};
@@ -26,7 +27,7 @@ pub(crate) fn copied_items(alloc: Global, items: &[Item]) -> Result<List<Item>, 
 
 /// A heading for each procedure.
 pub(crate) fn headings_of(alloc: Global, procedures: &[Procedure]) -> Result<Vec<Heading>, NoMemory>
-    requires { All (λ procedure. length procedure.locals ≤ 12) procedures.now }
+    requires { All (λ procedure. length procedure.locals ≤ MOST_LOCALS) procedures.now }
     ensures { IfOk result (λ headings. headings.items ≡ map loads.heading_of procedures.now) }
 {
     let mut headings = Vec::new(alloc);
@@ -37,7 +38,7 @@ pub(crate) fn headings_of(alloc: Global, procedures: &[Procedure]) -> Result<Vec
 }
 
 fn heading_of(procedure: &Procedure) -> Heading
-    requires { length procedure.now.locals ≤ 12 }
+    requires { length procedure.now.locals ≤ MOST_LOCALS }
     ensures { result ≡ loads.heading_of procedure.now }
 {
     Heading {
@@ -48,7 +49,7 @@ fn heading_of(procedure: &Procedure) -> Heading
 
 /// The nodes of procedures, behind that for 0.
 pub(crate) fn nodes_of(alloc: Global, procedures: &[Procedure]) -> Result<Vec<Node>, NoMemory>
-    requires few { length procedures.now ≤ 64 }
+    requires few { length procedures.now ≤ MOST_PROCEDURES }
     requires small { loads.AreSmall (numbers_in_all procedures.now) }
     requires waiting { (k : ℕ) (procedure : Procedure) → slice_get procedures.now k ≡ Some procedure
         → loads.FewWait (all_of procedure.body) }

@@ -7,6 +7,7 @@ ghost use Rattle.tal_tree.specs.Regular.{IsRegular};
 ghost use Rattle.tal_code.specs.Waiting.{WaitsBelow};
 ghost use Rattle.tal_table.specs.Places.{places, rest_at};
 ghost use Rattle.tal_table.specs.Tables.{Tells, Heads, told_in, told_if};
+ghost use Rattle.gd_words.specs.declared.limits.TheConstants.{MOST_PROCEDURES, MOST_STATEMENTS};
 
 use crate::everything::everything;
 use crate::load::{copied_items, headings_of, nodes_of};
@@ -100,7 +101,7 @@ impl Table {
     /// How many procedures the program has.
     pub fn procedure_count(&self) -> usize
         ensures count { result ≡ length self.now.procedures }
-        ensures few { result ≤ 64 }
+        ensures few { result ≤ MOST_PROCEDURES }
     {
         self.headings.len()
     }
@@ -127,7 +128,7 @@ impl Table {
     /// The number that comes next in what remains at a number: 0 where nothing does.
     pub fn next_number(&self, number: u16) -> u16
         ensures next { result ≡ next_number (rest_at (places self.now) number) }
-        ensures few { result ≤ 2000 }
+        ensures few { result ≤ MOST_STATEMENTS }
     {
         if usize::from(number) < self.nodes.len() {
             number
