@@ -10,11 +10,13 @@ ghost use Rattle.tal_table.specs.Places.{places, rest_at};
 ghost use Rattle.tal_interp.specs.Images.{Overwrites, called_frame, called_frames, frames_of, listed_item};
 ghost use Rattle.tal_interp.specs.SeenFrames.{frame_seen};
 ghost use Rattle.tal_interp.specs.Sound.{IsLoadable, IsSound};
+ghost use Rattle.gd_words.specs.declared.limits.TheConstants.{MOST_GLOBALS, MOST_LOCALS};
 
 use crate::frame::Frame;
 use crate::interpreter::Interpreter;
 use crate::locals::Locals;
 use gd_words::List;
+use gd_words::limits::MOST_GLOBALS;
 use process_semantics::globals::{overwrite, width};
 use std::mem;
 use tal_table::{Table, Work};
@@ -72,7 +74,7 @@ fn words_in(count: usize, words: &[i16]) -> Option<(&[i16], &[i16])>
 
 /// Words as those of locals.
 fn locals_of(words: &[i16]) -> Locals
-    requires { length words.now ≤ 12 }
+    requires { length words.now ≤ MOST_LOCALS }
     ensures { result ≡ words.now }
 {
     let mut locals = Locals::new();
@@ -186,10 +188,10 @@ fn listed_item<'a>(items: &[Item], words: &'a [i16]) -> Option<(u16, &'a [i16], 
 
 /// Whether words are so many items to their end, each named once.
 fn are_items(table: &Table, count: u16, words: &[i16]) -> bool
-    requires { length table.now.items ≤ 64 }
+    requires { length table.now.items ≤ MOST_GLOBALS }
     ensures { result ≡ is_some (whole (items_in table.now count [] [] words.now)) }
 {
-    let mut named = [false; 64];
+    let mut named = [false; MOST_GLOBALS];
     let mut left = words;
     for _turn in 0..count {
         let Some((number, _found, rest)) = listed_item(table.items(), left) else {

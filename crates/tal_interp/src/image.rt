@@ -9,6 +9,7 @@ ghost use Rattle.tal_table.specs.Places.{places, rest_at};
 ghost use Rattle.tal_interp.specs.Images.{imaged_frames, imaged_rest};
 ghost use Rattle.tal_interp.specs.SeenFrames.{frame_seen};
 ghost use Rattle.tal_interp.specs.Sound.{IsSound};
+ghost use Rattle.gd_words.specs.declared.limits.TheConstants.{MOST_GLOBALS, MOST_PROCEDURES, MOST_STATEMENTS};
 
 use crate::frame::Frame;
 use crate::interpreter::Interpreter;
@@ -48,8 +49,8 @@ impl Interpreter {
 
     /// Puts the frames from MAIN up behind words.
     fn put_frames(&self, out: &mut List<i16>) -> Result<(), NoMemory>
-        requires few { length self.now.state.frames ≤ 64 }
-        requires procedures { All (λ frame. frame.procedure < 64) self.now.state.frames }
+        requires few { length self.now.state.frames ≤ MOST_PROCEDURES }
+        requires procedures { All (λ frame. frame.procedure < MOST_PROCEDURES) self.now.state.frames }
         ensures { OnOk result (out.new ≡ out.old ++ pos (length self.now.state.frames)
             ∷ flat_map frame_words (reverse (imaged_frames self.now.state.frames))) }
     {
@@ -66,8 +67,8 @@ impl Interpreter {
 
     /// Puts items with their words behind words.
     fn put_items(&self, items: &[u16], out: &mut List<i16>) -> Result<(), NoMemory>
-        requires few { length items.now ≤ 64 }
-        requires numbers { All (λ item. item < 64) items.now }
+        requires few { length items.now ≤ MOST_GLOBALS }
+        requires numbers { All (λ item. item < MOST_GLOBALS) items.now }
         ensures { OnOk result (out.new ≡ out.old
             ++ pos (length items.now) ∷ flat_map (item_words self.now.state) items.now) }
     {
@@ -84,7 +85,7 @@ impl Interpreter {
 fn imaged_next(table: &Table, at: u16) -> u16
     ensures next { result ≡ next_number (imaged_rest (deed_of (rest_at (places table.now) at))
         (rest_at (places table.now) at)) }
-    ensures few { result ≤ 2000 }
+    ensures few { result ≤ MOST_STATEMENTS }
 {
     match table.node(at) {
         None => table.next_number(at),
@@ -96,8 +97,8 @@ fn imaged_next(table: &Table, at: u16) -> u16
 }
 
 fn put_frame(frame: &Frame, next: u16, out: &mut List<i16>) -> Result<(), NoMemory>
-    requires procedure { frame.now.procedure < 64 }
-    requires next { next ≤ 2000 }
+    requires procedure { frame.now.procedure < MOST_PROCEDURES }
+    requires next { next ≤ MOST_STATEMENTS }
     ensures { OnOk result (out.new ≡ out.old ++ pos frame.now.procedure ∷ pos next ∷ frame.now.locals) }
 {
     out.push(frame.procedure as i16)?;
@@ -107,7 +108,7 @@ fn put_frame(frame: &Frame, next: u16, out: &mut List<i16>) -> Result<(), NoMemo
 }
 
 fn put_callers(table: &Table, callers: &[Frame], out: &mut List<i16>) -> Result<(), NoMemory>
-    requires { All (λ caller. caller.procedure < 64) callers.now }
+    requires { All (λ caller. caller.procedure < MOST_PROCEDURES) callers.now }
     ensures { OnOk result (out.new ≡ out.old
         ++ flat_map (λ caller. frame_words (frame_seen (places table.now) caller)) callers.now) }
 {

@@ -5,6 +5,7 @@ ghost use Rattle.process_semantics.specs.Changes.{left};
 ghost use Rattle.process_semantics.specs.Steps.{entered, inner, or_ends, result_of, values_of};
 ghost use Rattle.tal_table.specs.program_deeds.specs.Doing.{caller_given, chosen, gives_back, stored};
 ghost use Rattle.tal_table.specs.Places.{places, rest_at};
+ghost use Rattle.gd_words.specs.declared.limits.TheConstants.{MOST_LOCALS};
 
 use crate::frame::Frame;
 use crate::interpreter::Interpreter;
@@ -96,7 +97,7 @@ impl Interpreter {
     fn call(&mut self, procedure: u16, arguments: Option<Locals>)
         requires runs { self.old.state.ended ≡ false }
         requires frames { length self.old.state.frames ≤ length self.old.program.procedures }
-        requires few { IfSome arguments (λ words. length words ≤ 12) }
+        requires few { IfSome arguments (λ words. length words ≤ MOST_LOCALS) }
         ensures { self.new ≡ record self.old {
           state =
               or_ends self.old.state (entered self.old.program self.old.state procedure arguments);
@@ -198,9 +199,9 @@ impl Interpreter {
 
 /// The values of arguments, from left to right.
 fn values(memory: Memory<'_>, arguments: &[Code]) -> Option<Locals>
-    requires { length arguments.now ≤ 12 }
+    requires { length arguments.now ≤ MOST_LOCALS }
     ensures words { result ≡ values_of (seen memory.entry) arguments.now }
-    ensures few { IfSome result (λ words. length words ≤ 12) }
+    ensures few { IfSome result (λ words. length words ≤ MOST_LOCALS) }
 {
     let mut words = Locals::new();
     for argument in arguments {

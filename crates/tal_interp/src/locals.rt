@@ -1,13 +1,15 @@
 ghost use Rattle.std.specs.Prelude.{◌≡◌, ◌-◌, ◌≤◌, ◌<◌, [], ◌∷◌, ◌++◌, length, slice_set};
 ghost use Rattle.process_semantics.specs.State.{zeros};
+ghost use Rattle.gd_words.specs.declared.limits.TheConstants.{MOST_LOCALS};
 
 use arrayvec::ArrayVec;
+use gd_words::limits::MOST_LOCALS;
 use std::marker::Model;
 
 /// The words of a procedure's locals, of which there are at most 12.
 #[derive(Drop)]
 pub(crate) struct Locals {
-    words: ArrayVec<i16, 12>,
+    words: ArrayVec<i16, MOST_LOCALS>,
 }
 
 impl Model for Locals {
@@ -34,7 +36,7 @@ impl Locals {
     }
 
     pub(crate) fn push(&mut self, word: i16)
-        requires { length self.old < 12 }
+        requires { length self.old < MOST_LOCALS }
         ensures { self.new ≡ self.old ++ word ∷ [] }
     {
         self.words.push(word);
@@ -51,7 +53,7 @@ impl Locals {
 
     /// Puts zeros behind the words until there are so many.
     pub(crate) fn fill(&mut self, len: usize)
-        requires { len ≤ 12 }
+        requires { len ≤ MOST_LOCALS }
         ensures { self.new ≡ self.old ++ zeros (len - length self.old) }
     {
         for _ in 0..len.saturating_sub(self.words.len()) {

@@ -5,6 +5,7 @@ ghost use Rattle.process_semantics.specs.Process.{start_of};
 ghost use Rattle.process_semantics.specs.Rests.{next_number};
 ghost use Rattle.process_semantics.specs.State.{rest_of};
 ghost use Rattle.tal_interp.specs.Sound.{IsLoadable};
+ghost use Rattle.gd_words.specs.declared.limits.TheConstants.{MOST_GLOBALS};
 
 use crate::interpreter::Interpreter;
 use gd_words::{DeviceCall, List, NoMemory, Sector, Words};
@@ -48,7 +49,7 @@ impl TalProcess {
     /// The items of its program.
     pub fn items(&self) -> &[Item]
         ensures value { result.now ≡ self.now.program.items }
-        ensures few { length result.now ≤ 64 }
+        ensures few { length result.now ≤ MOST_GLOBALS }
     {
         self.interpreter.table.items()
     }
