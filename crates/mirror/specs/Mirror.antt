@@ -10,6 +10,7 @@ use Rattle.mirror.specs.declared.state.DriveState.TheVariants.{Working, Failed, 
 use Rattle.mirror.specs.declared.state.Failing.{Failing}
 use Rattle.mirror.specs.declared.state.Failing.TheVariants.{Done, AlreadyFailed, LastOne}
 use Rattle.mirror.specs.declared.stored.Stored.{Stored}
+use Rattle.gd_words.specs.declared.limits.TheConstants.{MOST_SECTORS}
 
 -- a drive of a device: how it stands, and the sectors that it has itself
 pub record DriveHeld : Type 0 where
@@ -65,7 +66,7 @@ is_alive (held ∷ others) = is_working held.state || is_alive others
 pub record IsMirror (drives : List DriveHeld) : Type 0 where
   pub alive : is_alive drives ≡ true
   pub some : 1 ≤ length (content drives)
-  pub few : length (content drives) ≤ 64
+  pub few : length (content drives) ≤ MOST_SECTORS
   pub parts : All (Mirrors (content drives)) drives
 
 -- the drives of a device, of which the second may be lacking

@@ -2,10 +2,11 @@
 use Rattle.std.specs.Prelude.{ℕ, ◌==◌, ℤ, pos, Bool, false, if◌then◌else◌, List, replicate, slice_get, slice_set}
 use Rattle.std.specs.Prelude.{Option, Some, None}
 use Rattle.mirror.specs.declared.stored.Stored.{Stored}
+use Rattle.gd_words.specs.declared.limits.TheConstants.{SECTOR_WORDS}
 
 -- a sector on which nothing was written: zeros, and number 0
 abbrev pub blank : Stored
-blank = record { words = replicate 8 (pos 0); number = 0 }
+blank = record { words = replicate SECTOR_WORDS (pos 0); number = 0 }
 
 -- so many sectors on which nothing was written
 abbrev pub blanks : ℕ → List Stored

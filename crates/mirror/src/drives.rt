@@ -3,6 +3,7 @@ ghost use Rattle.std.specs.Option.{option_map};
 ghost use Rattle.mirror.specs.Mirror.{IsMirror, after_write, all_working, content, copied, drives_of, failed, failing};
 ghost use Rattle.mirror.specs.Mirror.{is_failed, is_reviving, revived, sectors_of, state_of, written};
 ghost use Rattle.mirror.specs.Sectors.{blanks, is_written, stored_after};
+ghost use Rattle.gd_words.specs.declared.limits.TheConstants.{MOST_SECTORS};
 
 use crate::drive::Drive;
 use crate::half::Half;
@@ -33,7 +34,7 @@ impl<D: Drive> Drives<D> {
     /// A device on whose drives nothing was written; they have as many sectors, 1 to 64.
     pub fn new(first: D, second: Option<D>) -> Drives<D>
         requires some { 1 ≤ length (D.sectors first) }
-        requires few { length (D.sectors first) ≤ 64 }
+        requires few { length (D.sectors first) ≤ MOST_SECTORS }
         requires first { D.sectors first ≡ blanks (length (D.sectors first)) }
         requires second { IfSome second (λ drive. D.sectors drive ≡ D.sectors first) }
         ensures drives { result ≡ all_working (D.sectors first) (option_map D.sectors second) }
@@ -53,7 +54,7 @@ impl<D: Drive> Drives<D> {
     pub fn count(&self) -> u8
         ensures value { result ≡ length (content self.now) }
         ensures some { 1 ≤ result }
-        ensures few { result ≤ 64 }
+        ensures few { result ≤ MOST_SECTORS }
     {
         self.working().count()
     }

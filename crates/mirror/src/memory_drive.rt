@@ -1,5 +1,6 @@
 ghost use Rattle.std.specs.Prelude.{◌≡◌, ◌≤◌, replicate, IfOk};
 ghost use Rattle.mirror.specs.Sectors.{blank};
+ghost use Rattle.gd_words.specs.declared.limits.TheConstants.{MOST_SECTORS};
 
 use crate::drive::Drive;
 use crate::stored::Stored;
@@ -16,19 +17,20 @@ pub struct MemoryDrive {
 impl Model for MemoryDrive {
     ghost use Rattle.std.specs.Prelude.{◌≤◌, length, List};
     ghost use Rattle.mirror.specs.declared.stored.Stored.{Stored};
+    ghost use Rattle.gd_words.specs.declared.limits.TheConstants.{MOST_SECTORS};
 
     ghost Value = { List Stored };
 
     ghost view = { λ drive. drive.sectors.items };
 
-    ghost invariant = { λ drive. (1 ≤ length drive.sectors.items) × (length drive.sectors.items ≤ 64) };
+    ghost invariant = { λ drive. (1 ≤ length drive.sectors.items) × (length drive.sectors.items ≤ MOST_SECTORS) };
 }
 
 impl MemoryDrive {
     /// A drive of so many sectors on which nothing was written.
     pub fn new(alloc: Global, sectors: u8) -> Result<MemoryDrive, NoMemory>
         requires some { 1 ≤ sectors }
-        requires few { sectors ≤ 64 }
+        requires few { sectors ≤ MOST_SECTORS }
         ensures { IfOk result (λ drive. drive ≡ replicate sectors blank) }
     {
         let sectors = vec![in alloc; Stored::BLANK; usize::from(sectors)]?;
