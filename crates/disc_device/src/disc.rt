@@ -4,6 +4,7 @@ ghost use Rattle.mirror.specs.Mirror.{all_working, content, copied, failed, fail
 ghost use Rattle.mirror.specs.Mirror.{revived, state_of, written};
 ghost use Rattle.mirror.specs.Sectors.{blanks, is_written, stored_after};
 ghost use Rattle.mirror.specs.States.{failing_of, standing, states_copied, states_failed, states_of, states_revived};
+ghost use Rattle.mirror.specs.gd_words.specs.declared.limits.TheConstants.{MOST_SECTORS};
 
 use mirror::{DriveState, Drives, Failing, MemoryDrive, NoMemory, Sector, Stored};
 use std::alloc::Global;
@@ -28,7 +29,7 @@ impl Disc {
     /// A disc of so many sectors on which nothing was written, with one drive.
     pub fn new(alloc: Global, sectors: u8) -> Result<Disc, NoMemory>
         requires some { 1 ≤ sectors }
-        requires few { sectors ≤ 64 }
+        requires few { sectors ≤ MOST_SECTORS }
         ensures { IfOk result (λ disc. disc ≡ all_working (blanks sectors) None) }
     {
         let first = MemoryDrive::new(alloc, sectors)?;
@@ -40,7 +41,7 @@ impl Disc {
     /// A disc of so many sectors on which nothing was written, with two drives.
     pub fn mirrored(alloc: Global, sectors: u8) -> Result<Disc, NoMemory>
         requires some { 1 ≤ sectors }
-        requires few { sectors ≤ 64 }
+        requires few { sectors ≤ MOST_SECTORS }
         ensures { IfOk result (λ disc. disc ≡ all_working (blanks sectors) (Some (blanks sectors))) }
     {
         let first = MemoryDrive::new(alloc, sectors)?;
@@ -54,7 +55,7 @@ impl Disc {
     pub fn count(&self) -> u8
         ensures value { result ≡ length (content self.now) }
         ensures some { 1 ≤ result }
-        ensures few { result ≤ 64 }
+        ensures few { result ≤ MOST_SECTORS }
     {
         self.drives.count()
     }
