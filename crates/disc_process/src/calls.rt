@@ -1,6 +1,8 @@
 ghost use Rattle.std.specs.Prelude.{◌≡◌, ◌≤◌, length};
 ghost use Rattle.process_semantics.specs.Disc.{sector_of, filled, call_at, call_of, reply_of, last_write_after};
+ghost use Rattle.gd_words.specs.declared.limits.TheConstants.{SECTOR_WORDS};
 
+use gd_words::limits::SECTOR_WORDS;
 use gd_words::{DeviceCall, Sector, Words};
 
 /// What the words of a request ask of the device, under the number that a write would have.
@@ -21,7 +23,7 @@ fn call_at(number: u32, kind: i16, words: &[i16], sector: Option<u8>) -> DeviceC
         Some(sector) => {
             if kind == 1 && words.is_empty() {
                 DeviceCall::Read(sector)
-            } else if kind == 2 && 1 <= words.len() && words.len() <= 8 {
+            } else if kind == 2 && 1 <= words.len() && words.len() <= SECTOR_WORDS {
                 let words = filled(words);
                 DeviceCall::Write {
                     sector,
@@ -46,10 +48,10 @@ fn sector_of(sectors: u8, sector: i16) -> Option<u8>
 }
 
 fn filled(words: &[i16]) -> Sector
-    requires { length words.now ≤ 8 }
+    requires { length words.now ≤ SECTOR_WORDS }
     ensures { result ≡ filled words.now }
 {
-    let mut sector = [0; 8];
+    let mut sector = [0; SECTOR_WORDS];
     let (front, _) = sector.split_at_mut(words.len());
     front.copy_from_slice(words);
     sector

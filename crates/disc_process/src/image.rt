@@ -3,10 +3,12 @@ ghost use Rattle.std.specs.Option.{option_copied};
 ghost use Rattle.process_semantics.specs.Words.{counted_if, counted_in, long_in};
 ghost use Rattle.process_semantics.specs.Image.{disc_words, disc_with, restored_disc};
 ghost use Rattle.checkpoint_image.specs.Reading.{Gives};
+ghost use Rattle.gd_words.specs.declared.limits.TheConstants.{MOST_MESSAGE_WORDS};
 
 use crate::phase::Phase;
 use crate::progress::Progress;
 use checkpoint_image::putting::{put_counted, put_long};
+use gd_words::limits::MOST_MESSAGE_WORDS;
 use gd_words::{List, NoMemory, Words};
 use process_semantics::counts::few_words;
 use std::alloc::Global;
@@ -35,10 +37,10 @@ pub fn disc_words(alloc: Global, progress: &Progress) -> Result<List<i16>, NoMem
 /// A request or a reply: how many words, at most 16, and these.
 fn counted_in(words: &[i16]) -> Option<(&[i16], &[i16])>
     ensures value { Gives (λ r. (r.0.now, r.1.now)) result (counted_in words.now) }
-    ensures few { IfSome result (λ r. length r.0.now ≤ 16) }
+    ensures few { IfSome result (λ r. length r.0.now ≤ MOST_MESSAGE_WORDS) }
 {
     match words {
-        [count, rest @ ..] if 0 <= *count && *count <= 16 => {
+        [count, rest @ ..] if 0 <= *count && *count <= MOST_MESSAGE_WORDS as i16 => {
             let count = usize::from(count.cast_unsigned());
             if count <= rest.len() {
                 Some(rest.split_at(count))
@@ -65,8 +67,8 @@ fn long_in(words: &[i16]) -> Option<(u32, &[i16])>
 
 /// The disc of a request in hand, a number and a reply: without a reply it is to act.
 fn disc_with(in_hand: bool, request: &[i16], number: u32, reply: &[i16]) -> Option<Progress>
-    requires request { length request.now ≤ 16 }
-    requires reply { length reply.now ≤ 16 }
+    requires request { length request.now ≤ MOST_MESSAGE_WORDS }
+    requires reply { length reply.now ≤ MOST_MESSAGE_WORDS }
     ensures { result ≡ disc_with in_hand request.now number reply.now }
 {
     let phase = match (in_hand, request, reply) {
