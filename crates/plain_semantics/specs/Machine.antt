@@ -22,6 +22,7 @@ use Rattle.plain_semantics.specs.declared.slot.Opener.{Opener}
 use Rattle.plain_semantics.specs.declared.slot.Slot.{Slot}
 use Rattle.plain_semantics.specs.declared.slot.Slot.TheVariants.{Empty, Waiting, Taken, Answered}
 use Rattle.plain_semantics.specs.Openers.{openers_of, opener_of}
+use Rattle.process_semantics.specs.gd_words.specs.declared.limits.TheConstants.{SECTOR_WORDS}
 
 -- a process: its state, the place of the opener whose request is in hand, a slot for each of its openers, and the
 -- sectors of a disc
@@ -38,7 +39,7 @@ pub record Plain : Type 0 where
 
 -- a disc's sectors, all zero
 abbrev pub sectors_at_first : Kind → List (List ℤ)
-sectors_at_first (kind.Disc sectors mirrored) = replicate sectors (zeros 8)
+sectors_at_first (kind.Disc sectors mirrored) = replicate sectors (zeros SECTOR_WORDS)
 sectors_at_first (kind.Pair program) = []
 
 -- a process at its beginning, with an empty slot for each opener
@@ -124,8 +125,8 @@ answer_made number one plain =
 
 -- the words that stand on the sector of a read
 abbrev pub found_by : List (List ℤ) → DeviceCall → List ℤ
-found_by sectors (call.Read sector) = unwrap_or (slice_get sectors sector) (zeros 8)
-found_by sectors _ = zeros 8
+found_by sectors (call.Read sector) = unwrap_or (slice_get sectors sector) (zeros SECTOR_WORDS)
+found_by sectors _ = zeros SECTOR_WORDS
 
 -- the sectors after an act on the device
 abbrev pub written_by : List (List ℤ) → DeviceCall → List (List ℤ)
