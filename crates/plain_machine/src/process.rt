@@ -10,8 +10,10 @@ ghost use Rattle.process_semantics.specs.Process.{after_device};
 ghost use Rattle.plain_semantics.specs.Machine.{process_at_first, sectors_at_first, found_by, written_by};
 ghost use Rattle.processes.specs.Seen.{IsLoadableKind};
 ghost use Rattle.plain_machine.specs.Rounds.{waiting_from};
+ghost use Rattle.gd_words.specs.declared.limits.TheConstants.{SECTOR_WORDS};
 
 use checkpoint_image::Behaviour;
+use gd_words::limits::SECTOR_WORDS;
 use gd_words::{DeviceCall, NoMemory, Sector, Words};
 use plain_semantics::{Slot, openers};
 use process_semantics::{Asked, Point};
@@ -233,11 +235,11 @@ fn zero_sectors(alloc: Global, kind: &Kind) -> Result<Vec<Sector>, NoMemory>
 }
 
 fn zeros(alloc: Global, sectors: u8) -> Result<Vec<Sector>, NoMemory>
-    ensures { IfOk result (λ all. all.items ≡ replicate sectors (zeros 8)) }
+    ensures { IfOk result (λ all. all.items ≡ replicate sectors (zeros SECTOR_WORDS)) }
 {
     let mut all = Vec::new(alloc);
     for _ in 0..sectors {
-        all.push([0; 8])?;
+        all.push([0; SECTOR_WORDS])?;
     }
     Ok(all)
 }
@@ -247,10 +249,10 @@ fn found_by(sectors: &Vec<Sector>, call: &DeviceCall) -> Sector
 {
     match call {
         DeviceCall::Read(sector) => match sectors.as_slice().get(usize::from(*sector)) {
-            None => [0; 8],
+            None => [0; SECTOR_WORDS],
             Some(words) => *words,
         },
-        _ => [0; 8],
+        _ => [0; SECTOR_WORDS],
     }
 }
 

@@ -5,6 +5,7 @@ ghost use Rattle.plain_machine.specs.Wiring.{file_row, file_rows, terminal_row, 
 ghost use Rattle.tal_tree.specs.declared.site.Who.TheVariants as who;
 ghost use Rattle.plain_semantics.specs.Openers.{files_of, opener_of};
 ghost use Rattle.plain_semantics.specs.SiteLimits.{KeepsSiteLimits};
+ghost use Rattle.gd_words.specs.declared.limits.TheConstants.{MOST_FILES, MOST_PROCESSES, MOST_TERMINALS};
 
 use gd_words::{List, NoMemory};
 use plain_semantics::{Opener, files_of, opener_of};
@@ -17,8 +18,8 @@ pub(crate) fn file_rows(
     processes: &[ProcessSpec],
 ) -> Result<List<List<Option<Opener>>>, NoMemory>
     requires limits { KeepsSiteLimits site.now }
-    requires few { length processes.now ≤ 16 }
-    requires files { All (λ spec. length (files_of spec.what) ≤ 8) processes.now }
+    requires few { length processes.now ≤ MOST_PROCESSES }
+    requires files { All (λ spec. length (files_of spec.what) ≤ MOST_FILES) processes.now }
     ensures { IfOk result (λ rows. rows ≡ file_rows site.now 0 processes.now) }
 {
     let mut rows = List::new(alloc);
@@ -36,7 +37,7 @@ fn file_row(
     files: &[FileUse],
 ) -> Result<List<Option<Opener>>, NoMemory>
     requires limits { KeepsSiteLimits site.now }
-    requires few { length files.now ≤ 8 }
+    requires few { length files.now ≤ MOST_FILES }
     ensures { IfOk result (λ row. row ≡ file_row site.now process 0 files.now) }
 {
     let mut row = List::new(alloc);
@@ -54,7 +55,7 @@ pub(crate) fn terminal_row(
     terminals: &[TerminalSpec],
 ) -> Result<List<Option<Opener>>, NoMemory>
     requires limits { KeepsSiteLimits site.now }
-    requires few { length terminals.now ≤ 16 }
+    requires few { length terminals.now ≤ MOST_TERMINALS }
     ensures { IfOk result (λ row. row ≡ terminal_row site.now 0 terminals.now) }
 {
     let mut row = List::new(alloc);

@@ -4,6 +4,7 @@ ghost use Rattle.tal_tree.specs.declared.site.Who.TheVariants as who;
 ghost use Rattle.plain_semantics.specs.Machine.{next_request};
 ghost use Rattle.plain_semantics.specs.Openers.{opener_of};
 ghost use Rattle.plain_semantics.specs.SiteLimits.{KeepsSiteLimits};
+ghost use Rattle.gd_words.specs.declared.limits.TheConstants.{MOST_REQUESTS};
 
 use crate::tables::{file_rows, found_file, found_terminal, terminal_row};
 use gd_words::{List, NoMemory, Words};
@@ -68,7 +69,7 @@ impl<'a> Wires<'a> {
     /// The request that a terminal sends after it has entered `entered` of them. `None` if it has no more.
     pub(crate) fn request(&self, terminal: usize, entered: u32) -> Option<&Words>
         ensures request { option_copied result ≡ next_request self.now terminal entered }
-        ensures few { IfSome result (λ words. entered < 1000) }
+        ensures few { IfSome result (λ words. entered < MOST_REQUESTS) }
     {
         match self.site.terminals.get(terminal) {
             None => None,
