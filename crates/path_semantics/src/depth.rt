@@ -1,20 +1,25 @@
 ghost use Rattle.std.specs.Prelude.{◌≡◌, ◌≤◌, [], ◌∷◌, length, slice_get};
 ghost use Rattle.std.specs.Option.{unwrap_or};
 ghost use Rattle.path_semantics.specs.Bounds.{greatest, of_called, depth_of};
+ghost use Rattle.gd_words.specs.declared.limits.TheConstants.{MOST_PROCEDURES};
 
 use arrayvec::ArrayVec;
+use gd_words::limits::MOST_PROCEDURES;
 use tal_tree::{Program, Statement, What};
+
+/// How many procedures a text has at most.
+const PROCEDURES: usize = MOST_PROCEDURES as usize;
 
 /// How many procedures the longest chain of calls from a program's main procedure goes through, that one counted: 1
 /// where it calls nothing. A call of a procedure that doesn't stand before its caller counts as none. The rule is our
 /// own, for the bounds of the checkpoint discipline. A text has at most 64 procedures, so this takes no memory.
 pub fn call_depth(program: &Program) -> u32
-    requires few { length program.now.procedures ≤ 64 }
+    requires few { length program.now.procedures ≤ MOST_PROCEDURES }
     ensures depth { result ≡ depth_of program.now }
-    ensures most { result ≤ 64 }
+    ensures most { result ≤ MOST_PROCEDURES }
 {
     let procedures = program.procedures.as_slice();
-    let mut depths: ArrayVec<u32, 64> = ArrayVec::new();
+    let mut depths: ArrayVec<u32, PROCEDURES> = ArrayVec::new();
     for procedure in procedures {
         let called = deepest(depths.as_slice(), procedure.body.as_slice());
         depths.push(called + 1);
