@@ -5,6 +5,7 @@ ghost use Rattle.path_semantics.specs.Bounds.{sizes as program_sizes, size_of, t
 ghost use Rattle.flow_paths.specs.Built.{IsBuilt};
 ghost use Rattle.flow_paths.specs.Flow.{IsFlow};
 ghost use Rattle.flow_paths.specs.Graph.{AreClosed, IsWithin};
+ghost use Rattle.gd_words.specs.declared.limits.TheConstants.{MOST_WRITTEN_OUT};
 
 use crate::fault::FlowFault;
 use crate::graph::Node;
@@ -28,6 +29,7 @@ impl<'a> Model for Flow<'a> {
     ghost use Rattle.std.specs.Coded.{codes};
     ghost use Rattle.tal_tree.specs.contracts.statement.Statement as statement;
     ghost use Rattle.flow_paths.specs.Graph as graph;
+    ghost use Rattle.gd_words.specs.declared.limits.TheConstants.{MOST_WRITTEN_OUT};
 
     ghost Value = { Items graph.Node };
 
@@ -35,7 +37,7 @@ impl<'a> Model for Flow<'a> {
 
     ghost view = { λ flow. flow.nodes.items };
 
-    ghost invariant = { λ flow. (length flow.nodes.items ≤ 8192) × graph.AreClosed flow.nodes.items };
+    ghost invariant = { λ flow. (length flow.nodes.items ≤ MOST_WRITTEN_OUT) × graph.AreClosed flow.nodes.items };
 }
 
 impl<'a> Flow<'a> {
@@ -62,7 +64,7 @@ impl<'a> Flow<'a> {
         requires ordered { IsOrdered program.now }
         requires limits { IsWithinLimits program.now }
         requires sizes { sizes.now ≡ map told (program_sizes program.now) }
-        requires few { size_of program.now ≤ 8192 }
+        requires few { size_of program.now ≤ MOST_WRITTEN_OUT }
         ensures { IfOk result (λ flow. IsFlow program.now flow) }
     {
         let mut graphs = Graphs::new(alloc);
@@ -81,7 +83,7 @@ impl<'a> Flow<'a> {
 
     /// The graph of these nodes.
     pub(crate) fn from_nodes(nodes: Vec<Node<'a>>) -> Flow<'a>
-        requires few { length nodes.items ≤ 8192 }
+        requires few { length nodes.items ≤ MOST_WRITTEN_OUT }
         requires closed { AreClosed nodes.items }
         ensures { result ≡ nodes.entry.items }
     {
@@ -91,7 +93,7 @@ impl<'a> Flow<'a> {
     /// How many nodes there are.
     pub fn len(&self) -> u16
         ensures count { result ≡ length self.now }
-        ensures few { result ≤ 8192 }
+        ensures few { result ≤ MOST_WRITTEN_OUT }
     {
         self.nodes.len() as u16
     }
@@ -108,7 +110,7 @@ impl<'a> Flow<'a> {
     /// All nodes.
     pub(crate) fn nodes(&self) -> &[Node<'a>]
         ensures nodes { result.now ≡ self.now }
-        ensures few { length self.now ≤ 8192 }
+        ensures few { length self.now ≤ MOST_WRITTEN_OUT }
         ensures closed { AreClosed self.now }
     {
         self.nodes.as_slice()

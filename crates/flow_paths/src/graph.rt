@@ -6,6 +6,7 @@ ghost use Rattle.flow_paths.specs.Graph.{IsWithin};
 ghost use Rattle.flow_paths.specs.Layout.{to_node, leaving, ending, with_targets, moved, one_way, two_ways};
 ghost use Rattle.flow_paths.specs.Layout.{caller_from, moved_node};
 ghost use Rattle.flow_paths.specs.declared.graph.Goal.TheVariants.{At};
+ghost use Rattle.gd_words.specs.declared.limits.TheConstants.{MOST_WRITTEN_OUT};
 
 use gd_words::{List, NoMemory};
 use path_semantics::Entry;
@@ -88,8 +89,8 @@ impl Edge {
 
     /// The edge in a procedure whose nodes begin at a number, where it goes on so behind the call.
     fn moved(&self, alloc: Global, base: u16, after: &Edge) -> Result<Edge, NoMemory>
-        requires base { base ≤ 8192 }
-        requires within { (k : ℕ) → self.now.goal ≡ At k → k < 8192 }
+        requires base { base ≤ MOST_WRITTEN_OUT }
+        requires within { (k : ℕ) → self.now.goal ≡ At k → k < MOST_WRITTEN_OUT }
         ensures { IfOk result (λ edge. edge ≡ moved base after.now self.now) }
     {
         let mut edge = self.copy(alloc)?;
@@ -160,8 +161,8 @@ impl<'a> Node<'a> {
 
     /// The node in the procedure that the call at a node calls, where it goes on so behind the call.
     pub(crate) fn moved(&self, alloc: Global, call: u16, after: &Edge) -> Result<Node<'a>, NoMemory>
-        requires call { call < 8192 }
-        requires within { IsWithin 8192 self.now }
+        requires call { call < MOST_WRITTEN_OUT }
+        requires within { IsWithin MOST_WRITTEN_OUT self.now }
         ensures { IfOk result (λ node. node ≡ moved_node call after.now self.now) }
     {
         let caller = match self.caller {

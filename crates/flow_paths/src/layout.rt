@@ -8,10 +8,11 @@ ghost use Rattle.path_semantics.specs.process_semantics.specs.State.{Run};
 ghost use Rattle.flow_paths.specs.Graph.{AreClosed};
 ghost use Rattle.flow_paths.specs.Layout.{size_in, size_row, leaving, start_at, one_way, lay_call, lay_in, lay_row};
 ghost use Rattle.flow_paths.specs.Layout.{graph_at, graph_sizes};
+ghost use Rattle.gd_words.specs.declared.limits.TheConstants.{MOST_PROCEDURES, MOST_WRITTEN_OUT};
 
 use crate::flow::Flow;
 use crate::graph::{Edge, Node};
-use crate::size::{size_of, size_of_all};
+use crate::size::{PROCEDURES, size_of, size_of_all};
 use arrayvec::ArrayVec;
 use gd_words::NoMemory;
 use path_semantics::Entry;
@@ -23,7 +24,7 @@ use tal_tree::{Statement, What};
 #[derive(Drop)]
 pub(crate) struct Graphs<'a> {
     alloc: Global,
-    sizes: ArrayVec<u32, 64>,
+    sizes: ArrayVec<u32, PROCEDURES>,
     graphs: Vec<Flow<'a>>,
 }
 
@@ -56,7 +57,7 @@ impl<'a> Graphs<'a> {
 
     /// Adds the graph of the next procedure.
     pub(crate) fn push(&mut self, graph: Flow<'a>) -> Result<(), NoMemory>
-        requires room { length self.old < 64 }
+        requires room { length self.old < MOST_PROCEDURES }
         ensures { OnOk result (self.new ≡ self.old ++ graph.entry ∷ []) }
     {
         let size = u32::from(graph.len());
@@ -67,8 +68,8 @@ impl<'a> Graphs<'a> {
 
     /// The graph of the procedure that has this body.
     pub(crate) fn graph(&self, body: &'a [Statement]) -> Result<Flow<'a>, NoMemory>
-        requires room { size_row (graph_sizes self.now) (rows body.now) ≤ 8192 }
-        requires few { length (lay_row (graph_at self.now) (rows body.now) 0 leaving) ≤ 8192 }
+        requires room { size_row (graph_sizes self.now) (rows body.now) ≤ MOST_WRITTEN_OUT }
+        requires few { length (lay_row (graph_at self.now) (rows body.now) 0 leaving) ≤ MOST_WRITTEN_OUT }
         requires closed { AreClosed (lay_row (graph_at self.now) (rows body.now) 0 leaving) }
         ensures { IfOk result (λ graph. graph ≡ lay_row (graph_at self.now) (rows body.now) 0 leaving) }
     {
@@ -78,14 +79,14 @@ impl<'a> Graphs<'a> {
     }
 
     fn size_of_all(&self, statements: &[Statement]) -> u16
-        requires few { size_row (graph_sizes self.now) (rows statements.now) ≤ 8192 }
+        requires few { size_row (graph_sizes self.now) (rows statements.now) ≤ MOST_WRITTEN_OUT }
         ensures { result ≡ size_row (graph_sizes self.now) (rows statements.now) }
     {
         size_of_all(self.sizes.as_slice(), statements) as u16
     }
 
     fn size_of(&self, statement: &Statement) -> u16
-        requires few { size_in (graph_sizes self.now) statement.now.what ≤ 8192 }
+        requires few { size_in (graph_sizes self.now) statement.now.what ≤ MOST_WRITTEN_OUT }
         ensures { result ≡ size_in (graph_sizes self.now) statement.now.what }
     {
         size_of(self.sizes.as_slice(), statement) as u16
@@ -100,7 +101,7 @@ impl<'a> Graphs<'a> {
         after: &Edge,
         nodes: &mut Vec<Node<'a>>,
     ) -> Result<(), NoMemory>
-        requires room { at + size_row (graph_sizes self.now) (rows statements.now) ≤ 8192 }
+        requires room { at + size_row (graph_sizes self.now) (rows statements.now) ≤ MOST_WRITTEN_OUT }
         ensures { OnOk result (nodes.new.items ≡ nodes.old.items
             ++ lay_row (graph_at self.now) (rows statements.now) at after.now) }
     {
@@ -125,7 +126,7 @@ impl<'a> Graphs<'a> {
         after: &Edge,
         nodes: &mut Vec<Node<'a>>,
     ) -> Result<(), NoMemory>
-        requires room { at + size_in (graph_sizes self.now) statement.now.what ≤ 8192 }
+        requires room { at + size_in (graph_sizes self.now) statement.now.what ≤ MOST_WRITTEN_OUT }
         ensures { OnOk result (nodes.new.items ≡ nodes.old.items
             ++ lay_in (graph_at self.now) statement.now.what statement.now at after.now) }
     {
@@ -177,7 +178,7 @@ impl<'a> Graphs<'a> {
         nodes: &mut Vec<Node<'a>>,
     ) -> Result<(), NoMemory>
         requires room { at + 1 + size_row (graph_sizes self.now) (rows yes.now)
-            + size_row (graph_sizes self.now) (rows no.now) ≤ 8192 }
+            + size_row (graph_sizes self.now) (rows no.now) ≤ MOST_WRITTEN_OUT }
         ensures { OnOk result ((test : Cond) → nodes.new.items
             ≡ nodes.old.items ++ lay_in (graph_at self.now) (If test yes.now no.now) statement.now at after.now) }
     {
@@ -198,7 +199,7 @@ impl<'a> Graphs<'a> {
         after: &Edge,
         nodes: &mut Vec<Node<'a>>,
     ) -> Result<(), NoMemory>
-        requires room { at + 1 + size_row (graph_sizes self.now) (rows body.now) ≤ 8192 }
+        requires room { at + 1 + size_row (graph_sizes self.now) (rows body.now) ≤ MOST_WRITTEN_OUT }
         ensures { OnOk result ((test : Cond) → nodes.new.items
             ≡ nodes.old.items ++ lay_in (graph_at self.now) (While test body.now) statement.now at after.now) }
     {
@@ -218,7 +219,7 @@ impl<'a> Graphs<'a> {
         after: &Edge,
         nodes: &mut Vec<Node<'a>>,
     ) -> Result<(), NoMemory>
-        requires room { at + 3 + size_row (graph_sizes self.now) (rows body.now) ≤ 8192 }
+        requires room { at + 3 + size_row (graph_sizes self.now) (rows body.now) ≤ MOST_WRITTEN_OUT }
         ensures { OnOk result ((variable : Variable) (from to : Expr) (down : Bool) (step : ℤ) (last : ℕ)
             → nodes.new.items ≡ nodes.old.items ++ lay_in (graph_at self.now)
             (For variable from to down step body.now last) statement.now at after.now) }
@@ -244,7 +245,7 @@ impl<'a> Graphs<'a> {
         after: &Edge,
         nodes: &mut Vec<Node<'a>>,
     ) -> Result<(), NoMemory>
-        requires room { at + 1 + size_row (graph_sizes self.now) (rows body.now) ≤ 8192 }
+        requires room { at + 1 + size_row (graph_sizes self.now) (rows body.now) ≤ MOST_WRITTEN_OUT }
         ensures { OnOk result ((test : Cond) → nodes.new.items
             ≡ nodes.old.items ++ lay_in (graph_at self.now) (DoUntil body.now test) statement.now at after.now) }
     {
@@ -265,7 +266,7 @@ impl<'a> Graphs<'a> {
         after: &Edge,
         nodes: &mut Vec<Node<'a>>,
     ) -> Result<(), NoMemory>
-        requires room { at + 1 + graph_sizes self.now procedure ≤ 8192 }
+        requires room { at + 1 + graph_sizes self.now procedure ≤ MOST_WRITTEN_OUT }
         ensures { OnOk result (nodes.new.items ≡ nodes.old.items
             ++ lay_call (graph_at self.now procedure) statement.now at after.now) }
     {
@@ -286,7 +287,7 @@ fn lay_called<'a>(
     after: &Edge,
     nodes: &mut Vec<Node<'a>>,
 ) -> Result<(), NoMemory>
-    requires room { at + 1 + length called.now ≤ 8192 }
+    requires room { at + 1 + length called.now ≤ MOST_WRITTEN_OUT }
     requires closed { AreClosed called.now }
     ensures { OnOk result (nodes.new.items ≡ nodes.old.items ++ lay_call called.now statement.now at after.now) }
 {

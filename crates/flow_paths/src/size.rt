@@ -2,17 +2,22 @@ ghost use Rattle.std.specs.Prelude.{◌≡◌, ◌≤◌, length, map};
 ghost use Rattle.path_semantics.specs.Bounds.{sizes, told};
 ghost use Rattle.tal_tree.specs.Rows.{rows};
 ghost use Rattle.flow_paths.specs.Layout.{size_in, size_row, size_at};
+ghost use Rattle.gd_words.specs.declared.limits.TheConstants.{MOST_PROCEDURES};
 
 use arrayvec::ArrayVec;
+use gd_words::limits::MOST_PROCEDURES;
 use tal_tree::{Program, Statement, What};
 
+/// How many procedures a text has at most.
+pub(crate) const PROCEDURES: usize = MOST_PROCEDURES as usize;
+
 /// How large each procedure is with all calls written out; 4,294,967,295 also where it is larger.
-pub(crate) fn sizes(program: &Program) -> ArrayVec<u32, 64>
-    requires few { length program.now.procedures ≤ 64 }
+pub(crate) fn sizes(program: &Program) -> ArrayVec<u32, PROCEDURES>
+    requires few { length program.now.procedures ≤ MOST_PROCEDURES }
     ensures { result.items ≡ map told (sizes program.now) }
 {
     let procedures = program.procedures.as_slice();
-    let mut sizes: ArrayVec<u32, 64> = ArrayVec::new();
+    let mut sizes: ArrayVec<u32, PROCEDURES> = ArrayVec::new();
     for procedure in procedures {
         let size = size_of_all(sizes.as_slice(), procedure.body.as_slice());
         sizes.push(size);
