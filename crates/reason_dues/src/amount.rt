@@ -6,6 +6,7 @@ ghost use Rattle.path_semantics.specs.process_semantics.specs.SeenEntries.{entry
 ghost use Rattle.path_semantics.specs.Dues.{global_of_spot, global_of, changed_by, changed_by_return, target_of, reads};
 ghost use Rattle.reason_dues.specs.Amounts.{clears, adds, adds_changed, one_more, after_what, after_changed};
 ghost use Rattle.reason_dues.specs.Amounts.{after_entry, may_break_at, depth_in, most_of};
+ghost use Rattle.gd_words.specs.declared.limits.TheConstants.{MOST_DEPTH};
 
 use path_semantics::{Entry, Reason, asks, may_break};
 use tal_tree::{FileUse, Program, Spot, Variable, What};
@@ -13,7 +14,7 @@ use tal_tree::{FileUse, Program, Spot, Variable, What};
 /// How much is due after an entry.
 #[inline(always)]
 pub fn after_entry(reason: Reason, entry: Entry<'_>, due: u8) -> u8
-    requires { due ≤ 4 }
+    requires { due ≤ MOST_DEPTH }
     ensures value { result ≡ after_entry reason (entry_of entry.entry) due }
     ensures most { result ≤ 5 }
 {
@@ -26,7 +27,7 @@ pub fn after_entry(reason: Reason, entry: Entry<'_>, due: u8) -> u8
 
 #[inline(always)]
 fn after_what(reason: Reason, what: &What, due: u8) -> u8
-    requires { due ≤ 4 }
+    requires { due ≤ MOST_DEPTH }
     ensures value { result ≡ after_what reason (out-What what.now) due }
     ensures most { result ≤ 5 }
 {
@@ -41,7 +42,7 @@ fn after_what(reason: Reason, what: &What, due: u8) -> u8
 
 #[inline(always)]
 fn one_more(reason: Reason, due: u8) -> u8
-    requires { due ≤ 4 }
+    requires { due ≤ MOST_DEPTH }
     ensures value { result ≡ one_more reason due }
     ensures most { result ≤ 5 }
 {
@@ -53,7 +54,7 @@ fn one_more(reason: Reason, due: u8) -> u8
 
 #[inline(always)]
 fn after_last(reason: Reason, what: &What, due: u8) -> u8
-    requires { due ≤ 4 }
+    requires { due ≤ MOST_DEPTH }
     ensures value { result ≡ after_changed reason (changed_by (out-What what.now)) due }
     ensures most { result ≤ 5 }
 {
