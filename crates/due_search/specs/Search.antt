@@ -13,6 +13,7 @@ use Rattle.reason_dues.specs.Amounts.{cut_after, after_changed, may_break_at}
 use Rattle.due_search.specs.declared.queue.Visit.{Visit}
 use Rattle.due_search.specs.declared.search.Aim.{Aim}
 use Rattle.gd_words.specs.declared.limits.TheConstants.{MOST_STATEMENTS}
+use Rattle.gd_words.specs.declared.limits.TheConstants.{MOST_DEPTH}
 
 -- the visit with which a search begins
 abbrev pub first_visit : Visit
@@ -83,7 +84,7 @@ mark_of visit = visit.node * 5 + visit.due
 -- exactly what stands in the queue is marked, once
 pub record IsMarked (seen : List Bool) (queue : List Visit) : Type 0 where
   pub count : length queue ≡ count_by (λ mark. mark) seen
-  pub small : (place : ℕ) (visit : Visit) → slice_get queue place ≡ Some visit → visit.due ≤ 4
+  pub small : (place : ℕ) (visit : Visit) → slice_get queue place ≡ Some visit → visit.due ≤ MOST_DEPTH
   pub inside : (place : ℕ) (visit : Visit) → slice_get queue place ≡ Some visit → mark_of visit < length seen
   pub there : (mark : ℕ) → slice_get seen mark ≡ Some true
       → (place : ℕ) × (visit : Visit) × (slice_get queue place ≡ Some visit) × (mark ≡ mark_of visit)

@@ -5,6 +5,7 @@ ghost use Rattle.due_search.specs.declared.queue.Visit.{Visit};
 ghost use Rattle.due_search.specs.Ends.{AreNumbered, HasFound, HasStopped};
 ghost use Rattle.due_search.specs.Search.{first_visit, mark_of, ends_with, HasRoom, IsMarked, IsClear, Comes, ComesBy};
 ghost use Rattle.due_search.specs.Search.{visit_after, back, IsTrail, IsSearched, Advances};
+ghost use Rattle.gd_words.specs.declared.limits.TheConstants.{MOST_DEPTH, MOST_STATEMENTS, MOST_WRITTEN_OUT};
 
 use crate::queue::Visit;
 use flow_paths::{Edge, Entry, Flow, Goal, Reason, entry_number};
@@ -62,7 +63,7 @@ impl Search {
         flow: &Flow<'_>,
         aim: Aim,
     ) -> Result<Option<List<u16>>, NoMemory>
-        requires few { aim.most ≤ 4 }
+        requires few { aim.most ≤ MOST_DEPTH }
         requires numbers { AreNumbered flow.now }
         requires clear { IsClear self.old.seen.items }
         requires room { length self.old.seen.items ≡ length flow.now * 5 }
@@ -92,7 +93,7 @@ impl Search {
 
     /// Visits what walks lead to, until a visit ends the search: its place among the visits; none if none ends it.
     fn explore(&mut self, flow: &Flow<'_>, aim: Aim) -> Result<Option<usize>, NoMemory>
-        requires few { aim.most ≤ 4 }
+        requires few { aim.most ≤ MOST_DEPTH }
         requires clear { IsClear self.old.seen.items }
         requires room { length self.old.seen.items ≡ length flow.now * 5 }
         ensures stopped { IfOk result (λ stopped. HasStopped flow.now aim self.new.queue.items stopped) }
@@ -116,8 +117,8 @@ impl Search {
 
     /// Goes on from the visit at a place, unless it ends the search.
     fn advance(&mut self, flow: &Flow<'_>, aim: Aim, head: usize) -> Result<bool, NoMemory>
-        requires size { length flow.now ≤ 8192 }
-        requires few { aim.most ≤ 4 }
+        requires size { length flow.now ≤ MOST_WRITTEN_OUT }
+        requires few { aim.most ≤ MOST_DEPTH }
         requires head { head < length self.old.queue.items }
         requires searched { IsSearched flow.now aim self.old.queue.items head }
         requires marked { IsMarked self.old.seen.items self.old.queue.items }
@@ -151,7 +152,7 @@ impl Search {
         visit: Visit,
         edge: &Edge,
     ) -> Result<(), NoMemory>
-        requires most { aim.most ≤ 4 }
+        requires most { aim.most ≤ MOST_DEPTH }
         requires steps { visit.steps < 65535 }
         requires goal { HasRoom edge.now.goal (length self.old.seen.items) }
         requires marked { IsMarked self.old.seen.items self.old.queue.items }
@@ -180,7 +181,7 @@ impl Search {
     /// Puts a visit behind the others, unless one to the same node with as much due has come.
     fn come(&mut self, visit: Visit) -> Result<(), NoMemory>
         requires room { mark_of visit < length self.old.seen.items }
-        requires due { visit.due ≤ 4 }
+        requires due { visit.due ≤ MOST_DEPTH }
         requires marked { IsMarked self.old.seen.items self.old.queue.items }
         ensures comes { OnOk result (Comes self.old.queue.items self.new.queue.items visit) }
         ensures marked { OnOk result (IsMarked self.new.seen.items self.new.queue.items) }
@@ -231,7 +232,7 @@ impl Search {
 
 /// The number of an entry.
 fn number(entry: Entry<'_>) -> u16
-    requires { entry_number (entry_of entry) ≤ 2000 }
+    requires { entry_number (entry_of entry) ≤ MOST_STATEMENTS }
     ensures { result ≡ entry_number (entry_of entry.entry) }
 {
     entry_number(entry) as u16
