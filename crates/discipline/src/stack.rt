@@ -1,7 +1,12 @@
 ghost use Rattle.std.specs.Prelude.{◌≡◌, ◌≤◌, ◌<◌, ◌+◌, [], ◌∷◌, drop, length, slice_get};
+ghost use Rattle.gd_words.specs.declared.limits.TheConstants.{MOST_PROCEDURES};
 
 use arrayvec::ArrayVec;
+use gd_words::limits::MOST_PROCEDURES;
 use std::marker::Model;
+
+/// How many procedures a text has at most.
+const PROCEDURES: usize = MOST_PROCEDURES as usize;
 
 /// How far a procedure has come: the number of the entry that comes next in it, 0 at its end.
 #[derive(Clone, Copy, Default)]
@@ -13,7 +18,7 @@ pub(crate) struct Position {
 /// The positions of the procedures in progress, at most 64. Contracts see the one that runs first, and MAIN's last.
 #[derive(Drop)]
 pub(crate) struct Stack {
-    positions: ArrayVec<Position, 64>,
+    positions: ArrayVec<Position, PROCEDURES>,
 }
 
 impl Model for Stack {
@@ -53,7 +58,7 @@ impl Stack {
 
     /// Enters a procedure; where 64 are in progress nothing changes.
     pub(crate) fn push(&mut self, position: Position)
-        ensures entered { length self.old < 64 → self.new ≡ position ∷ self.old }
+        ensures entered { length self.old < MOST_PROCEDURES → self.new ≡ position ∷ self.old }
         ensures few { length self.new ≤ length self.old + 1 }
     {
         let _ = self.positions.try_push(position);

@@ -5,6 +5,7 @@ ghost use Rattle.path_semantics.specs.Place.{body_of, first_stand};
 ghost use Rattle.process_semantics.specs.Rests.{next_number};
 ghost use Rattle.due_search.specs.reason_dues.specs.Amounts.{most_of};
 ghost use Rattle.discipline.specs.Walker.{IsAt, IsSettled, HasGone, TellsNextIn, IsStep, IsWalk};
+ghost use Rattle.gd_words.specs.declared.limits.TheConstants.{MOST_DEPTH};
 
 use crate::find::first_number;
 use crate::stack::{Position, Stack};
@@ -34,7 +35,7 @@ impl Course<'_> {
         requires ordered { IsOrdered self.program.now }
         requires limits { IsWithinLimits self.program.now }
         requires most { self.most ≡ most_of self.program.now self.reason }
-        requires few { self.most ≤ 4 }
+        requires few { self.most ≤ MOST_DEPTH }
         ensures { IsWalk self.entry.program.now self.entry.reason path.now result }
     {
         let Some((first, others)) = path.split_first() else {
@@ -58,7 +59,7 @@ impl Course<'_> {
         requires ordered { IsOrdered self.program.now }
         requires limits { IsWithinLimits self.program.now }
         requires most { self.most ≡ most_of self.program.now self.reason }
-        requires few { self.most ≤ 4 }
+        requires few { self.most ≤ MOST_DEPTH }
         ensures { IsAt self.entry.program.now self.entry.reason result.stack result.due
             (first_stand self.entry.program.now) }
     {
@@ -75,7 +76,7 @@ impl Course<'_> {
         requires ordered { IsOrdered self.program.now }
         requires limits { IsWithinLimits self.program.now }
         requires most { self.most ≡ most_of self.program.now self.reason }
-        requires few { self.most ≤ 4 }
+        requires few { self.most ≤ MOST_DEPTH }
         ensures { IsStep self.entry.program.now self.entry.reason here.now.stack here.now.due number result }
     {
         let Some(top) = here.stack.top() else {
