@@ -20,6 +20,7 @@ use Rattle.advice.specs.declared.answer.AdviseFault.TheVariants.{TooDeep, TooLar
 use Rattle.advice.specs.Advice.{IsLeastDepth}
 use Rattle.advice.specs.Choice.{Choice, deepest}
 use Rattle.advice.specs.Due.{is_checkpoint, IsItemDue, IsFileDue}
+use Rattle.gd_words.specs.declared.limits.TheConstants.{MOST_DEPTH}
 
 -- the statements of a program, at any level, in the order of the text
 abbrev pub statements_of : Program → List Statement
@@ -71,7 +72,7 @@ pub record IsAnswer (program : Program) (advice : Advice) : Type 0 where
   pub lists : (one : Advised) → IsAmong one advice.lists → IsLeastList program one
   pub count : length advice.depths ≡ length program.files
   pub depths : (file depth : ℕ) → slice_get advice.depths file ≡ Some depth → IsLeastDepth program file depth
-  pub few : (file depth : ℕ) → slice_get advice.depths file ≡ Some depth → depth ≤ 4
+  pub few : (file depth : ℕ) → slice_get advice.depths file ≡ Some depth → depth ≤ MOST_DEPTH
 
 -- a reason that doesn't speak of what a CHECKPOINT names
 abbrev pub IsBeyondLists : Reason → Type 0

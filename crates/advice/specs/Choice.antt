@@ -13,6 +13,7 @@ use Rattle.tal_tree.specs.declared.statement.What.{What, Assign, AssignCall, If'
 use Rattle.tal_tree.specs.declared.statement.What.{Return, ReadUpdate, Reply, WriteRead, Checkpoint, CheckMonitor}
 use Rattle.tal_tree.specs.declared.statement.What.{Open, Stop}
 use Rattle.tal_tree.specs.declared.statement.What.{Row_of-Statement, end_of-Statement, more_of-Statement}
+use Rattle.gd_words.specs.declared.limits.TheConstants.{MOST_DEPTH}
 
 -- the globals and the files that a CHECKPOINT names, by its number, and the depth of a file, by its place among the
 -- OPENs
@@ -70,7 +71,7 @@ with_choice program choice = record program {
 
 -- the program with the greatest depth, 4, for each file
 abbrev pub deepened : FileUse → FileUse
-deepened file = record file { depth = 4 }
+deepened file = record file { depth = MOST_DEPTH }
 
 abbrev pub deepest : Program → Program
 deepest program = record program { files = map deepened program.files }
@@ -81,7 +82,7 @@ pub record IsChoice (program : Program) (choice : Choice) : Type 0 where
   pub items : (number item : ℕ) → IsTrue (is_among item (choice.items number)) → MayBeListed program item
   pub files : (number file : ℕ) → IsTrue (is_among file (choice.files number)) → IsProcess program file
   pub lowest : (place : ℕ) → place < length program.files → 1 ≤ choice.depth place
-  pub highest : (place : ℕ) → place < length program.files → choice.depth place ≤ 4
+  pub highest : (place : ℕ) → place < length program.files → choice.depth place ≤ MOST_DEPTH
   pub receive : (place : ℕ) (file : FileUse) → slice_get program.files place ≡ Some file → file.target ≡ target.Receive
       → choice.depth place ≡ 1
 
