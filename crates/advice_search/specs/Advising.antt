@@ -7,6 +7,7 @@ use Rattle.advice.specs.declared.answer.AdviseFault.{AdviseFault}
 use Rattle.advice.specs.Advice.{IsLeastDepth}
 use Rattle.advice.specs.Answer.{IsAdvised}
 use Rattle.advice.specs.Choice.{deepest}
+use Rattle.gd_words.specs.declared.limits.TheConstants.{MOST_DEPTH}
 
 -- neither input nor the depth of a file before this one is broken, with the greatest depths
 pub record NoneDeepBefore (program : Program) (file : ℕ) : Type 0 where
@@ -21,13 +22,14 @@ IsInputTried program (Err refusal) = IsAdvised program (Err refusal)
 -- a file's depth is the least that is enough, and no path breaks the greatest; or the program is refused
 abbrev pub IsDepthFound : Program → ℕ → Result ℕ AdviseFault → Type 0
 IsDepthFound program file (Ok depth) =
-    IsLeastDepth program file depth × (depth ≤ 4) × ((path : List ℕ) → Breaks (deepest program) path (Depth file) → ⊥)
+    IsLeastDepth program file depth × (depth ≤ MOST_DEPTH)
+    × ((path : List ℕ) → Breaks (deepest program) path (Depth file) → ⊥)
 IsDepthFound program file (Err refusal) = IsAdvised program (Err refusal)
 
 -- the first depths are the least that are enough
 pub record AreLeastDepths (program : Program) (depths : List ℕ) : Type 0 where
   pub least : (file depth : ℕ) → slice_get depths file ≡ Some depth → IsLeastDepth program file depth
-  pub few : (file depth : ℕ) → slice_get depths file ≡ Some depth → depth ≤ 4
+  pub few : (file depth : ℕ) → slice_get depths file ≡ Some depth → depth ≤ MOST_DEPTH
 
 -- there is such a depth for each file, or the program is refused
 abbrev pub AreDepthsFound : Program → Result (List ℕ) AdviseFault → Type 0

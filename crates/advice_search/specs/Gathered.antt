@@ -12,6 +12,7 @@ use Rattle.advice.specs.reason_dues.specs.declared.number_set.Numbers.{Numbers}
 use Rattle.advice.specs.due_search.specs.declared.queue.Visit.{Visit}
 use Rattle.advice.specs.Due.{is_checkpoint, is_ask_next}
 use Rattle.gd_words.specs.declared.limits.TheConstants.{MOST_GLOBALS, MOST_STATEMENTS}
+use Rattle.gd_words.specs.declared.limits.TheConstants.{MOST_DEPTH}
 
 -- the number of a CHECKPOINT
 abbrev pub checkpoint_at : Entry → Option ℕ
@@ -48,7 +49,7 @@ pub record AreReadable (nodes : List Node) (visits : List Visit) : Type 0 where
   pub there : (place : ℕ) (visit : Visit) → slice_get visits place ≡ Some visit → visit.node < length nodes
   pub low : (place : ℕ) (visit : Visit) (node : Node) → slice_get visits place ≡ Some visit
       → slice_get nodes visit.node ≡ Some node → entry_number node.entry ≤ MOST_STATEMENTS
-  pub few : (place : ℕ) (visit : Visit) → slice_get visits place ≡ Some visit → visit.due ≤ 4
+  pub few : (place : ℕ) (visit : Visit) → slice_get visits place ≡ Some visit → visit.due ≤ MOST_DEPTH
 
 -- sets to which a member is added wherever one of these visits stands at a CHECKPOINT with something due
 abbrev pub AreAdded : List Node → List Visit → ℕ → List Numbers → List Numbers → Type 0

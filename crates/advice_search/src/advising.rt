@@ -10,6 +10,7 @@ ghost use Rattle.advice.specs.Answer.{IsAdvised};
 ghost use Rattle.advice.specs.Due.{IsItemDue, IsFileDue};
 ghost use Rattle.advice_search.specs.Gathered.{AreDue};
 ghost use Rattle.advice_search.specs.Advising.{IsInputTried, NoneDeepBefore, IsDepthFound, AreDepthsFound};
+ghost use Rattle.gd_words.specs.declared.limits.TheConstants.{MOST_STATEMENTS};
 
 use crate::deepest::deepest;
 use crate::due_sets::DueSets;
@@ -101,7 +102,7 @@ fn find_depths(
     requires input { NoneDeepBefore program.now 0 }
     requires clear { IsClear search.old.seen.items }
     requires room { length search.old.seen.items ≡ length flow.now * 5 }
-    requires count { length files.old.sets.items ≡ 2001 }
+    requires count { length files.old.sets.items ≡ MOST_STATEMENTS + 1 }
     requires due { AreDue (IsFileDue program.now) files.old.sets.items 0 }
     ensures found { AreDepthsFound program.now result }
     ensures due { OnOk result (AreDue (IsFileDue program.now) files.new.sets.items (length program.now.files)) }
@@ -132,11 +133,11 @@ fn find_depth(
     requires before { NoneDeepBefore program.now file }
     requires clear { IsClear search.old.seen.items }
     requires room { length search.old.seen.items ≡ length flow.now * 5 }
-    requires count { length files.old.sets.items ≡ 2001 }
+    requires count { length files.old.sets.items ≡ MOST_STATEMENTS + 1 }
     requires due { AreDue (IsFileDue program.now) files.old.sets.items file }
     ensures found { IsDepthFound program.now file result }
     ensures due { OnOk result (AreDue (IsFileDue program.now) files.new.sets.items (file + 1)) }
-    ensures count { OnOk result (length files.new.sets.items ≡ 2001) }
+    ensures count { OnOk result (length files.new.sets.items ≡ MOST_STATEMENTS + 1) }
     ensures clear { OnOk result (IsClear search.new.seen.items) }
     ensures room { length search.new.seen.items ≡ length search.old.seen.items }
 {
@@ -169,7 +170,7 @@ fn find_items(
     requires numbers { AreNumbered flow.now }
     requires clear { IsClear search.old.seen.items }
     requires room { length search.old.seen.items ≡ length flow.now * 5 }
-    requires count { length items.old.sets.items ≡ 2001 }
+    requires count { length items.old.sets.items ≡ MOST_STATEMENTS + 1 }
     requires due { AreDue (IsItemDue program.now) items.old.sets.items 0 }
     ensures due { OnOk result (AreDue (IsItemDue program.now) items.new.sets.items (length program.now.items)) }
 {
@@ -194,10 +195,10 @@ fn find_item(
     requires numbers { AreNumbered flow.now }
     requires clear { IsClear search.old.seen.items }
     requires room { length search.old.seen.items ≡ length flow.now * 5 }
-    requires count { length items.old.sets.items ≡ 2001 }
+    requires count { length items.old.sets.items ≡ MOST_STATEMENTS + 1 }
     requires due { AreDue (IsItemDue program.now) items.old.sets.items item }
     ensures due { OnOk result (AreDue (IsItemDue program.now) items.new.sets.items (item + 1)) }
-    ensures count { OnOk result (length items.new.sets.items ≡ 2001) }
+    ensures count { OnOk result (length items.new.sets.items ≡ MOST_STATEMENTS + 1) }
     ensures clear { OnOk result (IsClear search.new.seen.items) }
     ensures room { length search.new.seen.items ≡ length search.old.seen.items }
 {

@@ -2,15 +2,17 @@ ghost use Rattle.std.specs.Prelude.{◌≡◌, ◌<◌, ◌≤◌, ℕ, length, 
 ghost use Rattle.process_semantics.specs.SeenEntries.{entry_of};
 ghost use Rattle.advice.specs.reason_dues.specs.Sets.{has_number};
 ghost use Rattle.advice_search.specs.Gathered.{checkpoint_at, due_at, has_in, AreReadable, AreAdded};
+ghost use Rattle.gd_words.specs.declared.limits.TheConstants.{MOST_STATEMENTS};
 
 use advice::{Flow, Numbers, Visit};
 use gd_words::NoMemory;
+use gd_words::limits::MOST_STATEMENTS;
 use process_semantics::Entry;
 use std::alloc::Global;
 use tal_tree::What;
 
 /// How many numbers the statements of a program have at most, with 0, which none has.
-const NUMBERS: usize = 2_001;
+const NUMBERS: usize = MOST_STATEMENTS as usize + 1;
 
 /// For each number of a statement a set of globals, or of files: those that are due where the CHECKPOINT of this number
 /// comes.
@@ -22,7 +24,7 @@ pub(crate) struct DueSets {
 impl DueSets {
     /// Nothing is due anywhere.
     pub(crate) fn new(alloc: Global) -> Result<DueSets, NoMemory>
-        ensures count { IfOk result (λ due. length due.sets.items ≡ 2001) }
+        ensures count { IfOk result (λ due. length due.sets.items ≡ MOST_STATEMENTS + 1) }
         ensures none { IfOk result (λ due. (number n : ℕ) → has_in due.sets.items number n ≡ false) }
     {
         let sets = vec![in alloc; Numbers::none(); NUMBERS]?;
@@ -41,9 +43,9 @@ impl DueSets {
 
     /// Adds a global or a file wherever one of these visits stands at a CHECKPOINT with something due.
     pub(crate) fn add(&mut self, flow: &Flow<'_>, visits: &[Visit], member: u16)
-        requires count { length self.old.sets.items ≡ 2001 }
+        requires count { length self.old.sets.items ≡ MOST_STATEMENTS + 1 }
         requires readable { AreReadable flow.now visits.now }
-        ensures count { length self.new.sets.items ≡ 2001 }
+        ensures count { length self.new.sets.items ≡ MOST_STATEMENTS + 1 }
         ensures added { AreAdded flow.now visits.now member self.old.sets.items self.new.sets.items }
     {
         for visit in visits {

@@ -3,6 +3,7 @@ ghost use Rattle.advice.specs.Answer.{checkpoints_of as program_checkpoints};
 ghost use Rattle.advice.specs.reason_dues.specs.Sets.{has_number};
 ghost use Rattle.advice_search.specs.Gathered.{has_in};
 ghost use Rattle.advice_search.specs.Lists.{place_of, numbers_below, advised};
+ghost use Rattle.gd_words.specs.declared.limits.TheConstants.{MOST_GLOBALS};
 
 use crate::checkpoints::{Checkpoint, checkpoints_of};
 use crate::due_sets::DueSets;
@@ -18,7 +19,7 @@ pub(crate) fn lists_of(
     items: &DueSets,
     files: &DueSets,
 ) -> Result<List<Advised>, NoMemory>
-    requires items { length program.now.items ≤ 64 }
+    requires items { length program.now.items ≤ MOST_GLOBALS }
     requires files { length program.now.files ≤ 64 }
     ensures { IfOk result (λ lists. lists ≡ map
         (λ checkpoint. advised program.now items.now.sets.items files.now.sets.items checkpoint)
@@ -41,7 +42,7 @@ fn list_of(
     files: &DueSets,
     checkpoint: Checkpoint,
 ) -> Result<Advised, NoMemory>
-    requires items { length program.now.items ≤ 64 }
+    requires items { length program.now.items ≤ MOST_GLOBALS }
     requires files { length program.now.files ≤ 64 }
     ensures { IfOk result (λ list. list ≡ advised program.now items.now.sets.items files.now.sets.items checkpoint) }
 {
