@@ -2,6 +2,7 @@
 use Rattle.std.specs.Prelude.{ℕ, ◌+◌, ◌-◌, ◌*◌, ◌/◌, ◌%◌, ◌==◌, ◌&&◌, ◌||◌, nat_le, nat_lt, ℤ, pos, Bool, true, List}
 use Rattle.std.specs.Prelude.{[], ◌∷◌, ◌++◌, length, replicate, if◌then◌else◌}
 use Rattle.std.specs.Int.{w16, cast_signed}
+use Rattle.gd_words.specs.declared.limits.TheConstants.{MOST_RELOADS, TERMINAL_NODE}
 use Rattle.packet_words.specs.declared.packet.Packet.{Packet}
 use Rattle.packet_words.specs.declared.packet.PacketKind.{PacketKind}
 use Rattle.packet_words.specs.declared.packet.PacketKind.TheVariants as kind
@@ -18,11 +19,12 @@ is_kind kind.Alive = true
 is_kind (kind.Piece number piece) = nat_lt 0 number && is_piece piece
 is_kind (kind.Acknowledgement number) = nat_lt 0 number
 
--- what may go over a bus: nodes to 16, incarnations to 127, and a kind within its ranges
+-- what may go over a bus: nodes and incarnations within their limits, and a kind within its ranges
 abbrev pub is_packet : Packet → Bool
 is_packet packet =
-    nat_le packet.sender 16 && nat_le packet.receiver 16 && nat_le packet.incarnation.sender 127
-    && nat_le packet.incarnation.receiver 127
+    nat_le packet.sender TERMINAL_NODE && nat_le packet.receiver TERMINAL_NODE
+    && nat_le packet.incarnation.sender MOST_RELOADS
+    && nat_le packet.incarnation.receiver MOST_RELOADS
     && is_kind packet.kind
 
 -- the word of the pattern of 16 bits that a number has

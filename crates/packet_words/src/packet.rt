@@ -2,6 +2,7 @@ ghost use Rattle.std.specs.Prelude.{◌≡◌};
 ghost use Rattle.packet_words.specs.Layout.{is_piece, is_kind, is_packet};
 
 use crate::piece::Piece;
+use gd_words::limits::{MOST_RELOADS, TERMINAL_NODE};
 
 /// A packet from a node to a node; nodes are 0 to 16.
 #[derive(Drop)]
@@ -33,10 +34,10 @@ impl Packet {
     pub fn is_whole(&self) -> bool
         ensures { result ≡ is_packet self.now }
     {
-        self.sender <= 16
-            && self.receiver <= 16
-            && self.incarnation.sender <= 127
-            && self.incarnation.receiver <= 127
+        self.sender <= TERMINAL_NODE
+            && self.receiver <= TERMINAL_NODE
+            && self.incarnation.sender <= MOST_RELOADS
+            && self.incarnation.receiver <= MOST_RELOADS
             && is_kind(&self.kind)
     }
 
