@@ -2,6 +2,7 @@ ghost use Rattle.std.specs.Prelude.{◌≡◌, ◌≤◌, ◌<◌, ◌+◌, [], 
 ghost use Rattle.std.specs.Vec.{vec_capacity};
 ghost use Rattle.std.specs.List.{remove};
 ghost use Rattle.std.specs.Option.{option_copied, option_map};
+ghost use Rattle.packet_words.specs.gd_words.specs.declared.limits.TheConstants.{MOST_PACKETS};
 ghost use Rattle.bus_model.specs.Packets.{has_room, sent, sent_again};
 
 use packet_words::{MOST_PACKETS, NoMemory, Packet};
@@ -24,14 +25,16 @@ pub struct Bus {
 impl Model for Bus {
     ghost use Rattle.std.specs.Prelude.{List, ◌≤◌, ◌+◌, drop, length};
     ghost use Rattle.std.specs.Vec.{vec_capacity};
+    ghost use Rattle.packet_words.specs.gd_words.specs.declared.limits.TheConstants.{MOST_PACKETS};
     ghost use Rattle.packet_words.specs.declared.packet.Packet.{Packet};
+    ghost use Rattle.bus_model.specs.declared.bus.TheConstants.{ROOM};
 
     ghost Value = { List Packet };
 
     ghost view = { λ bus. drop bus.taken bus.packets.items };
 
-    ghost invariant = { λ bus. (8192 ≤ vec_capacity bus.packets) × (bus.taken ≤ length bus.packets.items)
-        × (length bus.packets.items ≤ 8192) × (length bus.packets.items ≤ bus.taken + 4096) };
+    ghost invariant = { λ bus. (ROOM ≤ vec_capacity bus.packets) × (bus.taken ≤ length bus.packets.items)
+        × (length bus.packets.items ≤ ROOM) × (length bus.packets.items ≤ bus.taken + MOST_PACKETS) };
 }
 
 impl Bus {
@@ -46,7 +49,7 @@ impl Bus {
     /// How many packets are on the bus.
     pub fn len(&self) -> usize
         ensures value { result ≡ length self.now }
-        ensures few { result ≤ 4096 }
+        ensures few { result ≤ MOST_PACKETS }
     {
         self.packets.len() - self.taken
     }
