@@ -6,6 +6,7 @@ use Rattle.std.specs.Prelude.{[]}
 use Rattle.std.specs.Prelude.{◌∷◌, ◌++◌, length, Option, Some, None, if◌then◌else◌}
 use Rattle.std.specs.Option.{option_map}
 use Rattle.packet_words.specs.gd_words.specs.Ranges.{HasNext}
+use Rattle.packet_words.specs.gd_words.specs.declared.limits.TheConstants.{MOST_RELOADS}
 use Rattle.packet_words.specs.declared.bus_name.BusName.{BusName}
 use Rattle.packet_words.specs.declared.bus_name.BusName.TheVariants as bus
 use Rattle.packet_words.specs.declared.piece.Piece.{Piece}
@@ -231,9 +232,10 @@ is_of x e = (e.here == x) || (e.there == x)
 abbrev pub end_after_reload : ℕ → End → End
 end_after_reload x e = if is_of x e then next_end x e else e
 
--- the node x can be loaded again as far as an end knows: incarnations end at 127
+-- the node x can be loaded again as far as an end knows: incarnations end at the limit of reloads
 abbrev pub HasIncarnationLeft : ℕ → End → Type 0
-HasIncarnationLeft x e = (e.here ≡ x → e.incarnation.sender < 127) × (e.there ≡ x → e.incarnation.receiver < 127)
+HasIncarnationLeft x e =
+    (e.here ≡ x → e.incarnation.sender < MOST_RELOADS) × (e.there ≡ x → e.incarnation.receiver < MOST_RELOADS)
 
 -- the packet that tells the other node that this one is alive; none goes to a node that is marked down
 abbrev pub alive_of : End → Option Packet

@@ -1,6 +1,7 @@
 ghost use Rattle.std.specs.Prelude.{◌≡◌, ◌<◌, ◌↔◌, IsTrue, List as Items, length, IfOk, OnOk, OnErr, Some, None};
 ghost use Rattle.std.specs.Prelude.{if◌then◌else◌};
 ghost use Rattle.packet_words.specs.gd_words.specs.Ranges.{HasNext};
+ghost use Rattle.packet_words.specs.gd_words.specs.declared.limits.TheConstants.{MOST_RELOADS};
 ghost use Rattle.packet_words.specs.declared.packet.PacketKind.TheVariants as kind;
 ghost use Rattle.link_control.specs.Ends.{End, new_end, after_push, sent_by_push, after_packet, sent_by_packet};
 ghost use Rattle.link_control.specs.Ends.{handed_by_packet, after_tick, sent_by_tick, after_down, alive_of, is_empty};
@@ -293,7 +294,7 @@ impl Channel {
 
 /// The incarnation of a node after `loaded` was loaded again.
 fn incarnation_after(loaded: u8, node: u8, incarnation: u8) -> u8
-    requires { node ≡ loaded → incarnation < 127 }
+    requires { node ≡ loaded → incarnation < MOST_RELOADS }
     ensures { result ≡ incarnation_after loaded node incarnation }
 {
     if node == loaded {
