@@ -1,5 +1,6 @@
 ghost use Rattle.std.specs.Prelude.{◌≡◌, ◌≤◌, ◌<◌, ℕ, true, List, Option, Some, length};
 ghost use Rattle.std.specs.List.{list_all};
+ghost use Rattle.gd_words.specs.declared.limits.TheConstants.{MOST_PROCESSORS};
 ghost use Rattle.schedule.specs.declared.event.Counts.{Counts};
 ghost use Rattle.schedule.specs.declared.event.Event.{Event};
 ghost use Rattle.schedule.specs.declared.event.Event.TheVariants.{Tick};
@@ -17,20 +18,21 @@ ghost use Rattle.alive_rounds.specs.Fresh.{IsFresh};
 ghost use Rattle.alive_rounds.specs.Runs.{CountsShown, NumberedMachine, PlaysTo};
 ghost use Rattle.alive_rounds.specs.Watched.{IsWatched, Sight};
 
-/// Every turn of a round keeps I'm-alive packets fresh, on each machine of at most 16 processors whose nodes watch each
-/// other.
+/// Every turn of a round keeps I'm-alive packets fresh, on each machine of no more processors than a site may have, whose
+/// nodes watch each other.
 pub fn a_turn_keeps_alive_packets_fresh()
     ensures { (sizes : Sizes) (w : Sight ℕ ℕ) (machine : NumberedMachine)
         → IsWatched sizes.processors w (PlaysTo machine)
-        → sizes.processors ≤ 16 → HasBuses w.buses (PlaysTo machine) → (s : ℕ) (event : Event) (next : ℕ)
-        (from to : Place) → TurnsIn sizes w.buses s from event to → PlaysTo machine s event next
+        → sizes.processors ≤ MOST_PROCESSORS → HasBuses w.buses (PlaysTo machine) → (s : ℕ) (event : Event)
+        (next : ℕ) (from to : Place) → TurnsIn sizes w.buses s from event to → PlaysTo machine s event next
         → IsFresh sizes.processors w from s → IsFresh sizes.processors w to next }
 {}
 
 /// On such a machine, no tick of a calm schedule stops a processor.
 pub fn a_calm_schedule_stops_nobody_at_a_tick()
     ensures { (sizes : Sizes) (w : Sight ℕ ℕ) (machine : NumberedMachine) (counts : ℕ → Counts)
-        → IsWatched sizes.processors w (PlaysTo machine) → sizes.processors ≤ 16 → HasBuses w.buses (PlaysTo machine)
+        → IsWatched sizes.processors w (PlaysTo machine) → sizes.processors ≤ MOST_PROCESSORS
+        → HasBuses w.buses (PlaysTo machine)
         → CountsBuses w.buses counts → CountsShown (PlaysTo machine) counts
         → (start : ℕ) (lines : List Line) (stop : Option ProcessorStop) → list_all is_calm_line lines ≡ true
         → IsFresh sizes.processors w Before start → (events : List Event) (agenda : Agenda) (s : ℕ)
