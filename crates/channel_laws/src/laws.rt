@@ -1,5 +1,6 @@
 ghost use Rattle.std.specs.Prelude.{◌≡◌, ◌≤◌, ◌<◌, ℕ, ℤ, List, [], ◌∷◌, ◌++◌, length, true};
 ghost use Rattle.std.specs.Option.{option_to_list};
+ghost use Rattle.gd_words.specs.declared.limits.TheConstants.{MOST_RELOADS, TERMINAL_NODE};
 ghost use Rattle.packet_words.specs.declared.packet.Packet.{Packet};
 ghost use Rattle.packet_words.specs.declared.piece.Piece.{Piece};
 ghost use Rattle.packet_words.specs.Layout.{is_packet};
@@ -50,8 +51,8 @@ pub fn nets_hand_over_in_order()
 /// In a whole net each packet in flight between nodes that there may be, reloaded as often as they may be, is within
 /// the layout.
 pub fn packets_fit_the_layout()
-    ensures { (n : Net) (p : Packet) → IsWhole n → IsAmong p n.flight → p.sender ≤ 16 → p.receiver ≤ 16
-        → n.reloads p.sender ≤ 127 → n.reloads p.receiver ≤ 127
+    ensures { (n : Net) (p : Packet) → IsWhole n → IsAmong p n.flight → p.sender ≤ TERMINAL_NODE
+        → p.receiver ≤ TERMINAL_NODE → n.reloads p.sender ≤ MOST_RELOADS → n.reloads p.receiver ≤ MOST_RELOADS
         → is_packet p ≡ true }
 {}
 
