@@ -5,7 +5,7 @@ ghost use Rattle.std.specs.List.{list_all};
 ghost use Rattle.deck_lines.specs.Numbers.{digits_value, are_digits, written_number, small_of, word_of, as_negative};
 ghost use Rattle.deck_lines.specs.Numbers.{as_positive};
 
-/// What ten decimal digits at most stand for.
+/// What decimal digits stand for, ten at most.
 pub fn digits_value(digits: &[u8]) -> u64
     requires digits { IsTrue (list_all is_ascii_digit digits.now) }
     requires few { length digits.now ≤ 10 }
