@@ -321,7 +321,8 @@ passes-led (by_send k role at sent unmarked) = copy-led k _ _
 passes-led (by_pass_again k role at may less) = copy-led k _ _
 passes-led (by_pass k role at may most) = copy-led k _ _
 passes-led (by_end k role sent at may) = copy-led k _ _
-passes-led (by_apply_behind k message applied role sent era is put less) = copy-led k _ _
+passes-led (by_apply_behind k message applied role sent era is put less) =
+    copy-led k _ _ ∙ copy-led (other_of k) _ _
 passes-led (by_apply k message applied role sent era is put most) = copy-led k _ _ ∙ copy-led (other_of k) _ _
 passes-led (by_acknowledge k taken role sent among era is) = copy-led k _ _
 

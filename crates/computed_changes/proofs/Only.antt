@@ -209,7 +209,7 @@ passes-only site w {pair = pair} found apart named r fitting
     (subst
     (λ n. IsHanded site (copy_of k pair).processor (Checkpointing message) w
     (sent_at (copy_of k pair).processor (Taking (taken_of message) ∷ []))
-    (record (with_pair n (after_applying_behind n k message applied pair) w) { kept = w.kept })) name
+    (record (with_pair n (after_applying_behind n k message applied w.kept pair) w) { kept = w.kept })) name
     (apply-only site message k pair w applied here apart role era number is
     (fits-as site w r fitting pair k here refl)
     ∙ ap (λ b. Some (applied_as message k pair w applied b)) less))

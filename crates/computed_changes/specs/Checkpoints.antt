@@ -12,8 +12,9 @@ use Rattle.world_semantics.specs.Core.{Core}
 use Rattle.world_semantics.specs.World.{Copy, Pair, copy_of, other_of, with_copy}
 use Rattle.world_semantics.specs.Messages.{Taking, sent_at}
 use Rattle.world_semantics.specs.Kept.{own_acts}
-use Rattle.world_semantics.specs.Passes.{taken_of, after_applying, after_applying_behind, after_told, kept_at}
+use Rattle.world_semantics.specs.Passes.{taken_of, after_applying_where, after_told, point_at}
 use Rattle.world_semantics.specs.Records.{Records}
+use Rattle.world_semantics.specs.Shares.{covering_where, share_of}
 use Rattle.world_semantics.specs.Running.{Stepped}
 use Rattle.computed_changes.specs.Fitting.{depths_of, put_fitting}
 
@@ -39,17 +40,22 @@ core_as depths era number core message Gone = None
 abbrev pub core_applying : List ℕ → Copy → ImageMessage → Option Core
 core_applying depths copy message = core_as depths copy.era copy.number copy.core message copy.role
 
+-- the records after a checkpoint of this copy of a process was applied, which is behind the kept acts or isn't
+abbrev pub records_covering_where : ℕ → Copy → Records → Bool → Records
+records_covering_where number copy records behind =
+    record records { kept = (covering_where number (point_at copy) records.kept (share_of copy) behind).kept }
+
+-- the same, and whether it is behind them is seen from its share
+abbrev pub records_covering : ℕ → Copy → Records → Records
+records_covering number copy records =
+    records_covering_where number copy records (nat_lt copy.position (own_acts number records.kept))
+
 -- a copy of a process applies a checkpoint of the other one, by which it has this core, and says that it was taken.
 -- Where the other one is behind the kept acts nothing is kept; else what it holds is, and its act at its checkpoint
 abbrev pub applied_step_where : ℕ → Which → Pair → Records → ImageMessage → Core → Bool → Stepped
-applied_step_where number k pair records message applied true = record {
-  pair = after_applying_behind number k message applied pair;
-  records = records;
-  sendings = sent_at (copy_of k pair).processor (Taking (taken_of message) ∷ []);
-}
-applied_step_where number k pair records message applied false = record {
-  pair = after_applying number k message applied records.kept pair;
-  records = record records { kept = kept_at number (copy_of (other_of k) pair) records.kept };
+applied_step_where number k pair records message applied behind = record {
+  pair = after_applying_where number k message applied records.kept pair behind;
+  records = records_covering_where number (copy_of (other_of k) pair) records behind;
   sendings = sent_at (copy_of k pair).processor (Taking (taken_of message) ∷ []);
 }
 

@@ -334,7 +334,7 @@ module _ (n : ℕ) (kinds : ℕ → Bool) (w : World) (within : WorldWithin n ki
 
     -- where the other copy is behind the kept acts, the base is where it stands
     behind-pair : (k : Which) (applied : Core) → CoreWithin (n + 1) (kinds number) applied → message.number ≤ n + 1
-        → PairWithin (n + 1) (kinds number) (after_applying_behind number k message applied pair)
+        → PairWithin (n + 1) (kinds number) (after_applying_behind number k message applied w.kept pair)
     behind-pair First applied core-is few =
         let is = pair-there n kinds w within number pair there in
         let low = (within.pairs number pair there).1.3 in
@@ -349,14 +349,17 @@ module _ (n : ℕ) (kinds : ℕ → Bool) (w : World) (within : WorldWithin n ki
         (is.0, (core-is, few, is.1.2, is.1.3, is.1.4), omega (arith, low, own, one))
 
     behind-acts : (k : Which) (applied : Core)
-        → length w.kept + held_in (slice_set w.processes number (after_applying_behind number k message applied pair))
+        → length w.kept
+        + held_in (slice_set w.processes number (after_applying_behind number k message applied w.kept pair))
         ≤ n + 1
     behind-acts First applied =
-        let all = held-set w.processes number pair (after_applying_behind number First message applied pair) there in
+        let all =
+            held-set w.processes number pair (after_applying_behind number First message applied w.kept pair) there in
         let acts = within.acts in
         omega (arith, all, acts)
     behind-acts Second applied =
-        let all = held-set w.processes number pair (after_applying_behind number Second message applied pair) there in
+        let all =
+            held-set w.processes number pair (after_applying_behind number Second message applied w.kept pair) there in
         let acts = within.acts in
         omega (arith, all, acts)
 

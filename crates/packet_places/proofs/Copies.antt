@@ -1,6 +1,6 @@
 -- What changes of the world are computed changes copies in one processor alone, and sends from there.
 use Rattle.std.proofs.Common.{◌≡◌, ◌≢◌, ℕ, ◌+◌, ℤ, Bool, true, false, not, ◌&&◌, if◌then◌else◌, nat_lt, ◌==◌, List, []}
-use Rattle.std.proofs.Common.{◌∷◌, ◌++◌, map}
+use Rattle.std.proofs.Common.{◌∷◌, map}
 use Rattle.std.proofs.Common.{Option, Some, None, slice_get, slice_set, option_map, option_and_then, refl, sym, ap}
 use Rattle.std.proofs.Common.{subst, ◌∙◌}
 use Rattle.std.proofs.Math.Bool.{and-true}
@@ -8,6 +8,7 @@ use Rattle.std.proofs.lemmas.Bool.{eqb-true}
 use Rattle.gd_words.specs.Members.{IsAmong}
 use Rattle.gd_words.specs.declared.message.Request.{Request}
 use Rattle.gd_words.specs.declared.message.Reply.{Reply}
+use Rattle.tal_tree.specs.declared.act.Act.{Act}
 use Rattle.tal_tree.specs.declared.site.Site.{Site}
 use Rattle.tal_tree.specs.declared.site.OpenerSpec.{OpenerSpec}
 use Rattle.tal_tree.specs.declared.site.Who.{Who}
@@ -31,14 +32,13 @@ use Rattle.world_semantics.specs.Kept.{own_acts}
 use Rattle.world_semantics.specs.Messages.{Message, Asking, Replying, Checkpointing, Taking, Sending, sent_at}
 use Rattle.world_semantics.specs.Own.{around}
 use Rattle.checkpoint_image.specs.Receive.{waits, came, repeated, all_repeated}
-use Rattle.world_semantics.specs.Passes.{after_getting, after_sending, after_sent, after_told, checkpoint_of, kept_at}
-use Rattle.world_semantics.specs.Passes.{point_at, taken_of}
+use Rattle.world_semantics.specs.Passes.{after_covering_where, after_getting, after_sending, after_sent, after_told}
+use Rattle.world_semantics.specs.Passes.{checkpoint_of, taken_of}
 use Rattle.world_semantics.specs.Rules.{entered_request, taker, pair_after_down, pair_at_down, renewal_after_down}
 use Rattle.world_semantics.specs.Rules.{renewals_ended, takeover_sendings, told_at_down}
 use Rattle.world_semantics.specs.Records.{records_of}
 use Rattle.world_semantics.specs.Running.{Done, Own, Stepped, ending_step, first_step, in_world, own_at, run_done}
 use Rattle.world_semantics.specs.Running.{run_pair, sending_step, step_of_copy}
-use Rattle.world_semantics.specs.Shares.{acts_at}
 use Rattle.world_semantics.proofs.Lifted.{ended_done, free_at, lifted, made_if, done_at_checkpoint, own_done, own_made}
 use Rattle.world_semantics.proofs.Lifted.{passed_done, renewing_at, run_as, run_at, sent_done}
 use Rattle.world_semantics.proofs.Lists.{Changed, is_new, is_same, changed, mapped, some-same}
@@ -251,12 +251,11 @@ asked-at w request k pair there Watching = early-at w request k pair there
 asked-at w request k pair there Blank = early-at w request k pair there
 asked-at w request k pair there Gone = tt
 
-others-freed : (pair : Pair) (k : Which) (position base : ℕ) (takens : List TakenMessage)
+-- the copy whose checkpoint was applied keeps all but its share
+others-covered : (number : ℕ) (k : Which) (taken : TakenMessage) (kept : List Act) (pair : Pair) (behind : Bool)
     → KeepsItsOwn (copy_of (other_of k) pair)
-    (copy_of (other_of k) (with_copy (other_of k)
-    (record (copy_of (other_of k) pair) { position = position; held = [] })
-    (record pair { base = base; takens = takens })))
-others-freed pair First position base takens =
+    (copy_of (other_of k) (after_covering_where number (other_of k) taken kept pair behind))
+others-covered number First taken kept pair behind =
     record {
       processor = refl;
       role = refl;
@@ -268,7 +267,7 @@ others-freed pair First position base takens =
       core = refl;
       waiting = refl;
     }
-others-freed pair Second position base takens =
+others-covered number Second taken kept pair behind =
     record {
       processor = refl;
       role = refl;
@@ -280,42 +279,15 @@ others-freed pair Second position base takens =
       core = refl;
       waiting = refl;
     }
-
--- where the other copy is behind the kept acts, nothing of it changes
-others-still : (pair : Pair) (k : Which) (base : ℕ) (takens : List TakenMessage)
-    → KeepsItsOwn (copy_of (other_of k) pair) (copy_of (other_of k) (record pair { base = base; takens = takens }))
-others-still pair First base takens = keeps-same pair.second
-others-still pair Second base takens = keeps-same pair.first
 
 applied-as : (w : World) (message : ImageMessage) (k : Which) (pair : Pair)
     → slice_get w.processes message.process ≡ Some pair → (core : Core) (behind : Bool)
     → IsDoneAt (copy_of k pair).processor w (applied_as message k pair w core behind)
-applied-as w message k pair there core true =
+applied-as w message k pair there core behind =
     one-changed w message.process k pair there (after_getting message.number core (copy_of k pair))
-    (record pair {
-      base = (copy_of (other_of k) pair).position
-          + own_acts message.process (acts_at message.process (point_at (copy_of (other_of k) pair)));
-      takens = taken_of message ∷ pair.takens;
-    })
-    (others-still pair k _ (taken_of message ∷ pair.takens)) (applied_as message k pair w core true) refl
-    (sent-from (copy_of k pair).processor (Taking (taken_of message) ∷ []))
-applied-as w message k pair there core false =
-    one-changed w message.process k pair there (after_getting message.number core (copy_of k pair))
-    (with_copy (other_of k)
-    (record (copy_of (other_of k) pair) {
-      position =
-          own_acts message.process ((copy_of (other_of k) pair).held ++ w.kept);
-      held = [];
-    })
-    (record pair {
-      base = own_acts message.process (kept_at message.process (copy_of (other_of k) pair) w.kept);
-      takens =
-          taken_of message ∷ pair.takens;
-    }))
-    (others-freed pair k (own_acts message.process ((copy_of (other_of k) pair).held ++ w.kept))
-    (own_acts message.process (kept_at message.process (copy_of (other_of k) pair) w.kept))
-    (taken_of message ∷ pair.takens))
-    (applied_as message k pair w core false) refl
+    (after_covering_where message.process (other_of k) (taken_of message) w.kept pair behind)
+    (others-covered message.process k (taken_of message) w.kept pair behind)
+    (applied_as message k pair w core behind) refl
     (sent-from (copy_of k pair).processor (Taking (taken_of message) ∷ []))
 
 applied-core : (w : World) (message : ImageMessage) (k : Which) (pair : Pair)

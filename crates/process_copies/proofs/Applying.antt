@@ -1,23 +1,20 @@
 -- A checkpoint that comes to a copy is the step that is defined.
-use Rattle.std.proofs.Common.{◌≡◌, Bool, true, false, nat_lt, [], ◌∷◌, Option, Some, None, is_some, refl, ap, subst}
-use Rattle.std.proofs.Common.{sym}
+use Rattle.std.proofs.Common.{◌≡◌, true, [], ◌∷◌, Option, Some, None, is_some, refl, ap, subst, sym}
 use Rattle.std.specs.Option.{option_map}
 use Rattle.world_semantics.specs.checkpoint_image.specs.declared.message.ImageMessage.{ImageMessage}
 use Rattle.world_semantics.specs.checkpoint_image.specs.declared.message.TakenMessage.{TakenMessage}
 use Rattle.world_semantics.specs.declared.which.Which.{Which}
 use Rattle.world_semantics.specs.declared.which.Which.TheVariants.{First, Second}
 use Rattle.world_semantics.specs.Core.{Core}
-use Rattle.world_semantics.specs.World.{copy_of, other_of, with_copy}
-use Rattle.world_semantics.specs.Kept.{own_acts}
+use Rattle.world_semantics.specs.World.{copy_of, other_of}
 use Rattle.world_semantics.specs.Messages.{Taking, sent_at}
-use Rattle.world_semantics.specs.Passes.{point_at, taken_of}
-use Rattle.world_semantics.specs.Shares.{covered_where, covering_where, share_of, with_share}
-use Rattle.node_copies.specs.computed_changes.specs.Checkpoints.{applied_step, applied_step_where, checkpoint_step}
+use Rattle.world_semantics.specs.Passes.{after_covering, taken_of}
+use Rattle.node_copies.specs.computed_changes.specs.Checkpoints.{applied_step, checkpoint_step, records_covering}
 use Rattle.node_copies.specs.Receiving.{copy_applying}
 use Rattle.world_semantics.specs.Records.{Records}
 use Rattle.node_copies.specs.Seen.{step_sendings}
 use Rattle.node_copies.specs.declared.step.StepOutcome.{StepOutcome}
-use Rattle.process_copies.specs.Receiving.{Settles, core_by, other_covering, pair_covering, placed_with}
+use Rattle.process_copies.specs.Receiving.{Settles, core_by, placed_with}
 use Rattle.process_copies.specs.Seen.{Placed}
 use Rattle.world_semantics.specs.Running.{Stepped}
 
@@ -27,45 +24,14 @@ put k message core old = placed_with k (copy_applying (copy_of k old.pair) messa
 
 -- what it is after the other copy was covered too, and the records
 abbrev pub covered_by : Which → TakenMessage → Records → Placed → Placed
-covered_by k taken before mid = record mid { pair = pair_covering mid.number k taken before.kept mid.pair }
+covered_by k taken before mid =
+    record mid { pair = after_covering mid.number (other_of k) taken before.kept mid.pair }
 
 abbrev covered_after : Which → ImageMessage → Records → Placed → Placed
 covered_after k message before mid = covered_by k (taken_of message) before mid
 
 abbrev pub kept_after : Which → Records → Placed → Records
-kept_after k before mid = record before { kept = (other_covering k mid before.kept).kept }
-
--- told of whether the other copy is behind the kept acts: the share of that copy, and the base
-abbrev covered_put : Which → ImageMessage → Records → Core → Placed → Bool → Placed
-covered_put k message before core old behind =
-    let mid = put k message core old in
-    let other = copy_of (other_of k) mid.pair in
-    record mid {
-      pair =
-          with_copy (other_of k)
-          (with_share (covering_where mid.number (point_at other) before.kept (share_of other) behind).share other)
-          (record mid.pair {
-            base = covered_where mid.number (point_at other) before.kept (share_of other) behind;
-            takens = taken_of message ∷ mid.pair.takens;
-          });
-    }
-
-abbrev kept_put : Which → Records → Placed → Bool → Records
-kept_put k before old behind =
-    let other = copy_of (other_of k) old.pair in
-    record before { kept = (covering_where old.number (point_at other) before.kept (share_of other) behind).kept }
-
-settles-where : (k : Which) (old : Placed) (message : ImageMessage) (before : Records) (core : Core)
-    (step : StepOutcome) (behind : Bool)
-    → step_sendings step ≡ Some (sent_at (copy_of k (put k message core old).pair).processor
-    (Taking (taken_of message) ∷ []))
-    → Settles (Some (applied_step_where old.number k old.pair before message core behind)) old before step
-    (covered_put k message before core old behind)
-    (kept_put k before old behind)
-settles-where First old message before core step true told = (told, refl, refl)
-settles-where First old message before core step false told = (told, refl, refl)
-settles-where Second old message before core step true told = (told, refl, refl)
-settles-where Second old message before core step false told = (told, refl, refl)
+kept_after k before mid = records_covering mid.number (copy_of (other_of k) mid.pair) before
 
 settles-put : (k : Which) (old : Placed) (message : ImageMessage) (before : Records) (core : Core) (step : StepOutcome)
     → step_sendings step ≡ Some (sent_at (copy_of k (put k message core old).pair).processor
@@ -73,12 +39,8 @@ settles-put : (k : Which) (old : Placed) (message : ImageMessage) (before : Reco
     → Settles (Some (applied_step old.number k old.pair before message core)) old before step
     (covered_after k message before (put k message core old))
     (kept_after k before (put k message core old))
-settles-put First old message before core step told =
-    settles-where First old message before core step
-    (nat_lt old.pair.second.position (own_acts old.number before.kept)) told
-settles-put Second old message before core step told =
-    settles-where Second old message before core step
-    (nat_lt old.pair.first.position (own_acts old.number before.kept)) told
+settles-put First old message before core step told = (told, refl, refl)
+settles-put Second old message before core step told = (told, refl, refl)
 
 settles-mid : (old mid : Placed) (k : Which) (message : ImageMessage) (before : Records) (step : StepOutcome)
     (core : Option Core)

@@ -1,23 +1,20 @@
 -- What the code tells of a message that came to a copy. The rules are those of the world of copies.
-use Rattle.std.specs.Prelude.{◌≡◌, ℕ, ◌==◌, Bool, false, List, ◌∷◌, Option}
+use Rattle.std.specs.Prelude.{◌≡◌, ℕ, ◌==◌, Bool, false, Option}
 use Rattle.gd_words.specs.declared.message.Reply.{Reply}
 use Rattle.process_semantics.specs.Process as process
 use Rattle.node_copies.specs.change_layout.specs.declared.message.ChangeMessage.{ChangeMessage}
 use Rattle.world_semantics.specs.checkpoint_image.specs.declared.message.ImageMessage.{ImageMessage}
 use Rattle.world_semantics.specs.checkpoint_image.specs.declared.message.TakenMessage.{TakenMessage}
-use Rattle.tal_tree.specs.declared.act.Act.{Act}
 use Rattle.tal_tree.specs.declared.site.Site.{Site}
 use Rattle.world_semantics.specs.declared.role.Role.{Role}
 use Rattle.world_semantics.specs.declared.role.Role.TheVariants.{Acting, Watching, Blank, Gone}
 use Rattle.world_semantics.specs.declared.which.Which.{Which}
 use Rattle.world_semantics.specs.Core.{Core}
-use Rattle.world_semantics.specs.World.{Copy, Pair, copy_of, other_of, with_copy}
+use Rattle.world_semantics.specs.World.{Copy, copy_of, with_copy}
 use Rattle.node_copies.specs.computed_changes.specs.Fitting.{depths_of}
 use Rattle.node_copies.specs.computed_changes.specs.Changed.{core_changing}
 use Rattle.node_copies.specs.computed_changes.specs.Checkpoints.{core_applying}
 use Rattle.node_copies.specs.computed_changes.specs.Replies.{awaits}
-use Rattle.world_semantics.specs.Shares.{Sharing, covered_count, share_after_cover, share_of, with_share}
-use Rattle.world_semantics.specs.Passes.{point_at}
 use Rattle.world_semantics.specs.Records.{Records}
 use Rattle.node_copies.specs.Seen.{step_sendings}
 use Rattle.node_copies.specs.declared.step.StepOutcome.{StepOutcome}
@@ -52,26 +49,6 @@ core_changed_by k old change = core_changing (depths_of old.site old.number) (co
 -- the message that a checkpoint was taken which came as what changed
 abbrev pub taken_by_change : ChangeMessage → TakenMessage
 taken_by_change change = record { process = change.process; era = change.era; number = change.number }
-
--- the share of the other copy after its checkpoint was applied, and the kept acts
-abbrev pub other_covering : Which → Placed → List Act → Sharing
-other_covering k old kept =
-    share_after_cover old.number (point_at (copy_of (other_of k) old.pair)) kept
-    (share_of (copy_of (other_of k) old.pair))
-
--- the process after one of its copies applied a checkpoint, as far as the other copy and the process are concerned
-abbrev pub pair_covering : ℕ → Which → TakenMessage → List Act → Pair → Pair
-pair_covering number k taken kept pair =
-    with_copy (other_of k)
-    (with_share (share_after_cover number (point_at (copy_of (other_of k) pair)) kept
-    (share_of (copy_of (other_of k) pair))).share
-    (copy_of (other_of k) pair))
-    (record pair {
-      base =
-          covered_count number (point_at (copy_of (other_of k) pair)) kept
-          (share_of (copy_of (other_of k) pair));
-      takens = taken ∷ pair.takens;
-    })
 
 -- Again
 

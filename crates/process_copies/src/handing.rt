@@ -4,15 +4,15 @@ ghost use Rattle.process_semantics.specs.Process as process;
 ghost use Rattle.node_copies.specs.file_calls.specs.Queue.{sent_again};
 ghost use Rattle.plain_semantics.specs.Openers.{openers_of};
 ghost use Rattle.world_semantics.specs.checkpoint_image.specs.Receive.{repeated};
-ghost use Rattle.world_semantics.specs.Shares.{covered_count, share_of, with_share};
+ghost use Rattle.world_semantics.specs.Shares.{covered_count, share_after_cover, share_of, with_share};
 ghost use Rattle.node_copies.specs.message_wires.specs.HasRoom.{CopyHasRoom, PairHasRoom};
 ghost use Rattle.node_copies.specs.sendings.specs.Seen.{message_of};
 ghost use Rattle.world_semantics.specs.World.{copy_of, other_of};
 ghost use Rattle.world_semantics.specs.Messages.{Replying, Taking, sent_at};
-ghost use Rattle.world_semantics.specs.Passes.{after_told, point_at, taken_of};
+ghost use Rattle.world_semantics.specs.Passes.{after_covering, after_told, point_at, taken_of};
 ghost use Rattle.node_copies.specs.computed_changes.specs.Changed.{change_step, change_step_on};
-ghost use Rattle.node_copies.specs.computed_changes.specs.Checkpoints.{checkpoint_step, is_of_last, taken_step};
-ghost use Rattle.node_copies.specs.computed_changes.specs.Checkpoints.{taken_step_where};
+ghost use Rattle.node_copies.specs.computed_changes.specs.Checkpoints.{checkpoint_step, is_of_last};
+ghost use Rattle.node_copies.specs.computed_changes.specs.Checkpoints.{records_covering, taken_step, taken_step_where};
 ghost use Rattle.node_copies.specs.computed_changes.specs.Handed.{step_by, step_on};
 ghost use Rattle.node_copies.specs.computed_changes.specs.Laws.{NamesOpener};
 ghost use Rattle.node_copies.specs.computed_changes.specs.Replies.{awaits, got_step, reply_step, reply_step_where};
@@ -21,8 +21,8 @@ ghost use Rattle.node_copies.specs.computed_changes.specs.Requests.{request_step
 ghost use Rattle.node_copies.specs.Receiving.{copy_applying, copy_changing};
 ghost use Rattle.world_semantics.specs.Records as happened;
 ghost use Rattle.node_copies.specs.Seen.{step_sendings};
-ghost use Rattle.process_copies.specs.Receiving.{Settles, core_by, core_changed_by, is_awaiting, other_covering};
-ghost use Rattle.process_copies.specs.Receiving.{pair_covering, placed_with, taken_by_change};
+ghost use Rattle.process_copies.specs.Receiving.{Settles, core_by, core_changed_by, is_awaiting, placed_with};
+ghost use Rattle.process_copies.specs.Receiving.{taken_by_change};
 ghost use Rattle.process_copies.specs.Seen.{placed_after, records_after, sent_by};
 
 use crate::copies::{ProcessCopies, other_of};
@@ -262,11 +262,11 @@ impl ProcessCopies {
             ≡ Some (sent_at (copy_of which self.old.pair).processor (Taking taken ∷ []))) }
         ensures process { OnOk result (self.new
             ≡ record self.old {
-              pair = pair_covering self.old.number which taken records.old.kept
+              pair = after_covering self.old.number (other_of which) taken records.old.kept
                   self.old.pair;
             }) }
         ensures records { OnOk result (records.new
-            ≡ record records.old { kept = (other_covering which self.old records.old.kept).kept }) }
+            ≡ records_covering self.old.number (copy_of (other_of which) self.old.pair) records.old) }
         ensures site { self.new.site ≡ self.old.site }
         ensures number { self.new.number ≡ self.old.number }
     {
@@ -283,10 +283,11 @@ impl ProcessCopies {
             ≡ covered_count self.old.number (point_at (copy_of (other_of which) self.old.pair)) records.old.kept
             (share_of (copy_of (other_of which) self.old.pair))) }
         ensures process { OnOk result (self.new ≡ placed_with (other_of which)
-            (with_share (other_covering which self.old records.old.kept).share
+            (with_share (share_after_cover self.old.number (point_at (copy_of (other_of which) self.old.pair))
+            records.old.kept (share_of (copy_of (other_of which) self.old.pair))).share
             (copy_of (other_of which) self.old.pair)) self.old) }
         ensures records { OnOk result (records.new
-            ≡ record records.old { kept = (other_covering which self.old records.old.kept).kept }) }
+            ≡ records_covering self.old.number (copy_of (other_of which) self.old.pair) records.old) }
         ensures site { self.new.site ≡ self.old.site }
         ensures number { self.new.number ≡ self.old.number }
     {

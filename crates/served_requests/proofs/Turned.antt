@@ -185,7 +185,8 @@ module _ (site : Site) (fit : IsFit site) (events : ℕ) (w : World) (good : IsG
   passes-led (by_pass_again k role at may less) = with-led k _ _
   passes-led (by_pass k role at may most) = with-led k _ _
   passes-led (by_end k role sent at may) = with-led k _ _
-  passes-led (by_apply_behind k message applied role among era is put less) = with-led k _ _
+  passes-led (by_apply_behind k message applied role among era is put less) =
+      with-led k _ _ ∙ with-led (other_of k) _ _
   passes-led (by_apply k message applied role among era is put most) = with-led k _ _ ∙ with-led (other_of k) _ _
   passes-led (by_acknowledge k taken role sent among era is) = with-led k _ _
 

@@ -262,12 +262,16 @@ module _ (site : Site) (fit : IsFit site) (events : ℕ) (w : World) (good : IsG
           (refl, is_quiet (like (copy_of k pair) (after_sent (copy_of k pair)) refl refl refl)) (still First)
           (still Second)
       go {cause = cause} {sendings = sendings} (by_apply_behind k message applied role among era is put less) =
-          each (Goes site number cause sendings pair) k (after_getting message.number applied (copy_of k pair))
-          (record pair {
+          let base : Pair = record pair {
             base = (copy_of (other_of k) pair).position
                 + own_acts number (acts_at number (point_at (copy_of (other_of k) pair)));
             takens = taken_of message ∷ pair.takens;
-          }) (got k message applied role) (still First) (still Second)
+          } in
+          let others = each (Goes site number cause sendings pair) (other_of k) (copy_of (other_of k) pair) base
+          (still (other_of k)) (still First) (still Second) in
+          each (Goes site number cause sendings pair) k (after_getting message.number applied (copy_of k pair))
+          (with_copy (other_of k) (copy_of (other_of k) pair) base) (got k message applied role) (others First)
+          (others Second)
       go {cause = cause} {sendings = sendings} (by_apply k message applied role among era is put most) =
           let base : Pair = record pair {
             base = own_acts number (kept_at number (copy_of (other_of k) pair) w.kept);

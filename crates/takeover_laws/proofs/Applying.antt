@@ -340,7 +340,7 @@ module _ (site : Site) (regular : AreRegular site) (kept : List Act) (shown : Li
       → put_in pair.second.core message.image ≡ Some applied
       → pair.first.position < own_acts number kept
       → FirstLeads site ledger number spec (ledger.deeds number) pair
-      → Passed kept (after_applying_behind number Second message applied pair)
+      → Passed kept (after_applying_behind number Second message applied kept pair)
   applies-behind pair message applied few receiving sent era next put less
       (with_other role lead (is_lost gone) dated) = absurd (cc)
   applies-behind pair message applied few receiving sent era next put less

@@ -1,6 +1,6 @@
 -- How a checkpoint goes from one copy of a process to the other: Bartlett's checkpoint, applied whole. That era and
 -- number choose it is our own rule.
-use Rattle.std.specs.Prelude.{◌≡◌, ◌≤◌, ◌<◌, ℕ, ◌+◌, Bool, true, false, List, [], ◌∷◌, Some, ◌≢◌, ◌⊎◌, ◌++◌}
+use Rattle.std.specs.Prelude.{◌≡◌, ◌≤◌, ◌<◌, ℕ, ◌+◌, Bool, true, false, nat_lt, List, [], ◌∷◌, Some, ◌≢◌, ◌⊎◌}
 use Rattle.checkpoint_image.specs.gd_words.specs.Members.{IsAmong}
 use Rattle.checkpoint_image.specs.tal_tree.specs.declared.act.Act.{Act}
 use Rattle.plain_semantics.specs.process_semantics.specs.declared.point.Point.TheVariants as point
@@ -13,7 +13,8 @@ use Rattle.world_semantics.specs.Core.{Core, after_passing, put_in, carried_by}
 use Rattle.world_semantics.specs.World.{Copy, Pair, Down, has_noted, Which, other_of, copy_of, with_copy, may_pass}
 use Rattle.world_semantics.specs.World.{receives}
 use Rattle.world_semantics.specs.Kept.{own_acts}
-use Rattle.world_semantics.specs.Shares.{kept_with_checkpoint, share_of, acts_at, kept_up_to}
+use Rattle.world_semantics.specs.Shares.{kept_with_checkpoint, share_of, with_share, kept_up_to, covering_where}
+use Rattle.world_semantics.specs.Shares.{covered_where}
 use Rattle.world_semantics.specs.Messages.{Checkpointing, Taking, Sending, sent_at, Cause, Running, Handing}
 
 -- the next checkpoint of an era, behind that of a number, which carries what it does of a core, or everything
@@ -65,16 +66,34 @@ after_told copy = record copy { acknowledged = true; renewal = false }
 abbrev pub after_getting : ℕ → Core → Copy → Copy
 after_getting number applied copy = record copy { role = Watching; core = applied; number = number }
 
--- the process after one of its copies applied a checkpoint of the other one, which is behind the kept acts: the base is
--- where that one stands, behind its checkpoint if it stands at one
-abbrev pub after_applying_behind : ℕ → Which → ImageMessage → Core → Pair → Pair
-after_applying_behind number k message applied pair =
-    with_copy k (after_getting message.number applied (copy_of k pair))
+-- a process after the other one of its copies applied a checkpoint of this copy, which is behind the kept acts or
+-- isn't: this copy's share, the base, and that the checkpoint was taken
+abbrev pub after_covering_where : ℕ → Which → TakenMessage → List Act → Pair → Bool → Pair
+after_covering_where number k taken kept pair behind =
+    with_copy k
+    (with_share (covering_where number (point_at (copy_of k pair)) kept (share_of (copy_of k pair)) behind).share
+    (copy_of k pair))
     (record pair {
-      base = (copy_of (other_of k) pair).position
-          + own_acts number (acts_at number (point_at (copy_of (other_of k) pair)));
-      takens = taken_of message ∷ pair.takens;
+      base = covered_where number (point_at (copy_of k pair)) kept (share_of (copy_of k pair)) behind;
+      takens = taken ∷ pair.takens;
     })
+
+-- the same, and whether it is behind them is seen from its share
+abbrev pub after_covering : ℕ → Which → TakenMessage → List Act → Pair → Pair
+after_covering number k taken kept pair =
+    after_covering_where number k taken kept pair (nat_lt (copy_of k pair).position (own_acts number kept))
+
+-- the process after one of its copies applied a checkpoint of the other one, which is behind the kept acts or isn't
+abbrev pub after_applying_where : ℕ → Which → ImageMessage → Core → List Act → Pair → Bool → Pair
+after_applying_where number k message applied kept pair behind =
+    with_copy k (after_getting message.number applied (copy_of k pair))
+    (after_covering_where number (other_of k) (taken_of message) kept pair behind)
+
+-- the process after one of its copies applied a checkpoint of the other one, which is behind the kept acts: that one's
+-- share stays, and the base is where it stands, behind its checkpoint if it stands at one
+abbrev pub after_applying_behind : ℕ → Which → ImageMessage → Core → List Act → Pair → Pair
+after_applying_behind number k message applied kept pair =
+    after_applying_where number k message applied kept pair true
 
 -- the process after one of its copies applied a checkpoint of the other one, which isn't behind them: that one's held
 -- acts are kept, and its checkpoint if it stands at one; the base is behind them, and that one stands before the
@@ -82,16 +101,7 @@ after_applying_behind number k message applied pair =
 -- and its held acts
 abbrev pub after_applying : ℕ → Which → ImageMessage → Core → List Act → Pair → Pair
 after_applying number k message applied kept pair =
-    with_copy k (after_getting message.number applied (copy_of k pair))
-    (with_copy (other_of k)
-    (record (copy_of (other_of k) pair) {
-      position = own_acts number ((copy_of (other_of k) pair).held ++ kept);
-      held = [];
-    })
-    (record pair {
-      base = own_acts number (kept_at number (copy_of (other_of k) pair) kept);
-      takens = taken_of message ∷ pair.takens;
-    }))
+    after_applying_where number k message applied kept pair false
 
 -- how a checkpoint goes from one copy of a process to the other. A copy that acts sends one where it may, unless it did
 -- or its node has marked the other copy's processor. A copy that watches or is blank applies a sent checkpoint whose
@@ -131,7 +141,7 @@ pub data Passes (number : ℕ) (downs : List Down) (kept : List Act) (pair : Pai
       → (copy_of (other_of k) pair).position < own_acts number kept
       → Passes number downs kept pair (Handing (copy_of k pair).processor (Checkpointing message))
       (sent_at (copy_of k pair).processor (Taking (taken_of message) ∷ []))
-      (after_applying_behind number k message applied pair) kept
+      (after_applying_behind number k message applied kept pair) kept
   by_apply : (k : Which) (message : ImageMessage) (applied : Core) → receives (copy_of k pair).role ≡ true
       → IsAmong message pair.checkpoints
       → message.era ≡ (copy_of k pair).era → message.number ≡ (copy_of k pair).number + 1
