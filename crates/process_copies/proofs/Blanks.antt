@@ -8,9 +8,9 @@ use Rattle.process_semantics.specs.Process.{start_of}
 use Rattle.plain_semantics.specs.Openers.{files_of, openers_of}
 use Rattle.node_copies.specs.computed_changes.specs.Fitting.{depths_of}
 use Rattle.world_semantics.specs.Core.{Core, core_at_start}
-use Rattle.world_semantics.specs.Rules.{new_core, blank_copy, reloaded_by}
+use Rattle.world_semantics.specs.Rules.{new_core, blank_copy, pair_with_blanks, reloaded_by}
 use Rattle.node_copies.specs.Seen.{CopyAndDepths}
-use Rattle.process_copies.specs.Reloading.{blank_after, blanks_by, blanks_of, core_begun, pair_with_blanks}
+use Rattle.process_copies.specs.Reloading.{blank_after, blanks_by, blanks_of, copy_if, core_begun}
 use Rattle.process_copies.specs.Reloading.{placed_reloaded}
 use Rattle.process_copies.specs.Seen.{Placed}
 use Rattle.process_copies.specs.declared.reloading.BlankCopies.{BlankCopies}
@@ -65,7 +65,8 @@ second-deep processor placed =
 -- The process with them
 
 abbrev pub with_blanks : BlankCopies → Placed → Placed
-with_blanks blanks placed = record placed { pair = pair_with_blanks blanks.first blanks.second placed.pair }
+with_blanks blanks placed =
+    record placed { pair = pair_with_blanks (copy_if blanks.first) (copy_if blanks.second) placed.pair }
 
 reloaded-by : (placed : Placed) (one other : Bool)
     → with_blanks (blanks_by placed one other) placed

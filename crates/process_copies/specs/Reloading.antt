@@ -1,11 +1,11 @@
 -- The blank copies that a process gets in a processor which is loaded again. The rules are those of the world of
 -- copies.
 use Rattle.std.specs.Prelude.{ℕ, ◌+◌, ◌==◌, Bool, true, false, slice_get, Option, Some, None}
+use Rattle.std.specs.Option.{option_map}
 use Rattle.node_copies.specs.computed_changes.specs.Fitting.{depths_of}
 use Rattle.world_semantics.specs.Core.{Core}
-use Rattle.world_semantics.specs.declared.which.Which.TheVariants.{First, Second}
-use Rattle.world_semantics.specs.Rules.{new_core, blank_copy, reloaded_at, renewed}
-use Rattle.world_semantics.specs.World.{Pair}
+use Rattle.world_semantics.specs.Rules.{new_core, blank_copy, reloaded_at, reloaded_by}
+use Rattle.world_semantics.specs.World.{Copy}
 use Rattle.node_copies.specs.Seen.{CopyAndDepths}
 use Rattle.process_copies.specs.Seen.{Placed}
 use Rattle.process_copies.specs.declared.reloading.BlankCopies.{BlankCopies}
@@ -22,20 +22,17 @@ blank_after processor era placed = record {
   depths = depths_of placed.site placed.number;
 }
 
--- the blank copies of a process in whose first copy's, second copy's, both copies' or no copy's processor one was
+-- a copy of a process after a processor was loaded again, if it was there
+abbrev pub blank_if : Bool → Copy → Placed → Option CopyAndDepths
+blank_if false copy placed = None
+blank_if true copy placed = Some (record { copy = copy; depths = depths_of placed.site placed.number })
+
+-- the blank copies of a process in whose first copy's, second copy's, both copies' or no copy's processor one was: the
+-- copies that it has there after the load
 abbrev pub blanks_by : Placed → Bool → Bool → BlankCopies
-blanks_by placed false false = record { first = None; second = None }
-blanks_by placed true false = record {
-  first = Some (blank_after placed.pair.first.processor placed.pair.second.era placed);
-  second = None;
-}
-blanks_by placed false true = record {
-  first = None;
-  second = Some (blank_after placed.pair.second.processor placed.pair.first.era placed);
-}
-blanks_by placed true true = record {
-  first = Some (blank_after placed.pair.first.processor placed.pair.first.era placed);
-  second = Some (blank_after placed.pair.second.processor placed.pair.second.era placed);
+blanks_by placed first second = record {
+  first = blank_if first (reloaded_by (core_begun placed) placed.pair first second).first placed;
+  second = blank_if second (reloaded_by (core_begun placed) placed.pair first second).second placed;
 }
 
 -- the blank copies that a process gets when a processor is loaded again: one for each of its copies that was there
@@ -43,15 +40,9 @@ abbrev pub blanks_of : ℕ → Placed → BlankCopies
 blanks_of processor placed =
     blanks_by placed (placed.pair.first.processor == processor) (placed.pair.second.processor == processor)
 
--- a process with these blank copies in the places of its own: a copy that stays has to send everything to the other
--- one, and leads
-abbrev pub pair_with_blanks : Option CopyAndDepths → Option CopyAndDepths → Pair → Pair
-pair_with_blanks None None pair = pair
-pair_with_blanks (Some first) None pair =
-    record pair { first = first.copy; second = renewed pair.second; led = Second }
-pair_with_blanks None (Some second) pair =
-    record pair { first = renewed pair.first; second = second.copy; led = First }
-pair_with_blanks (Some first) (Some second) pair = record pair { first = first.copy; second = second.copy }
+-- the blank copy that a process gets, if it gets one
+abbrev pub copy_if : Option CopyAndDepths → Option Copy
+copy_if blank = option_map (λ one. one.copy) blank
 
 -- a process after a processor was loaded again
 abbrev pub placed_reloaded : ℕ → Placed → Placed

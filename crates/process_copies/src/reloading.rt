@@ -3,9 +3,9 @@ ghost use Rattle.std.specs.Option.{IfSome};
 ghost use Rattle.gd_words.specs.Ranges.{HasNext};
 ghost use Rattle.node_copies.specs.computed_changes.specs.Fitting.{depths_of};
 ghost use Rattle.node_copies.specs.message_wires.specs.HasRoom.{PairHasRoom};
-ghost use Rattle.process_copies.specs.Reloading.{blank_after, blanks_by, blanks_of};
-ghost use Rattle.process_copies.specs.Reloading.{pair_with_blanks, placed_reloaded};
+ghost use Rattle.process_copies.specs.Reloading.{blank_after, blanks_by, blanks_of, copy_if, placed_reloaded};
 ghost use Rattle.process_copies.specs.Starting.{IsStartable};
+ghost use Rattle.world_semantics.specs.Rules.{pair_with_blanks};
 
 use crate::copies::ProcessCopies;
 use gd_words::NoMemory;
@@ -124,7 +124,8 @@ impl ProcessCopies {
         requires first { first.depths ≡ depths_of self.old.site self.old.number }
         requires second { IfSome second (λ one. one.depths ≡ depths_of self.old.site self.old.number) }
         requires room { PairHasRoom self.old.pair }
-        ensures { self.new ≡ record self.old { pair = pair_with_blanks (Some first) second self.old.pair } }
+        ensures { self.new
+            ≡ record self.old { pair = pair_with_blanks (Some first.copy) (copy_if second) self.old.pair } }
     {
         self.copies.first = first;
         match second {
@@ -140,7 +141,7 @@ impl ProcessCopies {
     fn put_second(&mut self, second: Option<NodeCopy>)
         requires second { IfSome second (λ one. one.depths ≡ depths_of self.old.site self.old.number) }
         requires room { PairHasRoom self.old.pair }
-        ensures { self.new ≡ record self.old { pair = pair_with_blanks None second self.old.pair } }
+        ensures { self.new ≡ record self.old { pair = pair_with_blanks None (copy_if second) self.old.pair } }
     {
         if let Some(second) = second {
             self.copies.first.renew();

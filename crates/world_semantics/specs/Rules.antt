@@ -117,28 +117,26 @@ blank_copy processor era core = record (copy_at_boot Blank processor core) { era
 abbrev pub renewed : Copy → Copy
 renewed copy = record copy { era = copy.era + 1; number = 0; sent = false; acknowledged = false; renewal = true }
 
+-- a process with these blank copies in the places of its own: a copy that stays has to send everything to the other
+-- one, and leads
+abbrev pub pair_with_blanks : Option Copy → Option Copy → Pair → Pair
+pair_with_blanks None None pair = pair
+pair_with_blanks (Some first) None pair = record pair { first = first; second = renewed pair.second; led = Second }
+pair_with_blanks None (Some second) pair = record pair { first = renewed pair.first; second = second; led = First }
+pair_with_blanks (Some first) (Some second) pair = record pair { first = first; second = second }
+
 -- a process after a processor was loaded again in which its first copy was, its second one, both or none: the copy
 -- there is blank, at the beginning of the program, and the other one has to send everything and leads. Of no process
 -- that is in two processors both are there
 abbrev pub reloaded_by : Core → Pair → Bool → Bool → Pair
 reloaded_by core pair false false = pair
 reloaded_by core pair true false =
-    record pair {
-      first = blank_copy pair.first.processor (pair.second.era + 1) core;
-      second = renewed pair.second;
-      led = Second;
-    }
+    pair_with_blanks (Some (blank_copy pair.first.processor (pair.second.era + 1) core)) None pair
 reloaded_by core pair false true =
-    record pair {
-      first = renewed pair.first;
-      second = blank_copy pair.second.processor (pair.first.era + 1) core;
-      led = First;
-    }
+    pair_with_blanks None (Some (blank_copy pair.second.processor (pair.first.era + 1) core)) pair
 reloaded_by core pair true true =
-    record pair {
-      first = blank_copy pair.first.processor (pair.first.era + 1) core;
-      second = blank_copy pair.second.processor (pair.second.era + 1) core;
-    }
+    pair_with_blanks (Some (blank_copy pair.first.processor (pair.first.era + 1) core))
+    (Some (blank_copy pair.second.processor (pair.second.era + 1) core)) pair
 
 abbrev pub reloaded_pair : ℕ → Core → Pair → Pair
 reloaded_pair processor core pair =
