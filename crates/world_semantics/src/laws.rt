@@ -1,4 +1,5 @@
 ghost use Rattle.std.specs.Prelude.{◌≡◌, ◌≤◌, ◌↔◌, ◌⊎◌, ℕ, List, slice_get, Some, None, is_some, true};
+ghost use Rattle.checkpoint_image.specs.gd_words.specs.declared.limits.TheConstants.{MOST_PROCESSORS};
 ghost use Rattle.checkpoint_image.specs.gd_words.specs.Members.{IsAmong};
 ghost use Rattle.checkpoint_image.specs.tal_tree.specs.declared.site.Site.{Site};
 ghost use Rattle.schedule.specs.declared.event.Event.{Event};
@@ -114,10 +115,10 @@ pub fn what_is_sent_stays()
         → Change site w cause sendings next → IsAmong sending sendings → WasSent next sending.message }
 {}
 
-/// In a run of a site with at most 16 processors nothing is handed over at a processor that has stopped.
+/// In a run of a site with no more processors than its limit nothing is handed over at a processor that has stopped.
 pub fn nothing_comes_to_a_stopped_node()
     ensures { (site : Site) (events : List Event) (w next : World) (node : ℕ) (message : Message)
-        (sendings : List Sending) → IsRun site events w → site.processors ≤ 16
+        (sendings : List Sending) → IsRun site events w → site.processors ≤ MOST_PROCESSORS
         → Change site w (Handing node message) sendings next → slice_get w.stopped node ≡ Some true → ⊥ }
 {}
 
