@@ -1,5 +1,6 @@
 ghost use Rattle.std.specs.Prelude.{◌≡◌, ◌≤◌, ◌<◌, ◌+◌, ◌++◌, ◌∷◌, ℕ, ℤ, true, false, List, length, reverse, slice_get};
 ghost use Rattle.std.specs.Prelude.{Some, None, is_some};
+ghost use Rattle.gd_words.specs.declared.limits.TheConstants.{MOST_MESSAGE_WORDS, SECTOR_WORDS};
 ghost use Rattle.gd_words.specs.Members.{IsAmong};
 ghost use Rattle.gd_words.specs.declared.device.DeviceCall.{DeviceCall};
 ghost use Rattle.gd_words.specs.declared.device.DeviceCall.TheVariants.{Write};
@@ -122,8 +123,8 @@ pub fn a_history_leaves_a_whole_state()
         → AreBounded deeds → IsWholeProcess core.state }
     ensures asked { (site : Site) (number : ℕ) (spec : ProcessSpec) (deeds : List Deed) (core : Core) (file : ℕ)
         (words : List ℤ) → HasDone site number spec deeds core
-        → IsAmong words (requests_on file deeds) → length words ≤ 16 }
+        → IsAmong words (requests_on file deeds) → length words ≤ MOST_MESSAGE_WORDS }
     ensures found { (site : Site) (number : ℕ) (spec : ProcessSpec) (deeds : List Deed) (core : Core)
         (call : DeviceCall) → HasDone site number spec deeds core
-        → length (found_on (sectors_after spec.what deeds) call) ≡ 8 }
+        → length (found_on (sectors_after spec.what deeds) call) ≡ SECTOR_WORDS }
 {}
