@@ -1,5 +1,6 @@
 -- Acts as a ledger has them: which deed an act is, and which ledger acts make.
 use Rattle.std.specs.Prelude.{◌≡◌, ◌≤◌, ℕ, ℤ, List, [], ◌∷◌, ◌++◌, length, slice_get, Some}
+use Rattle.gd_words.specs.declared.limits.TheConstants.{MOST_MESSAGE_WORDS}
 use Rattle.tal_tree.specs.declared.act.Act.{Act}
 use Rattle.tal_tree.specs.declared.act.Act.TheVariants.{Step, Take, Enter, Print}
 use Rattle.tal_tree.specs.declared.act.Shown.{Shown}
@@ -76,10 +77,11 @@ pub data AreBooked (site : Site) : List Act → List Shown → Ledger → Type 0
       → AreBooked site (Print terminal ∷ acts) (Reply terminal (length (ledger.entered terminal)) words ∷ shown)
       (with_printed terminal words ledger)
 
--- each request of the site's terminals has at most 16 words
+-- each request of the site's terminals has no more words than its limit
 abbrev pub AreShortRequests : Site → Type 0
 AreShortRequests site =
-    (terminal entered : ℕ) (words : List ℤ) → next_request site terminal entered ≡ Some words → length words ≤ 16
+    (terminal entered : ℕ) (words : List ℤ) → next_request site terminal entered ≡ Some words
+    → length words ≤ MOST_MESSAGE_WORDS
 
 -- Held acts
 

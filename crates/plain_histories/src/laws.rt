@@ -1,4 +1,5 @@
 ghost use Rattle.std.specs.Prelude.{◌≡◌, ◌≤◌, ◌+◌, ◌∷◌, ◌++◌, ℕ, ℤ, List, length, reverse, slice_get, Some};
+ghost use Rattle.gd_words.specs.declared.limits.TheConstants.{MOST_MESSAGE_WORDS};
 ghost use Rattle.gd_words.specs.Members.{IsAmong};
 ghost use Rattle.tal_tree.specs.declared.act.Act.{Act};
 ghost use Rattle.tal_tree.specs.declared.act.Act.TheVariants.{Step, Take};
@@ -77,7 +78,8 @@ pub fn deeds_count_acts()
 pub fn booked_words_are_short()
     ensures requests { (site : Site) (acts : List Act) (shown : List Shown) (ledger : Ledger) (one : Who)
         (words : List ℤ) → AreShortRequests site
-        → AreBooked site acts shown ledger → IsAmong words (requests_of ledger one) → length words ≤ 16 }
+        → AreBooked site acts shown ledger → IsAmong words (requests_of ledger one)
+        → length words ≤ MOST_MESSAGE_WORDS }
     ensures deeds { (site : Site) (acts : List Act) (shown : List Shown) (ledger : Ledger) (number : ℕ)
         → AreShortRequests site
         → AreBooked site acts shown ledger → AreShort (ledger.deeds number) }
