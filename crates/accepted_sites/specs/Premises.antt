@@ -1,5 +1,6 @@
 -- What the reader, the checker and the deck give: the premises of the headline.
 use Rattle.std.specs.Prelude.{◌≡◌, ◌≤◌, ℕ, ℤ, List, length, slice_get, Some}
+use Rattle.gd_words.specs.declared.limits.TheConstants.{MOST_MESSAGE_WORDS}
 use Rattle.tal_tree.specs.declared.program.Program.{Program}
 use Rattle.tal_tree.specs.declared.site.Kind.TheVariants.{Pair}
 use Rattle.tal_tree.specs.declared.site.ProcessSpec.{ProcessSpec}
@@ -18,4 +19,4 @@ pub record IsAcceptedSite (site : Site) : Type 0 where
       → spec.what ≡ Pair program
       → IsAccepted program
   pub requests : (terminal entered : ℕ) (words : List ℤ) → next_request site terminal entered ≡ Some words
-      → length words ≤ 16
+      → length words ≤ MOST_MESSAGE_WORDS
