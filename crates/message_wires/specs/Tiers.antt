@@ -1,6 +1,7 @@
 -- A worked run of two tiers: a terminal asks a front, which asks the adder, and both are lost together with their
 -- processor. Its rounds go on until nothing is left to do.
 use Rattle.std.specs.Prelude.{ℕ, zero, suc, pos, Bool, false, List, [], ◌∷◌, ◌++◌, codes, length, map, replicate}
+use Rattle.tal_tree.specs.gd_words.specs.declared.limits.TheConstants.{TERMINAL_NODE}
 use Rattle.tal_tree.specs.Rows.{places, rows}
 use Rattle.tal_tree.specs.declared.expression.Expr.{Number}
 use Rattle.tal_tree.specs.declared.expression.Cond.{Truth}
@@ -70,7 +71,9 @@ acted = event.Enter 0 ∷ event.Run 0 ∷ event.Run 1 ∷ []
 -- node ticks
 abbrev pub round : MachineState → List Event
 round s =
-    acted ++ replicate (length (end_of s acted).wires.bus) delivery ++ event.Tick 0 ∷ event.Tick 1 ∷ event.Tick 16 ∷ []
+    acted ++ replicate (length (end_of s acted).wires.bus) delivery ++ event.Tick 0 ∷ event.Tick 1
+    ∷ event.Tick TERMINAL_NODE
+    ∷ []
 
 -- so many rounds
 abbrev pub rounds : ℕ → MachineState → List Event
