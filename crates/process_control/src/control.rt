@@ -1,5 +1,6 @@
 ghost use Rattle.std.specs.Prelude.{◌≡◌, ◌<◌, ◌≤◌, ◌+◌, ◌^◌, All, false, length, Some, IfOk};
 ghost use Rattle.std.specs.Option.{option_map};
+ghost use Rattle.gd_words.specs.declared.limits.TheConstants.{MOST_FILES};
 ghost use Rattle.gd_words.specs.Ranges.{HasNext};
 ghost use Rattle.process_semantics.specs.declared.point.Point.TheVariants.{Inner, Take, Ask, Await, Answer, Device};
 ghost use Rattle.process_semantics.specs.Process.{asked_file, call_of, in_hand, point};
@@ -68,7 +69,7 @@ impl<B: Behaviour> CopyControl<B> {
         requires whole { IsWholeProcess (B.state behaviour) }
         requires free { in_hand (B.state behaviour) ≡ false }
         requires files { files ≡ files_of (B.state behaviour) }
-        requires few_files { files ≤ 8 }
+        requires few_files { files ≤ MOST_FILES }
         requires few_openers { length openers.now < 4096 }
         requires depths { All (λ opener. IsDepth opener.depth) openers.now }
         ensures { IfOk result (λ copy. copy ≡ copy_at_start role (B.state behaviour) files openers.now) }
@@ -96,7 +97,7 @@ impl<B: Behaviour> CopyControl<B> {
         requires whole { IsWholeProcess (B.state behaviour) }
         requires free { in_hand (B.state behaviour) ≡ false }
         requires files { files ≡ files_of (B.state behaviour) }
-        requires few_files { files ≤ 8 }
+        requires few_files { files ≤ MOST_FILES }
         requires few_openers { length openers.now < 4096 }
         requires depths { All (λ opener. IsDepth opener.depth) openers.now }
         ensures { IfOk result (λ copy. copy ≡ copy_blank era (B.state behaviour) files openers.now) }

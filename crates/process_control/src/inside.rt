@@ -1,5 +1,6 @@
 ghost use Rattle.std.specs.Prelude.{◌≡◌, ◌<◌, ◌≤◌, ◌+◌, All, false, true, is_some, length, Some, IfOk};
 ghost use Rattle.std.specs.Option.{unwrap_or};
+ghost use Rattle.gd_words.specs.declared.limits.TheConstants.{MOST_FILES};
 ghost use Rattle.gd_words.specs.Ranges.{HasNext};
 ghost use Rattle.process_semantics.specs.declared.point.Point.TheVariants.{Inner, Take, Ask, Await, Answer};
 ghost use Rattle.process_semantics.specs.declared.point.Point.TheVariants.{AtCheckpoint, Device};
@@ -65,7 +66,7 @@ impl<B: Behaviour> CopyCore<B> {
         requires whole { IsWholeProcess (B.state behaviour) }
         requires free { in_hand (B.state behaviour) ≡ false }
         requires files { files ≡ files_of (B.state behaviour) }
-        requires few_files { files ≤ 8 }
+        requires few_files { files ≤ MOST_FILES }
         requires few_openers { length openers.now < 4096 }
         requires depths { All (λ opener. IsDepth opener.depth) openers.now }
         ensures { IfOk result (λ it. it
