@@ -1,4 +1,5 @@
 ghost use Rattle.std.specs.Prelude.{◌≡◌, ◌≤◌, All, false, length, map, IfOk};
+ghost use Rattle.gd_words.specs.declared.limits.TheConstants.{MOST_FILES};
 ghost use Rattle.process_semantics.specs.Process.{in_hand, start_of};
 ghost use Rattle.message_wires.specs.plain_semantics.specs.Openers.{files_of};
 ghost use Rattle.processes.specs.Seen.{IsLoadableKind, state_of};
@@ -29,7 +30,7 @@ impl NodeCopy {
         openers: &[OpenerSpec],
     ) -> Result<NodeCopy, NoMemory>
         requires loadable { IsLoadableKind what.now }
-        requires few_files { length (files_of what.now) ≤ 8 }
+        requires few_files { length (files_of what.now) ≤ MOST_FILES }
         requires few_openers { length openers.now ≤ 144 }
         requires depths { All (λ opener. IsDepth opener.depth) openers.now }
         ensures { IfOk result (λ one. one ≡ record {
@@ -59,7 +60,7 @@ impl NodeCopy {
         openers: &[OpenerSpec],
     ) -> Result<NodeCopy, NoMemory>
         requires loadable { IsLoadableKind what.now }
-        requires few_files { length (files_of what.now) ≤ 8 }
+        requires few_files { length (files_of what.now) ≤ MOST_FILES }
         requires few_openers { length openers.now ≤ 144 }
         requires depths { All (λ opener. IsDepth opener.depth) openers.now }
         ensures { IfOk result (λ one. one ≡ record {
