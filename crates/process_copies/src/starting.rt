@@ -10,7 +10,7 @@ ghost use Rattle.node_copies.specs.machine_states.specs.Drives.{states_at_boot};
 ghost use Rattle.world_semantics.specs.World.{device_at_boot};
 ghost use Rattle.node_copies.specs.Seen.{drives_on, file_row, sectors_on};
 ghost use Rattle.process_copies.specs.Starting.{HasAddress, HasSectors, IsStartable, placed_at_boot};
-ghost use Rattle.gd_words.specs.declared.limits.TheConstants.{MOST_SECTORS};
+ghost use Rattle.gd_words.specs.declared.limits.TheConstants.{MOST_FILES, MOST_SECTORS};
 
 use crate::copies::ProcessCopies;
 use crate::sent::SentCheckpoints;
@@ -53,7 +53,7 @@ fn start_in(
     requires there { slice_get site.now.processes number ≡ Some spec.now }
     requires loadable { IsLoadableKind spec.now.what }
     requires sectors { HasSectors spec.now.what }
-    requires few { length (files_of spec.now.what) ≤ 8 }
+    requires few { length (files_of spec.now.what) ≤ MOST_FILES }
     requires depths { All (λ opener. IsDepth opener.depth) (openers_of site.now number) }
     ensures { IfOk result (λ process. process
         ≡ placed_at_boot site.now number spec.now) }
@@ -86,7 +86,7 @@ fn addresses(
     uses: &[FileUse],
 ) -> Result<List<Option<Address>>, NoMemory>
     requires limits { KeepsSiteLimits site.now }
-    requires few { length uses.now ≤ 8 }
+    requires few { length uses.now ≤ MOST_FILES }
     ensures { IfOk result (λ files. files ≡ file_row site.now number 0 uses.now) }
 {
     let mut files = List::new(alloc);
