@@ -1,6 +1,7 @@
 ghost use Rattle.std.specs.Prelude.{◌≡◌, ◌≤◌, if◌then◌else◌, [], length, map, slice_get, IfOk, OnOk};
 ghost use Rattle.std.specs.List.{remove};
 ghost use Rattle.std.specs.Option.{option_copied};
+ghost use Rattle.gd_words.specs.declared.limits.TheConstants.{MOST_PACKETS};
 ghost use Rattle.message_wires.specs.Wires.{is_due, is_on, put_again, put_on};
 ghost use Rattle.posted_letters.specs.Rising.{Rises};
 
@@ -25,6 +26,7 @@ pub(crate) struct Bus {
 impl Model for Bus {
     ghost use Rattle.std.specs.Coded.{codes};
     ghost use Rattle.std.specs.Prelude.{List, ◌≤◌, length};
+    ghost use Rattle.gd_words.specs.declared.limits.TheConstants.{MOST_PACKETS};
     ghost use Rattle.message_wires.specs.Wires as wires;
 
     ghost Value = { List wires.Sent };
@@ -33,7 +35,7 @@ impl Model for Bus {
 
     ghost view = { λ bus. bus.packets.items };
 
-    ghost invariant = { λ bus. length bus.packets.items ≤ 4096 };
+    ghost invariant = { λ bus. length bus.packets.items ≤ MOST_PACKETS };
 }
 
 impl Bus {
@@ -47,7 +49,7 @@ impl Bus {
 
     pub(crate) fn len(&self) -> usize
         ensures value { result ≡ length self.now }
-        ensures few { result ≤ 4096 }
+        ensures few { result ≤ MOST_PACKETS }
     {
         self.packets.len()
     }
