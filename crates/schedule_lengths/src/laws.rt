@@ -1,4 +1,5 @@
 ghost use Rattle.std.specs.Prelude.{◌≤◌, ◌<◌, List, Option, length};
+ghost use Rattle.tal_tree.specs.gd_words.specs.declared.limits.TheConstants.{MOST_PACKETS};
 ghost use Rattle.tal_tree.specs.declared.site.Site.{Site};
 ghost use Rattle.schedule.specs.declared.event.Event.{Event};
 ghost use Rattle.schedule.specs.declared.line.Line.{Line};
@@ -13,7 +14,7 @@ ghost use Rattle.schedule_runs.specs.Lengths.{AsksForFewEvents, most_events};
 /// No more packets are on the bus than it has room for.
 pub fn a_bus_has_room_for_its_packets()
     ensures { (site : Site) (events : List Event) (s : MachineState) → IsPlayed site events s
-        → length s.wires.bus ≤ 4096 }
+        → length s.wires.bus ≤ MOST_PACKETS }
 {}
 
 /// However a schedule is played, on whatever site, it asks for no more events than its lines, their rounds and its stop
