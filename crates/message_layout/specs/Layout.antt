@@ -3,6 +3,7 @@
 use Rattle.std.specs.Prelude.{◌≡◌, ◌<◌, ◌≤◌, ◌^◌, ◌+◌, ◌*◌, ℕ, ℤ, pos, Bool, true, List, [], ◌∷◌, ◌++◌, length}
 use Rattle.std.specs.Prelude.{if◌then◌else◌}
 use Rattle.std.specs.Int.{w16, cast_signed}
+use Rattle.change_layout.specs.gd_words.specs.declared.limits.TheConstants.{MOST_MESSAGE_WORDS, MOST_PROCESSORS}
 use Rattle.change_layout.specs.tal_tree.specs.declared.site.Site.{Site}
 use Rattle.change_layout.specs.gd_words.specs.declared.message.Request.{Request}
 use Rattle.change_layout.specs.gd_words.specs.declared.message.Reply.{Reply}
@@ -61,7 +62,7 @@ pub record IsAddressed (p o n : ℕ) (ws : List ℤ) : Type 0 where
   pub process : p ≤ 255
   pub opener : o ≤ 32767
   pub number : n < 2 ^ 32
-  pub words : length ws ≤ 16
+  pub words : length ws ≤ MOST_MESSAGE_WORDS
 
 pub record IsTakenWithin (taken : TakenMessage) : Type 0 where
   pub process : taken.process ≤ 255
@@ -74,11 +75,11 @@ IsCarriedWithin (Replying reply) = IsAddressed reply.process reply.opener reply.
 IsCarriedWithin (Checkpointing message) = IsWithinLayout message
 IsCarriedWithin (Taking taken) = IsTakenWithin taken
 
--- a message keeps to the layout: each number is within its range, and a set has its 16 places
+-- a message keeps to the layout: each number is within its range, and a set has its places
 abbrev pub IsWithin : NodeMessage → Type 0
 IsWithin (Carrying message) = IsCarriedWithin message
 IsWithin (Changing change) = changes.IsWithinLayout change
-IsWithin (Reporting node silent) = (node ≤ 15) × (length silent.members ≡ 16)
+IsWithin (Reporting node silent) = (node ≤ 15) × (length silent.members ≡ MOST_PROCESSORS)
 IsWithin (Declaring processor) = processor ≤ 15
 
 -- a message fits a site: it keeps to the layout, and the site has all that it names
