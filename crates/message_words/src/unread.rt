@@ -1,4 +1,5 @@
 ghost use Rattle.std.specs.Prelude.{◌≡◌, ◌≤◌, Some, length};
+ghost use Rattle.gd_words.specs.declared.limits.TheConstants.{MOST_MESSAGE_WORDS};
 ghost use Rattle.message_layout.specs.process_semantics.specs.Words.{words_in, whole};
 ghost use Rattle.message_layout.specs.checkpoint_image.specs.Reading.{Gives, longs_in, number_in, pair_in, reply_in};
 ghost use Rattle.message_layout.specs.Reading.{address_in, answer_in, body_in, report_in, request_in, set_in, taken_in};
@@ -200,7 +201,7 @@ impl<'a> Unread<'a> {
 
 /// These words, of which there are few.
 fn words_of(words: &[i16]) -> Words
-    requires { length words.now ≤ 16 }
+    requires { length words.now ≤ MOST_MESSAGE_WORDS }
     ensures { result ≡ words.now }
 {
     let mut all = Words::new();
