@@ -1,5 +1,6 @@
 -- Sites that are small enough for the layout of messages. The limits themselves are those of decks and programs.
 use Rattle.std.specs.Prelude.{◌≡◌, ◌≤◌, ◌<◌, ℕ, ℤ, List, length, slice_get, Some}
+use Rattle.gd_words.specs.declared.limits.TheConstants.{MOST_DEPTH}
 use Rattle.gd_words.specs.Members.{IsAmong}
 use Rattle.tal_tree.specs.Limits.{IsWithinLimits}
 use Rattle.tal_tree.specs.Ordered.{IsOrdered}
@@ -26,7 +27,7 @@ pub record IsSmall (site : Site) : Type 0 where
   pub processes : length site.processes ≤ 256
   pub openers : (process : ℕ) → length (openers_of site process) < 4096
   pub depths : (process place : ℕ) (opener : OpenerSpec) → slice_get (openers_of site process) place ≡ Some opener
-      → opener.depth ≤ 4
+      → opener.depth ≤ MOST_DEPTH
   pub requests : (terminal number : ℕ) (words : List ℤ) → next_request site terminal number ≡ Some words
       → number < 4294967295
   pub programs : (number : ℕ) (spec : ProcessSpec) (program : Program) → slice_get site.processes number ≡ Some spec
