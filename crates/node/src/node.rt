@@ -2,6 +2,7 @@ ghost use Rattle.std.specs.Prelude.{◌≡◌, ◌≤◌, ◌<◌, ◌+◌, ◌=
 ghost use Rattle.std.specs.Prelude.{IfSome, IfNone, IfOk, OnOk, Some};
 ghost use Rattle.std.specs.Bool.{OnFalse};
 ghost use Rattle.std.specs.Option.{option_copied};
+ghost use Rattle.gd_words.specs.declared.limits.TheConstants.{MOST_NODES, MOST_PROCESSORS};
 ghost use Rattle.alive_regroup.specs.Watching as watching;
 ghost use Rattle.alive_regroup.specs.Watching.{changed_at, is_held, told_by_tick};
 ghost use Rattle.link_control.specs.Ends.{after_down, after_packet, after_push, after_tick, alive_of, handed_by_packet};
@@ -15,14 +16,12 @@ ghost use Rattle.node.specs.Held.{holding_in, one_if};
 ghost use Rattle.node.specs.Calls.{told_at_end, with_end_changed, with_watch_changed};
 
 use alive_regroup::{Listener, ProcessorSet, Watch};
+use gd_words::limits::{MOST_NODES, MOST_PROCESSORS};
 use gd_words::{List, NoMemory};
 use link_control::{Arrived, Channel, Resent};
 use packet_words::{Incarnation, Packet};
 use std::alloc::Global;
 use std::marker::Model;
-
-/// How many nodes there may be: 16 processors and the node of the terminals.
-pub(crate) const NODES: u8 = 17;
 
 /// No node was ever loaded again.
 const NEVER_RELOADED: Incarnation = Incarnation {
@@ -57,8 +56,8 @@ impl Node {
     pub fn boot(alloc: Global, processors: u8, me: u8) -> Result<Node, NoMemory>
         ensures { IfOk result (λ node. node ≡ node_at_boot processors me) }
     {
-        let mut ends = Vec::with_capacity(alloc, usize::from(NODES))?;
-        for other in 0..NODES {
+        let mut ends = Vec::with_capacity(alloc, usize::from(MOST_NODES))?;
+        for other in 0..MOST_NODES {
             ends.push(Channel::new(alloc, me, other, NEVER_RELOADED))?;
         }
         let holding = count_holding(ends.as_slice());
@@ -184,13 +183,13 @@ impl Node {
 
     /// The first node from a number on, the end with which has something outstanding or queued.
     pub fn held_from(&self, first: u8) -> Option<u8>
-        ensures held { IfSome result (λ held. (first ≤ held) × (held < 17)) }
+        ensures held { IfSome result (λ held. (first ≤ held) × (held < MOST_NODES)) }
         ensures skipped { IfSome result (λ held. (other : ℕ) → first ≤ other → other < held
             → holds_nothing (slice_get self.now.ends other) ≡ true) }
-        ensures none { IfNone result ((other : ℕ) → first ≤ other → other < 17
+        ensures none { IfNone result ((other : ℕ) → first ≤ other → other < MOST_NODES
             → holds_nothing (slice_get self.now.ends other) ≡ true) }
     {
-        for other in first..NODES {
+        for other in first..MOST_NODES {
             if !self.holds_nothing(other) {
                 return Some(other);
             }
@@ -309,9 +308,9 @@ fn count_holding(ends: &[Channel]) -> usize
 
 /// The first processor but the node itself of which all agree that it is silent.
 fn first_held(watch: &Watch, me: u8) -> Option<u8>
-    ensures { result ≡ first_held me watch.now 0 16 }
+    ensures { result ≡ first_held me watch.now 0 MOST_PROCESSORS }
 {
-    for processor in 0..16 {
+    for processor in 0..MOST_PROCESSORS {
         if is_other_held(watch, me, processor) {
             return Some(processor);
         }

@@ -2,6 +2,7 @@ ghost use Rattle.std.specs.Prelude.{◌≡◌, ◌<◌, ◌≤◌, ◌==◌, ◌
 ghost use Rattle.std.specs.Prelude.{true, if◌then◌else◌, map, IfSome, IfNone, IfOk, OnOk};
 ghost use Rattle.std.specs.Bool.{OnFalse};
 ghost use Rattle.std.specs.Option.{option_and_then, option_copied, option_map};
+ghost use Rattle.gd_words.specs.declared.limits.TheConstants.{MOST_NODES, MOST_PACKETS};
 ghost use Rattle.packet_words.specs.declared.packet.Packet.{Packet};
 ghost use Rattle.alive_regroup.specs.Watching as watching;
 ghost use Rattle.alive_regroup.specs.Watching.{changed_at};
@@ -20,10 +21,10 @@ ghost use Rattle.event_parts.specs.Numbers.{CanPush, CanReload, HasNumbersAt};
 ghost use Rattle.event_parts.specs.Parts.{carried_out, completed_by, delivered, is_current_in, repeated};
 ghost use Rattle.node.specs.Calls.{alive_address, arrive_by, both_go};
 
-use crate::node::{NODES, Node};
+use crate::node::Node;
 use alive_regroup::{ProcessorSet, Watch};
 use event_parts::Bus;
-use gd_words::limits::TERMINAL_NODE;
+use gd_words::limits::{MOST_NODES, TERMINAL_NODE};
 use gd_words::{List, NoMemory};
 use link_control::{Channel, Resent};
 use message_words::{down_words, report_words};
@@ -56,8 +57,8 @@ impl PacketWires {
     {
         let x = Bus::new(alloc)?;
         let y = Bus::new(alloc)?;
-        let mut nodes = Vec::with_capacity(alloc, usize::from(NODES))?;
-        for node in 0..NODES {
+        let mut nodes = Vec::with_capacity(alloc, usize::from(MOST_NODES))?;
+        for node in 0..MOST_NODES {
             nodes.push(Node::boot(alloc, processors, node)?)?;
         }
         Ok(PacketWires { x, y, nodes, alloc })
@@ -66,7 +67,7 @@ impl PacketWires {
     /// How many packets are on a bus.
     pub fn count(&self, bus: BusName) -> usize
         ensures value { result ≡ length (on_bus bus self.now) }
-        ensures few { result ≤ 4096 }
+        ensures few { result ≤ MOST_PACKETS }
     {
         match bus {
             BusName::X => self.x.len(),
@@ -450,10 +451,10 @@ impl PacketWires {
 
     /// The first node from a number on, the end of a node with which holds something.
     fn held_from(&self, node: u8, first: u8) -> Option<u8>
-        ensures held { IfSome result (λ held. (first ≤ held) × (held < 17)) }
+        ensures held { IfSome result (λ held. (first ≤ held) × (held < MOST_NODES)) }
         ensures skipped { IfSome result (λ held. (other : ℕ) → first ≤ other → other < held
             → holds_nothing (end_at self.now.nodes node other) ≡ true) }
-        ensures none { IfNone result ((other : ℕ) → first ≤ other → other < 17
+        ensures none { IfNone result ((other : ℕ) → first ≤ other → other < MOST_NODES
             → holds_nothing (end_at self.now.nodes node other) ≡ true) }
     {
         match self.nodes.get(usize::from(node)) {
