@@ -4,9 +4,7 @@ ghost use Rattle.node.specs.packet_wires.specs.Idle.{all_quiet, is_idle, is_quie
 ghost use Rattle.node.specs.packet_wires.specs.Nodes.{all_nodes};
 
 use crate::whole::MachineParts;
-
-/// How many nodes there may be: 16 processors and the node of the terminals.
-const NODES: u8 = 17;
+use gd_words::limits::MOST_NODES;
 
 impl MachineParts {
     /// Whether nothing is left to do.
@@ -24,7 +22,7 @@ impl MachineParts {
     fn all_quiet(&self) -> bool
         ensures { result ≡ all_quiet self.now.world.stopped self.now.wires.nodes }
     {
-        for from in 0..NODES {
+        for from in 0..MOST_NODES {
             if !self.is_quiet_from(from) {
                 return false;
             }
@@ -36,7 +34,7 @@ impl MachineParts {
     fn is_quiet_from(&self, from: u8) -> bool
         ensures { result ≡ list_all (is_quiet self.now.world.stopped self.now.wires.nodes from) all_nodes }
     {
-        for to in 0..NODES {
+        for to in 0..MOST_NODES {
             if !self.is_quiet(from, to) {
                 return false;
             }

@@ -2,6 +2,7 @@ ghost use Rattle.std.specs.Prelude.{◌≡◌, ◌≤◌, ℕ, [], false, true, 
 ghost use Rattle.std.specs.Prelude.{OnErr};
 ghost use Rattle.std.specs.Bool.{OnFalse, OnTrue};
 ghost use Rattle.std.specs.Option.{option_and_then, option_copied, option_map, unwrap_or};
+ghost use Rattle.gd_words.specs.declared.limits.TheConstants.{MOST_PACKETS};
 ghost use Rattle.schedule.specs.declared.event.Event.TheVariants as events;
 ghost use Rattle.node.specs.machine_states.specs.States.{Settles};
 ghost use Rattle.node.specs.machine_states.specs.declared.effect.Effect.TheVariants as effects;
@@ -104,7 +105,7 @@ impl Machine {
     /// How many packets are on a bus.
     pub fn count(&self, bus: BusName) -> usize
         ensures value { result ≡ count_on self.now.state bus }
-        ensures few { result ≤ 4096 }
+        ensures few { result ≤ MOST_PACKETS }
     {
         self.whole.wires.count(bus)
     }
