@@ -1,6 +1,7 @@
 //! What the view of a world tells of its nodes.
 ghost use Rattle.std.specs.Prelude.{◌≡◌, ◌↔◌, ◌<◌, ◌≤◌, ℕ, Bool, true, List, Some, slice_get};
 ghost use Rattle.gd_words.specs.Members.{IsAmong};
+ghost use Rattle.gd_words.specs.declared.limits.TheConstants.{MOST_PROCESSORS, TERMINAL_NODE};
 ghost use Rattle.world_semantics.specs.World as world;
 ghost use Rattle.machine_views.specs.Orders.{IsRising};
 ghost use Rattle.machine_views.specs.Views.{downs_in};
@@ -17,5 +18,5 @@ pub fn stopped_processors_are_told()
 pub fn marks_are_told()
     ensures { (downs : List world.Down) (node processor : ℕ)
         → (IsAmong (record { node = node; down = processor }) (downs_in downs)
-        ↔ (node ≤ 16) × (processor < 16) × (world.has_noted downs node processor ≡ true)) }
+        ↔ (node ≤ TERMINAL_NODE) × (processor < MOST_PROCESSORS) × (world.has_noted downs node processor ≡ true)) }
 {}

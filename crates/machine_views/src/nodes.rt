@@ -2,14 +2,10 @@ ghost use Rattle.std.specs.Prelude.{◌≡◌, ◌++◌, map, IfOk, OnOk};
 ghost use Rattle.machine_views.specs.Views.{down_of, downs_by, downs_in, terminal_view};
 
 use crate::views::{DownView, TerminalView};
+use gd_words::limits::{MOST_NODES, MOST_PROCESSORS};
 use gd_words::{List, NoMemory};
 use site_machine::{Downs, Machine, Terminal};
 use std::alloc::Global;
-
-/// How many processors a site can have, and how many nodes: the terminals are on a node of their own.
-const PROCESSORS: u8 = 16;
-
-const NODES: u8 = 17;
 
 /// How often each processor was loaded again.
 pub(crate) fn reloads(alloc: Global, machine: &Machine) -> Result<List<u8>, NoMemory>
@@ -25,7 +21,7 @@ pub(crate) fn down(alloc: Global, downs: &Downs) -> Result<List<DownView>, NoMem
     ensures { IfOk result (λ down. down ≡ downs_in downs.now) }
 {
     let mut down = List::new(alloc);
-    for node in 0..NODES {
+    for node in 0..MOST_NODES {
         add_downs(downs, node, &mut down)?;
     }
     Ok(down)
@@ -35,7 +31,7 @@ pub(crate) fn down(alloc: Global, downs: &Downs) -> Result<List<DownView>, NoMem
 fn add_downs(downs: &Downs, node: u8, down: &mut List<DownView>) -> Result<(), NoMemory>
     ensures { OnOk result (down.new ≡ down.old ++ downs_by downs.now node) }
 {
-    for processor in 0..PROCESSORS {
+    for processor in 0..MOST_PROCESSORS {
         add_down(downs, node, processor, down)?;
     }
     Ok(())
