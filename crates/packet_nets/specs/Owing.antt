@@ -4,6 +4,7 @@ use Rattle.std.specs.Prelude.{◌≡◌, ◌≤◌, ◌⊎◌, ◌+◌, ◌==◌
 use Rattle.std.specs.Prelude.{length, slice_get, Option, Some, None, filter_map, map}
 use Rattle.std.specs.List.{filter}
 use Rattle.std.specs.Option.{option_and_then}
+use Rattle.gd_words.specs.declared.limits.TheConstants.{TERMINAL_NODE}
 use Rattle.gd_words.specs.Members.{IsAmong}
 use Rattle.tal_tree.specs.declared.site.Site.{Site}
 use Rattle.packet_words.specs.declared.packet.Packet.{Packet}
@@ -92,8 +93,8 @@ WasPushed site stopped reloads sent x y words =
 
 -- the channel from x to y is open: x runs, and neither end was thrown away
 pub record IsOpen (stopped : List Bool) (n : Net) (x y : ℕ) : Type 0 where
-  pub sender : x ≤ 16
-  pub receiver : y ≤ 16
+  pub sender : x ≤ TERMINAL_NODE
+  pub receiver : y ≤ TERMINAL_NODE
   pub runs : is_running stopped x ≡ true
   pub there : (n.ends x y).down ≡ false
   pub back : (n.ends y x).down ≡ false

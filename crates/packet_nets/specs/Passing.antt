@@ -1,5 +1,6 @@
 -- What goes on in the net of channels while an event is played.
 use Rattle.std.specs.Prelude.{◌≡◌, ◌≤◌, ◌⊎◌, ℕ, Bool, List, [], length}
+use Rattle.gd_words.specs.declared.limits.TheConstants.{MOST_PROCESSORS, TERMINAL_NODE}
 use Rattle.gd_words.specs.Members.{IsAmong}
 use Rattle.packet_words.specs.declared.packet.Packet.{Packet}
 use Rattle.channel_laws.specs.Net.{Net, ticked_net}
@@ -17,7 +18,7 @@ GoesOut p out = (one : Outgoing) × IsAmong one out × (p ≡ one.packet)
 pub record IsNet (stopped : List Bool) (wires : Wires) (n : Net) : Type 0 where
   pub tied : IsTied stopped (on_both wires) (nothing_sent wires.nodes) n
   pub held : (p : Packet) → IsAmong p n.flight → IsAmong p (on_both wires)
-  pub senders : (p : Packet) → IsAmong p n.flight → p.sender ≤ 16
+  pub senders : (p : Packet) → IsAmong p n.flight → p.sender ≤ TERMINAL_NODE
 
 -- in the midst of an event that found such packets on the buses: what has gone on so far in the net of its beginning,
 -- while a and b don't stop, leads to that of the wires; each packet in flight there is on the buses, or was sent, or
@@ -28,8 +29,8 @@ pub record IsPassing (a b : ℕ) (stopped : List Bool) (on : List Packet) (start
   pub tied : IsTied stopped on midst net
   pub passes : Passes a b start came net
   pub held : (p : Packet) → IsAmong p net.flight → IsAmong p on ⊎ GoesOut p midst.out ⊎ IsAmong p came
-  pub senders : (p : Packet) → IsAmong p net.flight → p.sender ≤ 16
-  pub few : length stopped ≤ 16
+  pub senders : (p : Packet) → IsAmong p net.flight → p.sender ≤ TERMINAL_NODE
+  pub few : length stopped ≤ MOST_PROCESSORS
 
 -- the same of a tick of the node a, cut where its end with b ticks: what went on before that, and what since
 pub record IsCut (a b : ℕ) (stopped : List Bool) (on : List Packet) (start : Net) (midst : Midst) : Type 0 where
