@@ -1,5 +1,6 @@
 -- What goes on in the net of channels when an event is played.
 use Rattle.std.specs.Prelude.{◌≡◌, ◌≤◌, ℕ, List, [], length, Option, Some, None}
+use Rattle.gd_words.specs.declared.limits.TheConstants.{MOST_PROCESSORS}
 use Rattle.gd_words.specs.Members.{IsAmong}
 use Rattle.schedule.specs.declared.event.Event.{Event}
 use Rattle.schedule.specs.declared.event.Event.TheVariants.{Run, Enter, Deliver, Lose, Repeat, Tick, Fail, Reload}
@@ -67,7 +68,7 @@ pub record IsPassed (a b : ℕ) (s : Packeted) (event : Event) (next : Packeted)
   pub lost : Goes middle (as_on_buses next middle)
   pub net : IsNetOf next (as_on_buses next middle)
   pub clear : IsClear s event → TakesToDeliver event → Passes a b n came (as_on_buses next middle)
-  pub few : length next.world.stopped ≤ 16
+  pub few : length next.world.stopped ≤ MOST_PROCESSORS
 
 -- the same of a tick of the node a, cut where its end with b ticks: what went on before that, and what since
 pub record IsTickPassed (a b : ℕ) (s next : Packeted) (n : Net) : Type 0 where

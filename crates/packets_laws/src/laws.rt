@@ -1,5 +1,6 @@
 //! Laws of what is played over packets.
 ghost use Rattle.std.specs.Prelude.{◌≡◌, ◌≤◌, ◌⊎◌, ◌<◌, ℕ, ℤ, Bool, true, List, length, slice_get, Some};
+ghost use Rattle.gd_words.specs.declared.limits.TheConstants.{MOST_PROCESSORS};
 ghost use Rattle.gd_words.specs.Members.{IsAmong};
 ghost use Rattle.packet_words.specs.declared.bus_name.BusName.{BusName};
 ghost use Rattle.packet_words.specs.declared.packet.Packet.{Packet};
@@ -109,14 +110,14 @@ pub fn at_most_one_processor_has_stopped()
 /// way of a tick each end of its node ticks with a node that runs.
 pub fn what_is_played_goes_on_in_the_net()
     ensures begins { (site : Site) → (n : Net) × IsNetOf (packeted_at_boot site) n }
-    ensures event { (s : Packeted) (event : Event) (next : Packeted) (n : Net) (a b : ℕ) → length s.world.stopped ≤ 16
-        → IsNetOf s n → ReloadsNone event
+    ensures event { (s : Packeted) (event : Event) (next : Packeted) (n : Net) (a b : ℕ)
+        → length s.world.stopped ≤ MOST_PROCESSORS → IsNetOf s n → ReloadsNone event
         → play s event ≡ Makes next → is_running next.world.stopped a ≡ true → is_running next.world.stopped b ≡ true
         → IsPassed a b s event next n }
     ensures reload { (s next : Packeted) (processor : ℕ) (n : Net) → IsNetOf s n
         → play s (Reload processor) ≡ Makes next
         → Goes n (reloaded_net processor n) × IsNetOf next (reloaded_net processor n) }
-    ensures tick { (s next : Packeted) (n : Net) (a b : ℕ) → length s.world.stopped ≤ 16 → IsNetOf s n
+    ensures tick { (s next : Packeted) (n : Net) (a b : ℕ) → length s.world.stopped ≤ MOST_PROCESSORS → IsNetOf s n
         → play s (Tick a) ≡ Makes next
         → is_running next.world.stopped a ≡ true → is_running next.world.stopped b ≡ true → IsTickPassed a b s next n }
 {}
