@@ -1,4 +1,5 @@
 ghost use Rattle.std.specs.Prelude.{◌≡◌, ◌≤◌, ℕ, ◌+◌, Bool, true, List, Some};
+ghost use Rattle.gd_words.specs.declared.limits.TheConstants.{MOST_PROCESSORS};
 ghost use Rattle.tal_tree.specs.declared.site.Site.{Site};
 ghost use Rattle.schedule.specs.declared.event.Counts.{Counts};
 ghost use Rattle.schedule.specs.declared.event.Event.{Event};
@@ -29,7 +30,7 @@ pub fn a_round_over_packets_delivers_all()
 /// began: its sender's end has its acknowledgement, and its receiver's end has kept it. All events of the rounds are
 /// clear, and both nodes of the piece still run as they end. Whatever was played before.
 pub fn four_clear_rounds_end_a_piece()
-    ensures { (site : Site) → site.processors ≤ 16 → (events : List Event) (start : Packeted)
+    ensures { (site : Site) → site.processors ≤ MOST_PROCESSORS → (events : List Event) (start : Packeted)
         → IsPlayed site events start
         → (counts : Packeted → Counts) → CountsBuses buses_of counts → (rule : Rule) → is_drain rule ≡ true
         → (left more : ℕ) (rest : List Line) (before now : ℕ) (agenda there : Agenda) (s : Packeted)
@@ -41,7 +42,7 @@ pub fn four_clear_rounds_end_a_piece()
 
 /// So do six.
 pub fn six_clear_rounds_end_a_piece()
-    ensures { (site : Site) → site.processors ≤ 16 → (events : List Event) (start : Packeted)
+    ensures { (site : Site) → site.processors ≤ MOST_PROCESSORS → (events : List Event) (start : Packeted)
         → IsPlayed site events start
         → (counts : Packeted → Counts) → CountsBuses buses_of counts → (rule : Rule) → is_drain rule ≡ true
         → (left : ℕ) (rest : List Line) (before now : ℕ) (agenda there : Agenda) (s : Packeted)
