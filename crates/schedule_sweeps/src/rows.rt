@@ -1,4 +1,5 @@
 ghost use Rattle.std.specs.Prelude.{◌≡◌, ◌≤◌, IfOk, Some};
+ghost use Rattle.gd_words.specs.declared.limits.TheConstants.{MOST_PROCESSORS};
 ghost use Rattle.packet_runs.specs.Runs.{course_on, packet_rules};
 ghost use Rattle.player.specs.declared.stop.ProcessorStop.{ProcessorStop};
 ghost use Rattle.packet_runs.specs.process_copies.specs.Starting.{IsStartable};
@@ -25,7 +26,7 @@ pub fn sweep(
     runs: u32,
 ) -> Result<Table, NoMemory>
     requires startable { IsStartable site.now }
-    requires few { site.now.processors ≤ 16 }
+    requires few { site.now.processors ≤ MOST_PROCESSORS }
     requires can { (stop : ProcessorStop)
         → CanBePlayed packet_rules IsReady (course_on site.now lines.now (Some stop)) }
     ensures { IfOk result (IsSweepOf site.now lines.now runs) }
