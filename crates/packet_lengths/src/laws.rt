@@ -1,5 +1,6 @@
 //! Laws of how many events a schedule asks for over packets.
 ghost use Rattle.std.specs.Prelude.{◌≤◌, ◌<◌, List, Option, length};
+ghost use Rattle.packet_words.specs.gd_words.specs.declared.limits.TheConstants.{MOST_PACKETS};
 ghost use Rattle.tal_tree.specs.declared.site.Site.{Site};
 ghost use Rattle.schedule.specs.declared.event.Event.{Event};
 ghost use Rattle.schedule.specs.declared.line.Line.{Line};
@@ -21,7 +22,7 @@ ghost use Rattle.packet_lengths.specs.Lengths.{AsksForFewEvents, most_events};
 /// No bus holds more packets than it has room for.
 pub fn a_bus_has_room_for_its_packets()
     ensures { (site : Site) (events : List Event) (s : Packeted) (bus : BusName) → IsPlayed site events s
-        → count_on s bus ≤ 4096 }
+        → count_on s bus ≤ MOST_PACKETS }
 {}
 
 /// However a schedule is played, on whatever site, it asks for no more events than its lines, their rounds and its stop
