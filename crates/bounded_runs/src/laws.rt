@@ -1,6 +1,7 @@
 //! Bounded delivery, and that no running processor is stopped, in runs over packets.
 ghost use Rattle.std.specs.Prelude.{◌≡◌, ◌≤◌, ◌<◌, ◌++◌, ℕ, Bool, true, false, List, Option, Some, length};
 ghost use Rattle.std.specs.Option.{is_some};
+ghost use Rattle.packet_words.specs.gd_words.specs.declared.limits.TheConstants.{MOST_PROCESSORS};
 ghost use Rattle.tal_tree.specs.declared.site.Site.{Site};
 ghost use Rattle.schedule.specs.declared.event.Event.{Event};
 ghost use Rattle.schedule.specs.declared.line.Line.{Line};
@@ -33,7 +34,7 @@ pub fn a_run_is_played_to_a_moment()
 /// end, its sender's end has its acknowledgement, and its receiver's end has kept it. Both nodes of the piece still run
 /// then. Whatever was played before.
 pub fn six_clear_rounds_of_a_run_end_a_piece()
-    ensures { (site : Site) → site.processors ≤ 16 → (lines : List Line) (stop : Option ProcessorStop)
+    ensures { (site : Site) → site.processors ≤ MOST_PROCESSORS → (lines : List Line) (stop : Option ProcessorStop)
         (first last : Moment site lines stop) → AreDrainRounds site lines stop 6 first last
         → AreClear site lines stop (length first.events) (length last.events) → (a b n : ℕ)
         → is_running last.state.world.stopped a ≡ true → is_running last.state.world.stopped b ≡ true → (e : End)
@@ -52,17 +53,17 @@ pub fn a_drain_round_of_a_run_delivers_all()
 /// In a run of a calm schedule whose drain rounds are all clear, no processor that runs is held: whatever is played but
 /// a stop leaves it running. And the run doesn't end before the stop of a second processor.
 pub fn a_clear_run_of_a_calm_schedule_stops_nobody()
-    ensures held { (site : Site) → site.processors ≤ 16 → (lines : List Line) (stop : Option ProcessorStop)
+    ensures held { (site : Site) → site.processors ≤ MOST_PROCESSORS → (lines : List Line) (stop : Option ProcessorStop)
         → IsCalm lines (is_some stop) → (ran : Ran) → (run : IsRunOf site lines stop ran)
         → AreClear site lines stop 0 (length run.events) → (moment : Moment site lines stop)
         → length moment.events < length run.events → (plan : Plan) → ComesNext site lines stop moment plan
         → (next : Packeted) → IsPlayBy packet_rules moment.state plan.event next → is_stop plan.event ≡ false
         → (p : ℕ) → p < site.processors → is_running moment.state.world.stopped p ≡ true
         → is_running next.world.stopped p ≡ true }
-    ensures second { (site : Site) → site.processors ≤ 16 → (lines : List Line) (stop : Option ProcessorStop)
-        → IsCalm lines (is_some stop) → (ran : Ran) → (run : IsRunOf site lines stop ran)
+    ensures second { (site : Site) → site.processors ≤ MOST_PROCESSORS → (lines : List Line)
+        (stop : Option ProcessorStop) → IsCalm lines (is_some stop) → (ran : Ran) → (run : IsRunOf site lines stop ran)
         → AreClear site lines stop 0 (length run.events) → (p : ℕ) → ran.ending ≡ Second p → ⊥ }
-    ensures lost { (site : Site) → site.processors ≤ 16 → (lines : List Line) (stop : Option ProcessorStop)
+    ensures lost { (site : Site) → site.processors ≤ MOST_PROCESSORS → (lines : List Line) (stop : Option ProcessorStop)
         → IsCalm lines (is_some stop) → (ran : Ran) → (run : IsRunOf site lines stop ran)
         → AreClear site lines stop 0 (length run.events) → (p : ℕ) → ran.ending ≡ Lost p → ⊥ }
 {}
