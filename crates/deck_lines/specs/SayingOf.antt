@@ -3,6 +3,7 @@ use Rattle.std.specs.Prelude.{ℕ, Bool, true, false, ◌==◌, nat_le, List, []
 use Rattle.std.specs.Prelude.{option_map, option_and_then, is_some, if◌then◌else◌, ℤ}
 use Rattle.std.specs.List.{list_all}
 use Rattle.std.specs.Str.{bytes_eq}
+use Rattle.gd_words.specs.declared.limits.TheConstants.{MOST_MESSAGE_WORDS}
 use Rattle.gd_words.specs.Spelling.{name_of}
 use Rattle.schedule.specs.declared.event.DriveChange.TheVariants.{Break, Revive, Copy}
 use Rattle.deck_lines.specs.Lines.{words_of, is_blank, is_printable, one_word, two_words, three_words, four_words}
@@ -87,9 +88,9 @@ request_words [] = Some []
 request_words (word ∷ words) =
     option_and_then (λ value. option_map (λ values. value ∷ values) (request_words words)) (word_of word)
 
--- at most 16 words
+-- no more words than a request may have
 abbrev pub request_of : List (List ℕ) → Option (List ℤ)
-request_of parts = if nat_le (length parts) 16 then request_words parts else None
+request_of parts = if nat_le (length parts) MOST_MESSAGE_WORDS then request_words parts else None
 
 -- each of them is a word
 abbrev pub are_words : List (List ℕ) → Bool
