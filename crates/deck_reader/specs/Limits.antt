@@ -9,8 +9,8 @@ use Rattle.tal_tree.specs.declared.site.Site.{Site}
 use Rattle.tal_tree.specs.declared.site.TerminalSpec.{TerminalSpec}
 use Rattle.deck_reader.specs.Schedules.{IsLineOf, rounds_of, singles_of}
 use Rattle.deck_reader.specs.declared.deck.Deck.{Deck}
-use Rattle.gd_words.specs.declared.limits.TheConstants.{MOST_PROCESSES, MOST_PROCESSORS, MOST_REQUESTS, MOST_ROUNDS}
-use Rattle.gd_words.specs.declared.limits.TheConstants.{MOST_SECTORS, MOST_SINGLES, MOST_TERMINALS}
+use Rattle.gd_words.specs.declared.limits.TheConstants.{MOST_MESSAGE_WORDS, MOST_PROCESSES, MOST_PROCESSORS, MOST_REQUESTS}
+use Rattle.gd_words.specs.declared.limits.TheConstants.{MOST_ROUNDS, MOST_SECTORS, MOST_SINGLES, MOST_TERMINALS}
 
 -- a disc has 1 to 64 sectors, and the program of a pair keeps its limits
 abbrev pub IsKindWithinLimits : Kind → Type 0
@@ -47,6 +47,6 @@ pub record IsWithinDeckLimits (deck : Deck) : Type 0 where
   pub singles : singles_of deck.lines ≤ MOST_SINGLES
   pub rounds : rounds_of deck.lines ≤ MOST_ROUNDS
 
--- the requests of a terminal have at most 16 words each
+-- the requests of a terminal have no more words than their limit
 abbrev pub HasShortRequests : TerminalSpec → Type 0
-HasShortRequests terminal = All (λ (request : List ℤ). length request ≤ 16) terminal.requests
+HasShortRequests terminal = All (λ (request : List ℤ). length request ≤ MOST_MESSAGE_WORDS) terminal.requests
