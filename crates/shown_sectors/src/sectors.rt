@@ -1,4 +1,5 @@
 ghost use Rattle.std.specs.Prelude.{◌≡◌, ◌≤◌, length, IfOk};
+ghost use Rattle.gd_words.specs.declared.limits.TheConstants.{MOST_PROCESSES};
 ghost use Rattle.shown_sectors.specs.Sectors.{sectors_after};
 
 use crate::table::Table;
@@ -20,7 +21,7 @@ pub fn sectors_after(
     site: &Site,
     shown: &[Shown],
 ) -> Result<List<SectorWords>, NoMemory>
-    requires { length site.now.processes ≤ 16 }
+    requires { length site.now.processes ≤ MOST_PROCESSES }
     ensures { IfOk result (λ sectors. sectors ≡ sectors_after site.now shown.now) }
 {
     let mut table = Table::blank(alloc, site.processes.as_slice())?;

@@ -1,4 +1,5 @@
 ghost use Rattle.std.specs.Prelude.{◌≡◌, ◌+◌, ◌≤◌, ◌++◌, IfOk, OnOk, None, Some, length, slice_set};
+ghost use Rattle.gd_words.specs.declared.limits.TheConstants.{MOST_PROCESSES};
 ghost use Rattle.shown_sectors.specs.Sectors.{sector_count};
 ghost use Rattle.shown_sectors.specs.Tables.{blank_row, blank_rows, rows_with, rows_after, row_sectors, rows_sectors};
 
@@ -115,7 +116,7 @@ impl Table {
 
     /// The sectors that have been written, in order.
     pub(crate) fn sectors(&self, alloc: Global) -> Result<List<SectorWords>, NoMemory>
-        requires { length self.now ≤ 16 }
+        requires { length self.now ≤ MOST_PROCESSES }
         ensures { IfOk result (λ sectors. sectors ≡ rows_sectors 0 self.now) }
     {
         let mut all = List::new(alloc);
