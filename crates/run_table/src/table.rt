@@ -1,4 +1,5 @@
 ghost use Rattle.std.specs.Prelude.{◌≡◌, ◌<◌, ◌≤◌, [], ◌∷◌, ◌++◌, length};
+ghost use Rattle.gd_words.specs.declared.limits.TheConstants.{MOST_PROCESSORS};
 
 use crate::rows::Row;
 use arrayvec::ArrayVec;
@@ -11,7 +12,7 @@ pub struct ProcessorRow {
     pub row: Row,
 }
 
-/// The rows of the processors of a site: at most 16.
+/// The rows of the processors of a site.
 #[derive(Drop)]
 pub struct Table {
     rows: ArrayVec<ProcessorRow, 16>,
@@ -41,7 +42,7 @@ impl Table {
 
     /// Puts the row of a processor at the end.
     pub fn push(&mut self, row: ProcessorRow)
-        requires { length self.old < 16 }
+        requires { length self.old < MOST_PROCESSORS }
         ensures { self.new ≡ self.old ++ row ∷ [] }
     {
         self.rows.push(row);
@@ -50,7 +51,7 @@ impl Table {
     /// All rows, in order.
     pub fn rows(&self) -> &[ProcessorRow]
         ensures value { result.now ≡ self.now }
-        ensures few { length result.now ≤ 16 }
+        ensures few { length result.now ≤ MOST_PROCESSORS }
     {
         self.rows.as_slice()
     }
