@@ -1,5 +1,6 @@
 ghost use Rattle.std.specs.Prelude.{◌≡◌, ◌≤◌, [], ◌∷◌, ◌++◌, length, codes};
 ghost use Rattle.std.specs.Fmt.{decimal};
+ghost use Rattle.gd_words.specs.declared.limits.TheConstants.{MOST_MESSAGE_WORDS};
 ghost use Rattle.gd_io.specs.Puts.{Puts};
 ghost use Rattle.trace_print.specs.NumbersText.{words_text};
 ghost use Rattle.trace_print.specs.ShownLine.{process_name, shown_line, shown_lines, terminal_name};
@@ -84,7 +85,7 @@ pub fn terminal_name(site: &Site, terminal: u8) -> &[u8]
 pub(crate) fn told(letter: &[u8], name: &[u8], number: u32, words: &[i16]) -> Line
     requires letter { length letter.now ≤ 2 }
     requires short { length name.now ≤ 6 }
-    requires few { length words.now ≤ 16 }
+    requires few { length words.now ≤ MOST_MESSAGE_WORDS }
     ensures { result ≡ letter.now ++ name.now ++ codes " " ++ decimal number ++ codes ":" ++ words_text words.now
         ++ 10 ∷ [] }
 {
