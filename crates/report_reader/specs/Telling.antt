@@ -3,6 +3,7 @@ use Rattle.std.specs.Prelude.{ℕ, Bool, true, false, ◌==◌, ◌&&◌, nat_le
 use Rattle.std.specs.Prelude.{None, is_some, if◌then◌else◌}
 use Rattle.std.specs.Option.{option_map, option_and_then}
 use Rattle.std.specs.Str.{bytes_eq}
+use Rattle.gd_words.specs.declared.limits.TheConstants.{MOST_MESSAGE_WORDS}
 use Rattle.tal_tree.specs.declared.act.Act.{Act}
 use Rattle.tal_tree.specs.declared.act.Act.TheVariants.{Step, Take, Enter, Print}
 use Rattle.tal_tree.specs.declared.site.Kind.{Kind}
@@ -83,7 +84,7 @@ is_write_text site text = is_write_of site (parts_told text)
 
 abbrev pub is_reply_of : Site → Option (List ℕ × ℕ × ℕ) → Bool
 is_reply_of site None = false
-is_reply_of site (Some parts) = is_some (terminal_named site parts.0) && nat_le parts.2 16
+is_reply_of site (Some parts) = is_some (terminal_named site parts.0) && nat_le parts.2 MOST_MESSAGE_WORDS
 
 -- there is a text, and it passes
 abbrev pub passes : (List ℕ → Bool) → Option (List ℕ) → Bool

@@ -3,6 +3,7 @@ ghost use Rattle.std.specs.Prelude.{◌≡◌, ◌≤◌, ◌++◌, [], IfOk, co
 ghost use Rattle.std.specs.List.{All};
 ghost use Rattle.std.specs.Option.{unwrap_or};
 ghost use Rattle.std.specs.Str.{bytes_eq};
+ghost use Rattle.gd_words.specs.declared.limits.TheConstants.{MOST_PROCESSES, MOST_TERMINALS};
 ghost use Rattle.plain_semantics.specs.Openers.{named_from};
 ghost use Rattle.plain_semantics.specs.SiteLimits.{KeepsSiteLimits};
 ghost use Rattle.trace_print.specs.ActLine.{variable_name, who_name};
@@ -25,7 +26,7 @@ pub fn process_named(site: &Site, name: &[u8]) -> Option<u8>
 }
 
 fn process_among(processes: &[ProcessSpec], name: &[u8]) -> Option<u8>
-    requires { length processes.now ≤ 16 }
+    requires { length processes.now ≤ MOST_PROCESSES }
     ensures { result ≡ named_from name.now 0 processes.now }
 {
     for (number, process) in processes.iter().enumerate() {
@@ -45,7 +46,7 @@ pub fn terminal_named(site: &Site, name: &[u8]) -> Option<u8>
 }
 
 fn terminal_among(terminals: &[TerminalSpec], name: &[u8]) -> Option<u8>
-    requires { length terminals.now ≤ 16 }
+    requires { length terminals.now ≤ MOST_TERMINALS }
     ensures { result ≡ terminal_from name.now 0 terminals.now }
 {
     for (number, terminal) in terminals.iter().enumerate() {

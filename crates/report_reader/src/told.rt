@@ -12,6 +12,7 @@ use crate::names::{opener_named, process_named, terminal_named};
 use crate::numbers::{number_told, word_count};
 use crate::parts::{cut_at, rest_after};
 use gd_words::List;
+use gd_words::limits::MOST_MESSAGE_WORDS;
 use tal_tree::{Act, Kind, OpenerSpec, Site};
 use trace_print::End;
 
@@ -171,7 +172,7 @@ fn is_reply(site: &Site, line: &[u8]) -> bool
     let Some((name, _, words)) = parts_told(text) else {
         return false;
     };
-    terminal_named(site, name).is_some() && words <= 16
+    terminal_named(site, name).is_some() && words <= MOST_MESSAGE_WORDS
 }
 
 /// Whether it tells what stands on a sector.
