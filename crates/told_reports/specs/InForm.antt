@@ -1,5 +1,6 @@
 -- What a report may tell of a site, line by line.
 use Rattle.std.specs.Prelude.{◌≡◌, ◌+◌, ◌<◌, ◌≤◌, ℕ, true, List, [], ◌∷◌, length, Some}
+use Rattle.tal_tree.specs.gd_words.specs.declared.limits.TheConstants.{MOST_MESSAGE_WORDS}
 use Rattle.report_reader.specs.Telling.{has_sector}
 use Rattle.shown_sectors.specs.declared.sectors.SectorWords.{SectorWords}
 use Rattle.tal_tree.specs.declared.act.Act.{Act}
@@ -24,7 +25,7 @@ abbrev pub IsShownOn : Site → Shown → Type 0
 IsShownOn site (Write process sector words) =
     IsSectorOf site (record { process = process; sector = sector; words = words })
 IsShownOn site (Reply terminal number words) =
-    (terminal < length site.terminals) × (number < 4294967296) × AreWords words × (length words ≤ 16)
+    (terminal < length site.terminals) × (number < 4294967296) × AreWords words × (length words ≤ MOST_MESSAGE_WORDS)
 
 -- a processor of the site, with a number of 32 bits
 abbrev pub IsProcessorOf : Site → ℕ → Type 0
