@@ -1,5 +1,6 @@
 -- Programs whose numbers are words, and requests and replies that a report may tell.
 use Rattle.std.specs.Prelude.{◌≡◌, ◌≤◌, ℕ, ℤ, List, length, slice_get, Option, Some, None}
+use Rattle.gd_words.specs.declared.limits.TheConstants.{MOST_MESSAGE_WORDS}
 use Rattle.gd_words.specs.Members.{IsAmong}
 use Rattle.tal_tree.specs.Statements.{all_of}
 use Rattle.tal_tree.specs.declared.expression.Expr.{Expr, Number}
@@ -42,6 +43,6 @@ abbrev pub HasWordNumbers : Program → Type 0
 HasWordNumbers program = (k : ℕ) (procedure : Procedure) → slice_get program.procedures k ≡ Some procedure
     → (statement : Statement) → IsAmong statement (all_of procedure.body) → HasWords (out-What statement.what)
 
--- at most 16 words
+-- no more words than a message has
 abbrev pub IsMessage : List ℤ → Type 0
-IsMessage words = AreWords words × (length words ≤ 16)
+IsMessage words = AreWords words × (length words ≤ MOST_MESSAGE_WORDS)
