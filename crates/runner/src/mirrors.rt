@@ -1,5 +1,6 @@
 ghost use Rattle.std.specs.Prelude.{◌≡◌, ◌<◌, ◌≤◌, [], ◌++◌, length, slice_get, IfOk, OnOk};
 ghost use Rattle.std.specs.Option.{unwrap_or};
+ghost use Rattle.gd_words.specs.declared.limits.TheConstants.{MOST_PROCESSES};
 ghost use Rattle.command_dues.specs.Mirrors.{mirror_at, mirrors_from};
 
 use command_dues::{Machine, MirrorDrives};
@@ -13,7 +14,7 @@ pub(crate) fn mirrors_of(
     site: &Site,
     machine: &Machine,
 ) -> Result<List<MirrorDrives>, NoMemory>
-    requires { length site.now.processes ≤ 16 }
+    requires { length site.now.processes ≤ MOST_PROCESSES }
     ensures { IfOk result (λ mirrors. mirrors ≡ mirrors_from 0 site.now.processes machine.now.state.drives) }
 {
     let mut mirrors = List::new(alloc);
