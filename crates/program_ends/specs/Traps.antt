@@ -3,6 +3,7 @@ use Rattle.std.specs.Option.{option_or}
 use Rattle.std.specs.Prelude.{ℕ, ℤ, pos, if◌then◌else◌, is_some, length, min, List, [], ◌∷◌, slice_get, Option, Some}
 use Rattle.std.specs.Prelude.{None, IsSome, Ok, Err}
 use Rattle.std.specs.Result.{result_err}
+use Rattle.gd_words.specs.declared.limits.TheConstants.{MOST_MESSAGE_WORDS}
 use Rattle.process_semantics.specs.Changes.{variable_cell}
 use Rattle.process_semantics.specs.State.{Entry, Run, Test, Last, good_count, words_of}
 use Rattle.tal_tree.specs.declared.expression.Cond.{Cond}
@@ -119,7 +120,7 @@ WorksOut program What-F.Stop = ⊥
 abbrev pub trap_of_number : List ℤ → Worked ℤ → Option Trap
 trap_of_number words (Err met) = Some (Value met)
 trap_of_number words (Ok count) =
-    if is_some (good_count words count) then None else Some (Count count (pos (min 16 (length words))))
+    if is_some (good_count words count) then None else Some (Count count (pos (min MOST_MESSAGE_WORDS (length words))))
 
 abbrev pub trap_of_count : Memory → ℕ → Expr → Option Trap
 trap_of_count m buffer count = trap_of_number (words_of m.globals buffer) (value_or_trap m count)

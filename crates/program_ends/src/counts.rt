@@ -5,6 +5,7 @@ ghost use Rattle.tal_values.specs.Seen.{seen};
 ghost use Rattle.program_ends.specs.Traps.{trap_of_count, trap_of_number};
 
 use crate::ending::Trap;
+use gd_words::limits::MOST_MESSAGE_WORDS;
 use gd_words::{List, NoMemory};
 use process_semantics::counts::good_count;
 use std::alloc::Global;
@@ -51,7 +52,7 @@ fn trap_of_number(words: &[i16], count: Result<i16, ValueTrap>) -> Option<Trap>
             Some(_) => None,
             None => Some(Trap::Count {
                 count,
-                most: words.len().min(16) as i16,
+                most: words.len().min(MOST_MESSAGE_WORDS) as i16,
             }),
         },
     }
