@@ -46,7 +46,7 @@ neighbour_after_report set Absent = Absent
 neighbour_after_report set (Up came misses report) = Up came misses set
 neighbour_after_report set (Down came) = Down came
 
--- after it was noted down: whether an alive packet came since the last check is forgotten at checks alone
+-- after it was marked down: whether an alive packet came since the last check is forgotten at checks alone
 abbrev pub neighbour_after_down : Neighbour → Neighbour
 neighbour_after_down Absent = Absent
 neighbour_after_down (Up came misses report) = Down came
@@ -64,7 +64,7 @@ neighbour_after_up_of processor Absent = Absent
 neighbour_after_up_of processor (Up came misses report) = Up came misses (without processor report)
 neighbour_after_up_of processor (Down came) = Down came
 
--- it is another processor that isn't noted down
+-- it is another processor that isn't marked down
 abbrev pub is_up : Neighbour → Bool
 is_up Absent = false
 is_up (Up came misses report) = true
@@ -159,22 +159,22 @@ abbrev pub all_but : ℕ → (Neighbour → Bool) → List Neighbour → Bool
 all_but processor passes neighbours =
     list_all passes (take processor neighbours) && list_all passes (drop (processor + 1) neighbours)
 
--- the node is the lowest of the processors that it hasn't noted down, this one aside
+-- the node is the lowest of the processors that it hasn't marked down, this one aside
 abbrev pub is_coordinator : ℕ → Watching → Bool
 is_coordinator processor w = all_but processor (λ one. not (is_up one)) (take w.me w.neighbours)
 
--- all agree: this processor is in the node's own silent set and in the last report of each other one that isn't noted
+-- all agree: this processor is in the node's own silent set and in the last report of each other one that isn't marked
 -- down, and the node is the coordinator
 abbrev pub is_held : ℕ → Watching → Bool
 is_held processor w =
     nat_lt w.me MOST_PROCESSORS && is_silent_at processor w && is_coordinator processor w
     && all_but processor (agrees processor) w.neighbours
 
--- the last check missed none of the processors that it hasn't noted down
+-- the last check missed none of the processors that it hasn't marked down
 abbrev pub misses_none : Watching → Bool
 misses_none w = list_all (λ one. not (is_missed one)) w.neighbours
 
--- whether a processor is noted down
+-- whether a processor is marked down
 abbrev pub is_marked : ℕ → Watching → Bool
 is_marked processor w = unwrap_or (option_map is_down (slice_get w.neighbours processor)) false
 

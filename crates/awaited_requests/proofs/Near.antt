@@ -31,7 +31,8 @@ use Rattle.takeover_laws.specs.Fit.{IsFit}
 use Rattle.takeover_laws.specs.Invariant.{Invariant, Stage, IsLead, is_level, is_applied, is_behind}
 use Rattle.takeover_laws.proofs.Backed.{next-is}
 use Rattle.takeover_laws.proofs.Own.{quiet-held}
-use Rattle.takeover_laws.proofs.Repeating.{unmarked-join, repeatable-unmarked, repeatable-join, no-mark}
+use Rattle.takeover_laws.proofs.Repeating.{uncheckpointed-join, repeatable-uncheckpointed, repeatable-join}
+use Rattle.takeover_laws.proofs.Repeating.{no-checkpoint}
 use Rattle.awaited_requests.specs.Awaited.{IsAwaited, by_copy, by_terminal}
 use Rattle.awaited_requests.proofs.Depths.{depth-of}
 use Rattle.awaited_requests.proofs.Leads.{acting-leads, count-join}
@@ -50,7 +51,7 @@ module _ (site : Site) (fit : IsFit site) (number : ℕ) (spec : ProcessSpec)
     since : List Deed
     before : List Deed
     split : deeds ≡ since ++ before
-    unmarked : AreUncheckpointed since
+    uncheckpointed : AreUncheckpointed since
     even : length (requests_on file before) ≡ length (replies_on file before)
 
   one-later : (file : ℕ) (deed : Deed) {deeds : List Deed} → deed ≢ Checkpointed → SinceCheckpoint file deeds
@@ -59,13 +60,19 @@ module _ (site : Site) (fit : IsFit site) (number : ℕ) (spec : ProcessSpec)
     since = deed ∷ s.since;
     before = s.before;
     split = ap (λ all. deed ∷ all) s.split;
-    unmarked = (no-mark deed other, s.unmarked);
+    uncheckpointed = (no-checkpoint deed other, s.uncheckpointed);
     even = s.even;
   }
 
   since-checkpoint : (file : ℕ) {deeds : List Deed} {core : Core} → HasDone site number spec deeds core →
       SinceCheckpoint file deeds
-  since-checkpoint file nothing_done = record { since = []; before = []; split = refl; unmarked = tt; even = refl }
+  since-checkpoint file nothing_done = record {
+    since = [];
+    before = [];
+    split = refl;
+    uncheckpointed = tt;
+    even = refl;
+  }
   since-checkpoint file (one_more {deeds = deeds} {before = core} done (checkpoints at)) =
       let none = none-awaited (process.after_checkpoint core.state) file
       (calm-away _ (checkpointed-calm core.state (done-steady (fit.regular number spec there) done) at)) in
@@ -74,7 +81,7 @@ module _ (site : Site) (fit : IsFit site) (number : ℕ) (spec : ProcessSpec)
         since = [];
         before = Checkpointed ∷ deeds;
         split = refl;
-        unmarked = tt;
+        uncheckpointed = tt;
         even = omega (arith, count, none);
       }
   since-checkpoint file (one_more done (goes at)) = one-later file Went (λ e. absurd (cc)) (since-checkpoint file done)
@@ -100,10 +107,11 @@ module _ (site : Site) (fit : IsFit site) (number : ℕ) (spec : ProcessSpec)
       → (1 ≤ n) × (n ≤ length (requests_on file deeds))
       × ((of : OpenerSpec) → slice_get (openers_of site opener.server) opener.place ≡ Some of
       → length (requests_on file deeds) < n + of.depth)
-  near-file file n opener deeds more past {core = core} {after = after} opens split unmarked whole done at named next =
-      let mark = since-checkpoint file done in
-      let all : deeds ≡ (more ++ mark.since) ++ mark.before =
-      split ∙ ap (λ rest. more ++ rest) mark.split ∙ sym (append_assoc more mark.since mark.before) in
+  near-file file n opener deeds more past {core = core} {after = after} opens split uncheckpointed whole done at named
+      next =
+      let last = since-checkpoint file done in
+      let all : deeds ≡ (more ++ last.since) ++ last.before =
+      split ∙ ap (λ rest. more ++ rest) last.split ∙ sym (append_assoc more last.since last.before) in
       let one : one_if (awaits_on core.state file) ≡ 1 =
       rw (one-awaited core.state file at, eq-eqb (process.asked_file core.state) file named) refl in
       let count : length (requests_on file past) ≡ length (replies_on file past) + one_if (awaits_on core.state file) =
@@ -111,13 +119,13 @@ module _ (site : Site) (fit : IsFit site) (number : ℕ) (spec : ProcessSpec)
       let numbered : next_on core file ≡ length (requests_on file past) + 1 =
       next-is site (fit.regular) number spec there past file opener opens done in
       let got : length (replies_on file past)
-      ≡ length (replies_on file mark.since) + length (replies_on file mark.before) =
-      ap (λ d. length (replies_on file d)) mark.split ∙ count-join (get_on file) mark.since mark.before in
+      ≡ length (replies_on file last.since) + length (replies_on file last.before) =
+      ap (λ d. length (replies_on file d)) last.split ∙ count-join (get_on file) last.since last.before in
       let asked : length (requests_on file deeds) ≡ length (requests_on file more) + length (requests_on file past) =
       ap (λ d. length (requests_on file d)) split ∙ count-join (ask_on file) more past in
       let since : length (requests_on file deeds)
-      ≡ length (requests_on file (more ++ mark.since)) + length (requests_on file mark.before) =
-      ap (λ d. length (requests_on file d)) all ∙ count-join (ask_on file) (more ++ mark.since) mark.before in (
+      ≡ length (requests_on file (more ++ last.since)) + length (requests_on file last.before) =
+      ap (λ d. length (requests_on file d)) all ∙ count-join (ask_on file) (more ++ last.since) last.before in (
         omega (arith, next, numbered, count, one),
         omega (arith, next, numbered, asked),
         λ of placed.
@@ -125,10 +133,10 @@ module _ (site : Site) (fit : IsFit site) (number : ℕ) (spec : ProcessSpec)
             let same : has.0 ≡ spec = some-same (sym has.2 ∙ there) in
             let opened : slice_get (files_of spec.what) file ≡ Some has.1 =
             subst (λ (s : ProcessSpec). slice_get (files_of s.what) file ≡ Some has.1) same has.3 in
-            let few = (fit.disciplined number spec there).depth (more ++ mark.since) mark.before file has.1 after
+            let few = (fit.disciplined number spec there).depth (more ++ last.since) last.before file has.1 after
             (subst (λ d. HasDone site number spec d after) all whole)
-            (unmarked-join more mark.since unmarked mark.unmarked) opened in
-            omega (arith, has.4, few, one, next, numbered, count, got, since, mark.even)),
+            (uncheckpointed-join more last.since uncheckpointed last.uncheckpointed) opened in
+            omega (arith, has.4, few, one, next, numbered, count, got, since, last.even)),
       )
 
 module _ (site : Site) (fit : IsFit site) where
@@ -149,9 +157,9 @@ module _ (site : Site) (fit : IsFit site) where
       near : (more past : List Deed) → ledger.deeds number ≡ more ++ past → AreUncheckpointed more
           → HasDone site number spec past copy.core
           → IsNear site ledger (who.File number file) opener n
-      near more past split unmarked done =
+      near more past split uncheckpointed done =
           let is = near-file site fit number spec there file n opener (ledger.deeds number) more past opens split
-          unmarked stands.done done at named next in
+          uncheckpointed stands.done done at named next in
           record { some = is.0; asked = is.1; last = is.2 }
 
       loud : {acts : List Act} {more : List Deed} → AreHeld site ledger number acts more → acts ≢ []
@@ -168,11 +176,11 @@ module _ (site : Site) (fit : IsFit site) where
       by (is_level is (take_held waits) position done sent) = loud (take_held waits) (λ e. absurd (cc)) done
       by (is_level is (step_held held) position done sent) = loud (step_held held) (λ e. absurd (cc)) done
       by (is_applied before none split position done) =
-          let mark = stands-there (done-last done
+          let last = stands-there (done-last done
           (subst (λ d. HasDone site number spec d stands.core) split stands.done)) in absurd (cc)
       by (is_behind since then before none split again all position done unsent) =
           near (since ++ then ∷ []) before (split ∙ sym (append_assoc since (then ∷ []) before))
-          (repeatable-unmarked (since ++ then ∷ []) (repeatable-join since (then ∷ []) all (again, tt))) done
+          (repeatable-uncheckpointed (since ++ then ∷ []) (repeatable-join since (then ∷ []) all (again, tt))) done
 
   pub awaited-near : (events : ℕ) (w : World) (inv : Invariant site events w) (asker : ℕ) (one : Who) (n : ℕ)
       (opener : Opener) → opener_of site one ≡ Some opener

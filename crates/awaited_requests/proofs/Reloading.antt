@@ -27,7 +27,7 @@ use Rattle.world_semantics.specs.Core.{Core, next_on}
 use Rattle.world_semantics.specs.Messages.{Asking, Reloading, Replying}
 use Rattle.world_semantics.specs.Rules.{most_reloads, new_core, by_reload, reloaded_at, reloaded_by, reloaded_from}
 use Rattle.world_semantics.specs.Rules.{without_downs}
-use Rattle.world_semantics.specs.World.{Copy, Pair, Terminal, World, copy_of, has_noted, is_running}
+use Rattle.world_semantics.specs.World.{Copy, Pair, Terminal, World, copy_of, has_marked, is_running}
 use Rattle.world_semantics.specs.World.{receives, terminal_node}
 use Rattle.world_semantics.specs.declared.role.Role.TheVariants.{Acting}
 use Rattle.world_semantics.specs.declared.which.Which.{Which}
@@ -67,7 +67,7 @@ within (y ∷ xs) (suc k) x at = let rest = within xs k x at in omega (arith, re
 module _ (site : Site) (out : IsLaidOut site) (w : World) (x times : ℕ) (roles : AllRoles w) (down : AreStopped w)
     (steady : IsSteady w) (seated : IsSeated site w)
     (stopped : slice_get w.stopped x ≡ Some true)
-    (all : (node : ℕ) → is_running w.stopped node ≡ true → has_noted w.downs node x ≡ true)
+    (all : (node : ℕ) → is_running w.stopped node ≡ true → has_marked w.downs node x ≡ true)
     (counted : slice_get w.reloads x ≡ Some times) (less : times < most_reloads) where
   abbrev reloaded : ℕ → Pair → Pair
   reloaded number pair = reloaded_at site x number (slice_get site.processes number) pair
@@ -114,14 +114,14 @@ module _ (site : Site) (out : IsLaidOut site) (w : World) (x times : ℕ) (roles
       by (true, at) = absurd (apart (steady.one y x at stopped))
       by (false, at) = rw at refl
 
-  none-marked : (node p : ℕ) → has_noted next.downs node p ≡ false
+  none-marked : (node p : ℕ) → has_marked next.downs node p ≡ false
   none-marked node p =
-      is-false (has_noted next.downs node p) (λ e. now-none w.stopped x steady.one stopped p
+      is-false (has_marked next.downs node p) (λ e. now-none w.stopped x steady.one stopped p
       (marked-down next.stopped next.downs node p
       (change-downs {site = site} w next (Reloading x) [] (by_reload x stopped all counted less) down) e))
 
-  unmarked : (node p : ℕ) → p ≢ x → has_noted w.downs node p ≡ false
-  unmarked node p apart = is-false (has_noted w.downs node p)
+  unmarked : (node p : ℕ) → p ≢ x → has_marked w.downs node p ≡ false
+  unmarked node p apart = is-false (has_marked w.downs node p)
       (λ e. apart (steady.one p x (marked-down w.stopped w.downs node p down e) stopped))
 
   -- the route of a node that runs stays, and leads elsewhere
@@ -157,7 +157,7 @@ module _ (site : Site) (out : IsLaidOut site) (w : World) (x times : ℕ) (roles
             inside = rw (led, m) sit.two;
           }
       by true one false two First led =
-          let m : has_noted w.downs node pair.first.processor ≡ true =
+          let m : has_marked w.downs node pair.first.processor ≡ true =
           rw (eqb-true pair.first.processor x one) (all node running) in
           record {
             same = rw (one, two, led, none-marked node pair.second.processor, m) refl;
@@ -179,7 +179,7 @@ module _ (site : Site) (out : IsLaidOut site) (w : World) (x times : ℕ) (roles
             inside = rw (led, m) sit.one;
           }
       by false one true two Second led =
-          let m : has_noted w.downs node pair.second.processor ≡ true =
+          let m : has_marked w.downs node pair.second.processor ≡ true =
           rw (eqb-true pair.second.processor x two) (all node running) in
           record {
             same = rw (one, two, led, none-marked node pair.first.processor, m) refl;

@@ -18,7 +18,7 @@ use Rattle.world_semantics.specs.Passes.{by_apply, by_acknowledge}
 use Rattle.world_semantics.specs.Rules.{Change, by_own, by_checkpoint, by_request, by_early_request, by_enter, by_print}
 use Rattle.world_semantics.specs.Rules.{by_stop, by_mark, by_reload, stopped_pair, taker}
 use Rattle.world_semantics.specs.Rules.{pair_after_down, pair_at_down, renewals_ended, new_core, reloaded_by}
-use Rattle.world_semantics.specs.World.{Copy, Pair, Terminal, World, pair_at_boot, pairs_at_boot, has_noted}
+use Rattle.world_semantics.specs.World.{Copy, Pair, Terminal, World, pair_at_boot, pairs_at_boot, has_marked}
 use Rattle.world_semantics.specs.World.{copy_of, other_of, with_copy, receives}
 use Rattle.world_semantics.specs.declared.role.Role.{Role}
 use Rattle.world_semantics.specs.declared.role.Role.TheVariants.{Acting, Watching, Blank, Gone}
@@ -440,10 +440,10 @@ run-leads site events w placed run =
 
 -- the node of a copy that watches or is blank hasn't marked the other one's processor
 unmarked-yet : (w : World) (role : Role) (here there : ℕ) → AreStopped w → Waits w.stopped w.downs role here there
-    → receives role ≡ true → has_noted w.downs here there ≡ false
-unmarked-yet w role here there down waits r = by (has_noted w.downs here there) refl role refl r
+    → receives role ≡ true → has_marked w.downs here there ≡ false
+unmarked-yet w role here there down waits r = by (has_marked w.downs here there) refl role refl r
   where
-    by : (b : Bool) → has_noted w.downs here there ≡ b → (one : Role) → role ≡ one → receives one ≡ true → b ≡ false
+    by : (b : Bool) → has_marked w.downs here there ≡ b → (one : Role) → role ≡ one → receives one ≡ true → b ≡ false
     by false e one same r = refl
     by true e Watching same r = absurd (waits.unmarked same e)
     by true e Blank same r = absurd (waits.blank same there (marked-down w.stopped w.downs here there down e))
@@ -510,7 +510,7 @@ seated site w number pair placed kept there ok leads =
     unmarked : Waits w.stopped w.downs pair.first.role pair.first.processor pair.second.processor
         → Waits w.stopped w.downs pair.second.role pair.second.processor pair.first.processor
         → (k : Which) → receives (copy_of k pair).role ≡ true
-        → has_noted w.downs (copy_of k pair).processor (copy_of (other_of k) pair).processor ≡ false
+        → has_marked w.downs (copy_of k pair).processor (copy_of (other_of k) pair).processor ≡ false
     unmarked one two First r =
         unmarked-yet w pair.first.role pair.first.processor pair.second.processor kept.downs one r
     unmarked one two Second r =

@@ -18,7 +18,7 @@ use Rattle.agendas.specs.Agendas.{Agenda, Plan, PlaysOn, plays_none, plays_on, u
 use Rattle.calm_schedules.specs.Calm.{IsCalm, is_calm_line, is_stop, stops_one}
 use Rattle.world_semantics.specs.Running.{Done}
 use Rattle.world_semantics.specs.Rules.{most_reloads}
-use Rattle.world_semantics.specs.World.{is_noted_by_all, is_running, is_whole, runs_by}
+use Rattle.world_semantics.specs.World.{is_marked_by_all, is_running, is_whole, runs_by}
 use Rattle.computed_changes.specs.Stopped.{reload_counted, reload_done, reload_if, reload_where}
 use Rattle.machine_states.specs.States.{Played, Makes, Skips, Would, Harm, SecondStop, DiscLoss}
 use Rattle.packet_wires.specs.Wires.{Midst}
@@ -69,7 +69,7 @@ reload-shown s processor next made =
 
     counted : (times : Option ℕ) → Shows (reload_counted s.site processor s.world times)
     counted None = tt
-    counted (Some times) = may times (is_noted_by_all s.world processor && nat_lt times most_reloads)
+    counted (Some times) = may times (is_marked_by_all s.world processor && nat_lt times most_reloads)
 
     where-shown : (stopped : Option Bool) → Shows (reload_where s.site processor s.world stopped)
     where-shown None = tt

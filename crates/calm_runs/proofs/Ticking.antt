@@ -16,7 +16,7 @@ use Rattle.alive_regroup.specs.Watching.{Watching, after_check, after_tick, agre
 use Rattle.alive_regroup.specs.Watching.{is_silent, is_silent_at, neighbour_after_check, told_by_tick}
 use Rattle.world_semantics.specs.World.{is_running, is_whole, runs_by, terminal_node}
 use Rattle.world_semantics.proofs.Lists.{set-other}
-use Rattle.computed_changes.specs.Stopped.{may_note, marked_where, mark_where, stop_if, stopped_world}
+use Rattle.computed_changes.specs.Stopped.{may_mark, marked_where, mark_where, stop_if, stopped_world}
 use Rattle.machine_states.specs.States.{Played, Makes, Skips, Would, SecondStop, DiscLoss}
 use Rattle.packet_wires.specs.Nodes.{Node, numbers, others}
 use Rattle.packet_wires.specs.Lines.{first_held, line_pulled}
@@ -290,7 +290,7 @@ marks-shown node k s = by (slice_get s.world.stopped k)
     by : (o : Option Bool) → (marked_by node k s (mark_where node k s.world o)).world.shown ≡ s.world.shown
     by None = refl
     by (Some false) = refl
-    by (Some true) = allowed (may_note node k s.world)
+    by (Some true) = allowed (may_mark node k s.world)
 
 pub ticks-so : (s : Packeted) (node : ℕ) → TicksIf node s (tick_acted node (underway s))
 ticks-so s node = by (is_running s.world.stopped node) refl

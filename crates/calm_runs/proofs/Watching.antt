@@ -17,7 +17,7 @@ use Rattle.world_semantics.proofs.Lists.{set-there, set-other}
 use Rattle.computed_changes.specs.Changed.{change_done}
 use Rattle.computed_changes.specs.Handed.{handed_done}
 use Rattle.computed_changes.proofs.Changed.{change-each}
-use Rattle.computed_changes.specs.Stopped.{may_note, marked_where, mark_where, world_at_down}
+use Rattle.computed_changes.specs.Stopped.{may_mark, marked_where, mark_where, world_at_down}
 use Rattle.letters.specs.Routes.{letters_of}
 use Rattle.letters.specs.Again.{sent_again}
 use Rattle.single_stops.specs.message_wires_laws.proofs.Stopping.{StopsNone, handed-none}
@@ -222,7 +222,7 @@ marks-keep node k s = by (slice_get s.world.stopped k) refl
         → StateKeeps s (marked_by node k s (mark_where node k s.world o))
     by None there = state-none s
     by (Some false) there = state-none s
-    by (Some true) there = allowed there (may_note node k s.world)
+    by (Some true) there = allowed there (may_mark node k s.world)
 
 handed-keeps : (node : ℕ) (message : NodeMessage) (s : Underway) → StateKeeps s (handed node message s)
 handed-keeps node (Carrying message) s =

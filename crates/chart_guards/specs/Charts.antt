@@ -1,8 +1,8 @@
 -- A chart of two processors and one process, from event 5 on.
 use Rattle.std.specs.Prelude.{ℕ, Bool, true, false, List, [], ◌∷◌}
-use Rattle.chart_marks.specs.declared.layout.Layout.{Layout}
-use Rattle.chart_marks.specs.declared.standing.Standing.{Standing}
-use Rattle.chart_marks.specs.declared.ways.Way.{Way}
+use Rattle.chart_drawing.specs.declared.layout.Layout.{Layout}
+use Rattle.chart_drawing.specs.declared.standing.Standing.{Standing}
+use Rattle.chart_drawing.specs.declared.ways.Way.{Way}
 use Rattle.svg_text.specs.declared.drawing.Spot.{Spot}
 use Rattle.trace_lines.specs.declared.finding.PacketSight.{PacketSight}
 use Rattle.trace_lines.specs.declared.finding.PacketSort.{PacketSort}

@@ -1,7 +1,7 @@
 ghost use Rattle.std.specs.Prelude.{◌≡◌, true, false, [], ◌∷◌, map, None, Some};
 ghost use Rattle.chart_guards.specs.Charts.{copy, layout, pair, spot};
-ghost use Rattle.chart_marks.specs.Standings.{acting_in, after_all, copy_bar};
-ghost use Rattle.svg_text.specs.declared.drawing.Mark.TheVariants.{Bar};
+ghost use Rattle.chart_drawing.specs.Standings.{acting_in, after_all, copy_bar};
+ghost use Rattle.svg_text.specs.declared.drawing.Shape.TheVariants.{Bar};
 ghost use Rattle.svg_text.specs.declared.looks.Look.TheVariants as look;
 ghost use Rattle.trace_lines.specs.declared.finding.Finding.TheVariants as finding;
 

@@ -1,10 +1,10 @@
 ghost use Rattle.std.specs.Prelude.{◌≡◌, true, false, [], ◌∷◌, None};
 ghost use Rattle.chart_guards.specs.Charts.{layout, pair, spot};
-ghost use Rattle.chart_marks.specs.Groups.{all_found, all_shown};
-ghost use Rattle.chart_marks.specs.Layout.{event_y, lane_x};
+ghost use Rattle.chart_drawing.specs.Groups.{all_found, all_shown};
+ghost use Rattle.chart_drawing.specs.Layout.{event_y, lane_x};
 ghost use Rattle.process_semantics.specs.declared.point.Point.TheVariants as point;
 ghost use Rattle.schedule.specs.declared.event.Event.TheVariants as event;
-ghost use Rattle.svg_text.specs.declared.drawing.Mark.TheVariants.{Circle, Line, Words};
+ghost use Rattle.svg_text.specs.declared.drawing.Shape.TheVariants.{Circle, Line, Words};
 ghost use Rattle.svg_text.specs.declared.looks.Look.TheVariants as look;
 ghost use Rattle.tal_tree.specs.declared.act.Shown.TheVariants.{Reply, Write};
 ghost use Rattle.trace_lines.specs.declared.finding.Finding.TheVariants as finding;

@@ -1,7 +1,7 @@
 ghost use Rattle.std.specs.Prelude.{◌≡◌, [], ◌∷◌, codes};
 ghost use Rattle.svg_text.specs.Escapes.{escaped_text, worded};
 ghost use Rattle.svg_text.specs.Looks.{rule_text};
-ghost use Rattle.svg_text.specs.Marks.{title_text};
+ghost use Rattle.svg_text.specs.Shapes.{title_text};
 ghost use Rattle.svg_text.specs.declared.looks.Look.TheVariants as look;
 
 /// Each sign means itself, and one that no text may have is a question mark.

@@ -4,9 +4,9 @@ use Rattle.std.proofs.Common.{Some, None, Ok, Err, refl, ap, ap₂, sym, subst, 
 use Rattle.std.specs.Option.{IfSome}
 use Rattle.std.specs.Prelude.{IfErr, IfOk, Result}
 use Rattle.agendas.specs.Agendas.{Agenda, Plan, agenda_of}
-use Rattle.chart_marks.specs.Chart.{chart_at_boot}
-use Rattle.chart_marks.specs.declared.chart.Chart.{Chart}
-use Rattle.chart_marks.specs.declared.layout.Layout.{Layout}
+use Rattle.chart_drawing.specs.Chart.{chart_at_boot}
+use Rattle.chart_drawing.specs.declared.chart.Chart.{Chart}
+use Rattle.chart_drawing.specs.declared.layout.Layout.{Layout}
 use Rattle.charted_runs.specs.Charts.{Charts, IsTooLong, IsWantOfMemory, chart_from, chart_of, charted_by}
 use Rattle.charted_runs.specs.declared.charted.ChartFault.{ChartFault}
 use Rattle.charted_runs.specs.declared.charted.ChartFault.TheVariants as fault

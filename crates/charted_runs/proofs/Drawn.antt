@@ -1,7 +1,7 @@
 -- What is drawn of an event is found by the machine's answer and the state after it.
 use Rattle.std.proofs.Common.{◌≡◌, ◌∙◌, ℕ, List, ap, ap₂}
-use Rattle.chart_marks.specs.Chart.{chart_after}
-use Rattle.chart_marks.specs.declared.chart.Chart.{Chart}
+use Rattle.chart_drawing.specs.Chart.{chart_after}
+use Rattle.chart_drawing.specs.declared.chart.Chart.{Chart}
 use Rattle.charted_runs.specs.Charts.{drawn_by}
 use Rattle.traced_runs.specs.event_findings.specs.Told.{found, noted_of, shown_after, shown_by, told}
 use Rattle.traced_runs.specs.event_findings.specs.declared.noting.Noted.{Noted}

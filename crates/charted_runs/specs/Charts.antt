@@ -1,8 +1,8 @@
 -- The chart of a run's events, and what the call does that makes it. Our own.
 use Rattle.std.specs.Prelude.{◌≡◌, ◌≤◌, ℕ, ◌+◌, if◌then◌else◌, nat_lt, List, [], ◌∷◌, length, Option, Result, Ok, Err}
-use Rattle.chart_marks.specs.Chart.{chart_after, chart_at_boot}
-use Rattle.chart_marks.specs.declared.chart.Chart.{Chart}
-use Rattle.chart_marks.specs.declared.layout.Layout.{Layout}
+use Rattle.chart_drawing.specs.Chart.{chart_after, chart_at_boot}
+use Rattle.chart_drawing.specs.declared.chart.Chart.{Chart}
+use Rattle.chart_drawing.specs.declared.layout.Layout.{Layout}
 use Rattle.charted_runs.specs.declared.charted.ChartFault.{ChartFault}
 use Rattle.charted_runs.specs.declared.charted.ChartFault.TheVariants as fault
 use Rattle.charted_runs.specs.declared.charted.Charted.{Charted}

@@ -1,5 +1,5 @@
 pub mod Charts
-pub use Rattle.chart_marks
+pub use Rattle.chart_drawing
 pub use Rattle.traced_runs
 pub use Rattle.traced_runs.specs.packet_runs
 pub use Rattle.traced_runs.specs.site_machine

@@ -1,4 +1,4 @@
-use chart_marks::Chart;
+use chart_drawing::Chart;
 use gd_words::NoMemory;
 use traced_runs::Ran;
 

@@ -1,12 +1,12 @@
 ghost use Rattle.std.specs.Prelude.{◌≡◌, false, IfOk};
-ghost use Rattle.chart_marks.specs.Chart.{chart_after};
+ghost use Rattle.chart_drawing.specs.Chart.{chart_after};
 ghost use Rattle.charted_runs.specs.Charts.{charted_by, drawn_by};
 ghost use Rattle.traced_runs.specs.event_findings.specs.Told.{found, shown_after};
 ghost use Rattle.traced_runs.specs.packet_runs.specs.Runs.{packet_rules};
 ghost use Rattle.schedule_loop.specs.Ends.{IsTriedBy};
 ghost use Rattle.traced_runs.specs.site_machine.specs.Needs.{IsReady};
 
-use chart_marks::Chart;
+use chart_drawing::Chart;
 use gd_words::NoMemory;
 use machine_states::Effect;
 use schedule::Event;

@@ -1,5 +1,5 @@
 ghost use Rattle.std.specs.Prelude.{◌≡◌, ◌≤◌, ◌<◌, ◌+◌, false, IfErr, IfOk, IsTrue};
-ghost use Rattle.chart_marks.specs.Chart.{chart_at_boot};
+ghost use Rattle.chart_drawing.specs.Chart.{chart_at_boot};
 ghost use Rattle.charted_runs.specs.Charts.{Charts, IsTooLong, IsWantOfMemory};
 ghost use Rattle.traced_runs.specs.packet_runs.specs.Runs.{course_on, packet_rules};
 ghost use Rattle.schedule_loop.specs.Ends.{CanBePlayed, IsEndBy};
@@ -10,7 +10,7 @@ ghost use Rattle.traced_runs.specs.site_machine.specs.process_copies.specs.Start
 
 use crate::charted::{ChartFault, Charted};
 use crate::events::tried_and_drawn;
-use chart_marks::{Chart, Layout};
+use chart_drawing::{Chart, Layout};
 use logs::Shared;
 use player::ProcessorStop;
 use schedule::Line;

@@ -32,7 +32,7 @@ use Rattle.world_semantics.specs.Rules.{by_reload, by_request, by_stop, pair_aft
 use Rattle.world_semantics.specs.Rules.{taker}
 use Rattle.world_semantics.specs.Rules.{new_core, reloaded_by, renewals_ended, without_downs}
 use Rattle.world_semantics.specs.Laws.{IsPlaced}
-use Rattle.world_semantics.specs.World.{Copy, Down, Pair, World, boot, copy_of, has_noted, pair_at_boot}
+use Rattle.world_semantics.specs.World.{Copy, Down, Pair, World, boot, copy_of, has_marked, pair_at_boot}
 use Rattle.world_semantics.specs.World.{other_of, with_copy}
 use Rattle.world_semantics.proofs.Becoming.{acting-gets-none}
 use Rattle.world_semantics.proofs.Beginning.{all-begin}
@@ -53,52 +53,53 @@ use Rattle.checkpoint_chains.proofs.Numbered.{link-more}
 
 module _ (depths : List ℕ) (sent : List ImageMessage) where
   -- no processor is forgotten that was marked
-  noted-less : (before after : Bool) (role : Role) (era number : ℕ) (table : ReceiveBlock)
+  marked-less : (before after : Bool) (role : Role) (era number : ℕ) (table : ReceiveBlock)
       → (role ≡ Acting → after ≡ false → before ≡ false) → StandsTo depths sent before role era number table
       → StandsTo depths sent after role era number table
-  noted-less before after role era number table less st =
+  marked-less before after role era number table less st =
       record { acts = λ acting unmarked. st.acts acting (less acting unmarked); watches = st.watches }
 
   -- its processor may stop
-  stop-stands : (noted here : Bool) (role : Role) (era number : ℕ) (table : ReceiveBlock)
-      → StandsTo depths sent noted role era number table
-      → StandsTo depths sent noted (if here then Gone else role) era number table
-  stop-stands noted true role era number table st = record { acts = λ e. absurd cc; watches = λ e. absurd cc }
-  stop-stands noted false role era number table st = st
+  stop-stands : (is_marked here : Bool) (role : Role) (era number : ℕ) (table : ReceiveBlock)
+      → StandsTo depths sent is_marked role era number table
+      → StandsTo depths sent is_marked (if here then Gone else role) era number table
+  stop-stands is_marked true role era number table st = record { acts = λ e. absurd cc; watches = λ e. absurd cc }
+  stop-stands is_marked false role era number table st = st
 
   -- it takes over where its node marks the other's processor
-  taken-stands : (noted : Bool) (era : ℕ) (table : ReceiveBlock) → noted ≡ true
-      → StandsTo depths sent noted Acting era 0 table
-  taken-stands noted era table is =
+  taken-stands : (is_marked : Bool) (era : ℕ) (table : ReceiveBlock) → is_marked ≡ true
+      → StandsTo depths sent is_marked Acting era 0 table
+  taken-stands is_marked era table is =
       record { acts = λ acting unmarked. absurd (let bad = sym is ∙ unmarked in cc); watches = λ e. absurd cc }
 
   -- it is blank
-  blank-stands : (noted : Bool) (era : ℕ) (table : ReceiveBlock) → StandsTo depths sent noted Blank era 0 table
-  blank-stands noted era table = record { acts = λ e. absurd cc; watches = λ e. inl refl }
+  blank-stands : (is_marked : Bool) (era : ℕ) (table : ReceiveBlock) → StandsTo depths sent is_marked Blank era 0 table
+  blank-stands is_marked era table = record { acts = λ e. absurd cc; watches = λ e. inl refl }
 
   -- it goes on acting
-  acts-stand : (noted : Bool) (role : Role) (era number : ℕ) (table next : ReceiveBlock) → role ≡ Acting
+  acts-stand : (is_marked : Bool) (role : Role) (era number : ℕ) (table next : ReceiveBlock) → role ≡ Acting
       → ((base : ReceiveBlock) → ComesTo depths base table → ComesTo depths base next)
-      → StandsTo depths sent noted role era number table → StandsTo depths sent noted role era number next
-  acts-stand noted role era number table next acting more st = record {
+      → StandsTo depths sent is_marked role era number table → StandsTo depths sent is_marked role era number next
+  acts-stand is_marked role era number table next acting more st = record {
     acts = λ e unmarked. goes-on depths sent era number table next more (st.acts e unmarked);
     watches = λ e. absurd (acting-gets-none role acting e);
   }
 
   -- it applied one of the checkpoints
-  applied-stands : (noted : Bool) (era : ℕ) (message : ImageMessage) (table : ReceiveBlock)
+  applied-stands : (is_marked : Bool) (era : ℕ) (message : ImageMessage) (table : ReceiveBlock)
       → IsAmong message sent → message.era ≡ era → message.image.receive ≡ table
-      → StandsTo depths sent noted Watching era message.number table
-  applied-stands noted era message table among of same = record {
+      → StandsTo depths sent is_marked Watching era message.number table
+  applied-stands is_marked era message table among of same = record {
     acts = λ e. absurd cc;
     watches = λ e. inr (message, among, of, refl, same);
   }
 
   -- the other one sent one more
-  more-stands : (noted : Bool) (role : Role) (era number : ℕ) (table : ReceiveBlock) (message : ImageMessage)
+  more-stands : (is_marked : Bool) (role : Role) (era number : ℕ) (table : ReceiveBlock) (message : ImageMessage)
       → (role ≡ Acting → ⊥)
-      → StandsTo depths sent noted role era number table → StandsTo depths (message ∷ sent) noted role era number table
-  more-stands noted role era number table message other st = record {
+      → StandsTo depths sent is_marked role era number table
+      → StandsTo depths (message ∷ sent) is_marked role era number table
+  more-stands is_marked role era number table message other st = record {
     acts = λ acting unmarked. absurd (other acting);
     watches = λ watching. elim (st.watches watching) [
       | inl none ↦ inl none
@@ -107,10 +108,10 @@ module _ (depths : List ℕ) (sent : List ImageMessage) where
   }
 
   -- it sent one more itself
-  sent-stands : (noted : Bool) (role : Role) (era number : ℕ) (table : ReceiveBlock) (message : ImageMessage)
+  sent-stands : (is_marked : Bool) (role : Role) (era number : ℕ) (table : ReceiveBlock) (message : ImageMessage)
       → role ≡ Acting → era ≡ message.era → number ≡ message.number → message.image.receive ≡ table
-      → StandsTo depths (message ∷ sent) noted role era number table
-  sent-stands noted role era number table message acting of count same = record {
+      → StandsTo depths (message ∷ sent) is_marked role era number table
+  sent-stands is_marked role era number table message acting of count same = record {
     acts = λ e unmarked.
         inl (of, count, subst (λ (t : ReceiveBlock). ComesTo depths message.image.receive t) same Same);
     watches = λ e. absurd (acting-gets-none role acting e);
@@ -317,26 +318,26 @@ module _ (site : Site) (number : ℕ) (downs : List Down) (pair : Pair)
   abbrev marked : ℕ → ℕ → List Down
   marked node processor = record { node = node; down = processor } ∷ downs
 
-  less : (node processor a b : ℕ) → has_noted (marked node processor) a b ≡ false → has_noted downs a b ≡ false
-  less node processor a b = right-none (node == a && processor == b) (has_noted downs a b)
+  less : (node processor a b : ℕ) → has_marked (marked node processor) a b ≡ false → has_marked downs a b ≡ false
+  less node processor a b = right-none (node == a && processor == b) (has_marked downs a b)
 
   -- after the mark all stand as before
   marked-first : (node processor : ℕ) → StandsTo depths pair.checkpoints
-      (has_noted (marked node processor) pair.first.processor pair.second.processor) pair.first.role pair.first.era
+      (has_marked (marked node processor) pair.first.processor pair.second.processor) pair.first.role pair.first.era
       pair.first.number pair.first.core.receive
   marked-first node processor =
-      noted-less depths pair.checkpoints _ _ _ _ _ _
+      marked-less depths pair.checkpoints _ _ _ _ _ _
       (λ acting. less node processor pair.first.processor pair.second.processor) ok.1.0
 
   marked-second : (node processor : ℕ) → StandsTo depths pair.checkpoints
-      (has_noted (marked node processor) pair.second.processor pair.first.processor) pair.second.role pair.second.era
+      (has_marked (marked node processor) pair.second.processor pair.first.processor) pair.second.role pair.second.era
       pair.second.number pair.second.core.receive
   marked-second node processor =
-      noted-less depths pair.checkpoints _ _ _ _ _ _
+      marked-less depths pair.checkpoints _ _ _ _ _ _
       (λ acting. less node processor pair.second.processor pair.first.processor) ok.1.1
 
-  now-noted : (node processor a b : ℕ) → a ≡ node → b ≡ processor → has_noted (marked node processor) a b ≡ true
-  now-noted node processor a b here lost = rw (eq-eqb node a (sym here), eq-eqb processor b (sym lost)) refl
+  now-marked : (node processor a b : ℕ) → a ≡ node → b ≡ processor → has_marked (marked node processor) a b ≡ true
+  now-marked node processor a b here lost = rw (eq-eqb node a (sym here), eq-eqb processor b (sym lost)) refl
 
   mark-chained : (node processor : ℕ) (k : Option Which) → taker node processor pair ≡ k
       → IsChained depths (marked node processor) (renewals_ended node processor (pair_after_down k pair))
@@ -346,7 +347,7 @@ module _ (site : Site) (number : ℕ) (downs : List Down) (pair : Pair)
         ok.0,
         (
           taken-stands depths pair.checkpoints _ _ pair.first.core.receive
-              (now-noted node processor pair.first.processor pair.second.processor takes.there takes.lost),
+              (now-marked node processor pair.first.processor pair.second.processor takes.there takes.lost),
           marked-second node processor,
         ),
       )
@@ -356,7 +357,7 @@ module _ (site : Site) (number : ℕ) (downs : List Down) (pair : Pair)
         (
           marked-first node processor,
           taken-stands depths pair.checkpoints _ _ pair.second.core.receive
-              (now-noted node processor pair.second.processor pair.first.processor takes.there takes.lost),
+              (now-marked node processor pair.second.processor pair.first.processor takes.there takes.lost),
         ),
       )
 
@@ -365,33 +366,33 @@ module _ (site : Site) (number : ℕ) (downs : List Down) (pair : Pair)
   -- where a processor x is loaded again: at most one has stopped, so only x was marked; and each message is of no later
   -- era than a copy that acts
   module _ (x : ℕ) (core : Core) (after : List Down)
-      (only : (node down : ℕ) → has_noted downs node down ≡ true → down ≡ x)
+      (only : (node down : ℕ) → has_marked downs node down ≡ true → down ≡ x)
       (dated : (k : Which) → (copy_of k pair).role ≡ Acting → (message : ImageMessage)
       → IsAmong message pair.checkpoints → message.era ≤ (copy_of k pair).era) where
-    elsewhere : (node down : ℕ) → (down == x) ≡ false → has_noted downs node down ≡ false
-    elsewhere node down other = by (has_noted downs node down) refl
+    elsewhere : (node down : ℕ) → (down == x) ≡ false → has_marked downs node down ≡ false
+    elsewhere node down other = by (has_marked downs node down) refl
       where
-        by : (b : Bool) → has_noted downs node down ≡ b → b ≡ false
+        by : (b : Bool) → has_marked downs node down ≡ b → b ≡ false
         by true is = absurd (let same = eq-eqb down x (only node down is) in cc)
         by false is = refl
 
     -- a copy whose other one isn't in x stands as before
     still-stands : (k : Which) → ((copy_of (other_of k) pair).processor == x) ≡ false
         → StandsTo depths pair.checkpoints
-        (has_noted downs (copy_of k pair).processor (copy_of (other_of k) pair).processor)
+        (has_marked downs (copy_of k pair).processor (copy_of (other_of k) pair).processor)
         (copy_of k pair).role (copy_of k pair).era (copy_of k pair).number (copy_of k pair).core.receive
         → StandsTo depths pair.checkpoints
-        (has_noted after (copy_of k pair).processor (copy_of (other_of k) pair).processor)
+        (has_marked after (copy_of k pair).processor (copy_of (other_of k) pair).processor)
         (copy_of k pair).role (copy_of k pair).era (copy_of k pair).number (copy_of k pair).core.receive
     still-stands k other st =
-        noted-less depths pair.checkpoints _ _ _ _ _ _
+        marked-less depths pair.checkpoints _ _ _ _ _ _
         (λ acting unmarked. elsewhere (copy_of k pair).processor (copy_of (other_of k) pair).processor other) st
 
     -- one that has to send everything begins an era
-    renewed-stands : (k : Which) (noted : Bool) → (copy_of k pair).role ≡ Acting
-        → StandsTo depths pair.checkpoints noted (copy_of k pair).role ((copy_of k pair).era + 1) 0
+    renewed-stands : (k : Which) (is_marked : Bool) → (copy_of k pair).role ≡ Acting
+        → StandsTo depths pair.checkpoints is_marked (copy_of k pair).role ((copy_of k pair).era + 1) 0
         (copy_of k pair).core.receive
-    renewed-stands k noted acting = record {
+    renewed-stands k is_marked acting = record {
       acts = λ e unmarked. later-goes-on depths pair.checkpoints ((copy_of k pair).era + 1)
           (copy_of k pair).core.receive
           (λ message among. (let most = dated k acting message among in omega (arith, most)));
@@ -462,11 +463,11 @@ module _ (site : Site) (placed : IsPlaced site) (w : World) (reached : IsReached
       map-all (Of (record { node = node; down = processor } ∷ w.downs)) (pair_at_down node processor) w.processes
       (λ number pair there. mark-chained site number w.downs pair (all number pair there) (one-of number pair there)
       (stands-of number pair there) node processor (taker node processor pair) refl)
-  chained-after next cause sendings (by_reload {times = times} x down noted times_is few) =
+  chained-after next cause sendings (by_reload {times = times} x down is_marked times_is few) =
       let kept = run-kept placed reached.1 in
       reload-all (λ number pair. IsChained (depths_of site number) (without_downs x w.downs) pair) site x w.processes
       (λ number pair there.
-      (let both = survives site placed w kept x (record { down = down; all = noted }) number pair there in
+      (let both = survives site placed w kept x (record { down = down; all = is_marked }) number pair there in
       reload-chained site number w.downs pair (all number pair there) (one-of number pair there)
       (stands-of number pair there) x (new_core site number (slice_get site.processes number) pair.first.core)
       (without_downs x w.downs)

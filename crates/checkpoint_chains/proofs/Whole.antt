@@ -51,7 +51,7 @@ module _ (site : Site) (number : ℕ) (pair : Pair) (records : Records) (before 
     (of : message.era ≡ before.era) (next : message.number ≡ before.number + 1)
     (fit : Fits (depths_of site number) before.image.receive)
     (fits_too : Fits (depths_of site number) message.image.receive) (k : Which)
-    (stands : (noted : Bool) × StandsTo (depths_of site number) pair.checkpoints noted (copy_of k pair).role
+    (stands : (is_marked : Bool) × StandsTo (depths_of site number) pair.checkpoints is_marked (copy_of k pair).role
     (copy_of k pair).era (copy_of k pair).number (copy_of k pair).core.receive) where
   abbrev copy : Copy
   copy = copy_of k pair
@@ -137,7 +137,7 @@ module _ (site : Site) (number : ℕ) (pair : Pair) (records : Records) (before 
 -- At a node
 
 copies-stand : (each : List ℕ) (downs : List Down) (pair : Pair) → IsChained each downs pair → (k : Which)
-    → (noted : Bool) × StandsTo each pair.checkpoints noted (copy_of k pair).role (copy_of k pair).era
+    → (is_marked : Bool) × StandsTo each pair.checkpoints is_marked (copy_of k pair).role (copy_of k pair).era
     (copy_of k pair).number (copy_of k pair).core.receive
 copies-stand each downs pair chained First = (_, chained.1.0)
 copies-stand each downs pair chained Second = (_, chained.1.1)

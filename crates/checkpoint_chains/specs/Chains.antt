@@ -9,7 +9,7 @@ use Rattle.checkpoint_image.specs.declared.receive.ReceiveBlock.{ReceiveBlock}
 use Rattle.letter_laws.specs.computed_changes.specs.Fitting.{depths_of}
 use Rattle.world_semantics.specs.declared.role.Role.{Role}
 use Rattle.world_semantics.specs.declared.role.Role.TheVariants.{Acting}
-use Rattle.world_semantics.specs.World.{Copy, Down, Pair, World, has_noted, receives}
+use Rattle.world_semantics.specs.World.{Copy, Down, Pair, World, has_marked, receives}
 
 -- a checkpoint is the next one to another of its process and its era
 pub record IsNextTo (before message : ImageMessage) : Type 0 where
@@ -48,14 +48,14 @@ IsOfOne sent era number table =
 -- a copy of this role, era, number and table, whose node has marked the other copy's processor or not, stands to the
 -- checkpoints that were sent: where it acts and may send, it goes on from the newest one; and where it watches or is
 -- blank, and has applied one in its era, it has the table of that
-pub record StandsTo (depths : List ℕ) (sent : List ImageMessage) (noted : Bool) (role : Role) (era number : ℕ)
+pub record StandsTo (depths : List ℕ) (sent : List ImageMessage) (is_marked : Bool) (role : Role) (era number : ℕ)
     (table : ReceiveBlock) : Type 0 where
-  pub acts : role ≡ Acting → noted ≡ false → GoesOnFrom depths sent era number table
+  pub acts : role ≡ Acting → is_marked ≡ false → GoesOnFrom depths sent era number table
   pub watches : receives role ≡ true → (number ≡ 0) ⊎ IsOfOne sent era number table
 
 abbrev pub CopyStandsTo : List ℕ → List ImageMessage → List Down → Copy → Copy → Type 0
 CopyStandsTo depths sent downs copy other =
-    StandsTo depths sent (has_noted downs copy.processor other.processor) copy.role copy.era copy.number
+    StandsTo depths sent (has_marked downs copy.processor other.processor) copy.role copy.era copy.number
     copy.core.receive
 
 -- the checkpoints of a process are a chain, and both copies stand to them

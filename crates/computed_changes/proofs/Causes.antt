@@ -4,7 +4,7 @@ use Rattle.tal_tree.specs.declared.act.Act.{Act}
 use Rattle.tal_tree.specs.declared.site.Site.{Site}
 use Rattle.world_semantics.specs.Core.{Core, Deed}
 use Rattle.world_semantics.specs.World.{Pair, Down}
-use Rattle.world_semantics.specs.Messages.{Message, Sending, Cause, Running, Entering, Handing, Stopping, NotingDown}
+use Rattle.world_semantics.specs.Messages.{Message, Sending, Cause, Running, Entering, Handing, Stopping, MarkingDown}
 use Rattle.world_semantics.specs.Messages.{Reloading}
 use Rattle.world_semantics.specs.Own.{Around, Causes, by_inner, by_take, by_ask, by_answer, by_device, by_write}
 use Rattle.world_semantics.specs.Own.{by_reply}
@@ -16,7 +16,7 @@ IsOfCopies (Running number) = Unit {0}
 IsOfCopies (Handing node message) = Unit {0}
 IsOfCopies (Entering terminal) = ⊥
 IsOfCopies (Stopping processor) = ⊥
-IsOfCopies (NotingDown node processor) = ⊥
+IsOfCopies (MarkingDown node processor) = ⊥
 IsOfCopies (Reloading processor) = ⊥
 
 pub own-causes : {site : Site} {number node : ℕ} {core : Core} {before after : Around} {cause : Cause} {deed : Deed}

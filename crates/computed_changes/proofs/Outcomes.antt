@@ -4,7 +4,7 @@ use Rattle.std.proofs.Common.{sym, ap, subst, ◌∙◌}
 use Rattle.tal_tree.specs.declared.site.Site.{Site}
 use Rattle.schedule.specs.declared.event.Event.{Event}
 use Rattle.schedule.specs.declared.event.Event.TheVariants.{Enter, Deliver, Fail, Reload}
-use Rattle.world_semantics.specs.World.{World, is_noted_by_all, is_whole}
+use Rattle.world_semantics.specs.World.{World, is_marked_by_all, is_whole}
 use Rattle.world_semantics.specs.Messages.{Message, Sending, Cause, Entering, Handing, Stopping, Reloading}
 use Rattle.world_semantics.specs.Rules.{Change, by_stop, most_reloads}
 use Rattle.world_semantics.specs.Follows.{Follows, enters, cannot_enter, delivers_none, delivers, delivers_mark, fails}
@@ -121,7 +121,7 @@ reload-silent site w processor = by-stopped (slice_get w.stopped processor)
 
     by-times : (times : Option ℕ) → sendings_of (reload_counted site processor w times) ≡ []
     by-times None = refl
-    by-times (Some times) = by-may times (is_noted_by_all w processor && nat_lt times most_reloads)
+    by-times (Some times) = by-may times (is_marked_by_all w processor && nat_lt times most_reloads)
 
     by-stopped : (stopped : Option Bool) → sendings_of (reload_where site processor w stopped) ≡ []
     by-stopped (Some true) = by-times (slice_get w.reloads processor)

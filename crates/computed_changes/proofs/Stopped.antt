@@ -4,15 +4,15 @@ use Rattle.std.proofs.Common.{refl, ap, subst, ◌∙◌}
 use Rattle.std.specs.Cmp.Derive.{both_true}
 use Rattle.std.proofs.lemmas.Bool.{lt-ltb, ltb-true}
 use Rattle.tal_tree.specs.declared.site.Site.{Site}
-use Rattle.world_semantics.specs.World.{World, is_running, is_noted_by_all, is_whole}
-use Rattle.world_semantics.specs.Messages.{Sending, Cause, Stopping, NotingDown, Reloading}
+use Rattle.world_semantics.specs.World.{World, is_running, is_marked_by_all, is_whole}
+use Rattle.world_semantics.specs.Messages.{Sending, Cause, Stopping, MarkingDown, Reloading}
 use Rattle.world_semantics.specs.Rules.{Change, by_own, by_checkpoint, by_request, by_early_request, by_enter, by_print}
 use Rattle.world_semantics.specs.Rules.{by_stop, by_mark, by_reload, most_reloads}
 use Rattle.world_semantics.specs.Running.{Done}
 use Rattle.world_semantics.proofs.Lists.{some-same}
-use Rattle.world_semantics.proofs.Moves.{noted-by-all, by-all-noted}
+use Rattle.world_semantics.proofs.Moves.{marked-by-all, by-all-marked}
 use Rattle.world_semantics.proofs.Roles.{both-true}
-use Rattle.computed_changes.specs.Stopped.{stop_if, stop_where, stop_done, may_note, marked_where, mark_where}
+use Rattle.computed_changes.specs.Stopped.{stop_if, stop_where, stop_done, may_mark, marked_where, mark_where}
 use Rattle.computed_changes.specs.Stopped.{down_done}
 use Rattle.computed_changes.specs.Stopped.{reload_if, reload_counted, reload_where, reload_done}
 use Rattle.computed_changes.proofs.Causes.{IsOfCopies, own-causes, passes-causes}
@@ -69,33 +69,33 @@ not-true true e = absurd (cc)
 not-true false e = refl
 
 marked-may : (site : Site) (node processor : ℕ) (w : World) → slice_get w.stopped processor ≡ Some true → (may : Bool)
-    → may_note node processor w ≡ may
+    → may_mark node processor w ≡ may
     → (done : Done) → marked_where node processor w may ≡ Some done
-    → Change site w (NotingDown node processor) done.sendings done.world
+    → Change site w (MarkingDown node processor) done.sendings done.world
 marked-may site node processor w s true m done e =
     let b = both-true (is_running w.stopped node) _ m in
-    subst (λ (d : Done). Change site w (NotingDown node processor) d.sendings d.world) (some-same e)
+    subst (λ (d : Done). Change site w (MarkingDown node processor) d.sendings d.world) (some-same e)
     (by_mark node processor s b.0 (not-true _ b.1))
 marked-may site node processor w s false m done e = absurd (cc)
 
 where-downs : (site : Site) (node processor : ℕ) (w : World) (stopped : Option Bool)
     → slice_get w.stopped processor ≡ stopped → (done : Done)
     → mark_where node processor w stopped ≡ Some done
-    → Change site w (NotingDown node processor) done.sendings done.world
+    → Change site w (MarkingDown node processor) done.sendings done.world
 where-downs site node processor w (Some true) s done e = marked-may site node processor w s _ refl done e
 where-downs site node processor w (Some false) s done e = absurd (cc)
 where-downs site node processor w None s done e = absurd (cc)
 
 pub mark-may : (site : Site) (node processor : ℕ) (w : World) (done : Done) → down_done node processor w ≡ Some done
-    → Change site w (NotingDown node processor) done.sendings done.world
+    → Change site w (MarkingDown node processor) done.sendings done.world
 mark-may site node processor w done e = where-downs site node processor w (slice_get w.stopped processor) refl done e
 
-same-mark : {node one processor other : ℕ} → NotingDown node processor ≡ NotingDown one other
+same-mark : {node one processor other : ℕ} → MarkingDown node processor ≡ MarkingDown one other
     → (node ≡ one) × (processor ≡ other)
 same-mark e = (cc, cc)
 
 change-downs : {site : Site} (node processor : ℕ) (w next : World) (cause : Cause) (sendings : List Sending)
-    → cause ≡ NotingDown node processor
+    → cause ≡ MarkingDown node processor
     → Change site w cause sendings next → down_done node processor w
     ≡ Some (record { world = next; sendings = sendings })
 change-downs node processor w next cause sendings r (by_own one k pair there role c a e fr) =
@@ -114,7 +114,7 @@ change-downs node processor w next cause sendings r (by_mark m x s run new) =
 change-downs node processor w next cause sendings r (by_reload x s m t l) = absurd (cc)
 
 pub mark-only : {site : Site} (node processor : ℕ) (w next : World) (sendings : List Sending)
-    → Change site w (NotingDown node processor) sendings next
+    → Change site w (MarkingDown node processor) sendings next
     → down_done node processor w ≡ Some (record { world = next; sendings = sendings })
 mark-only node processor w next sendings c = change-downs node processor w next _ sendings refl c
 
@@ -125,13 +125,13 @@ less-times times e = ltb-true times most_reloads e
 
 if-reloads : (site : Site) (processor times : ℕ) (w : World) → slice_get w.stopped processor ≡ Some true
     → slice_get w.reloads processor ≡ Some times → (may : Bool)
-    → (is_noted_by_all w processor && nat_lt times most_reloads) ≡ may → (done : Done)
+    → (is_marked_by_all w processor && nat_lt times most_reloads) ≡ may → (done : Done)
     → reload_if site processor times w may ≡ Some done
     → Change site w (Reloading processor) done.sendings done.world
 if-reloads site processor times w s t true m done e =
-    let b = both-true (is_noted_by_all w processor) _ m in
+    let b = both-true (is_marked_by_all w processor) _ m in
     subst (λ (d : Done). Change site w (Reloading processor) d.sendings d.world) (some-same e)
-    (by_reload processor s (noted-by-all w processor b.0) t (less-times times b.1))
+    (by_reload processor s (marked-by-all w processor b.0) t (less-times times b.1))
 if-reloads site processor times w s t false m done e = absurd (cc)
 
 counted-reloads : (site : Site) (processor : ℕ) (w : World) → slice_get w.stopped processor ≡ Some true
@@ -182,7 +182,7 @@ change-reloads processor w next cause sendings r (by_print one terminal reply t 
 change-reloads processor w next cause sendings r (by_stop x s h) = absurd (cc)
 change-reloads processor w next cause sendings r (by_mark m x s run new) = absurd (cc)
 change-reloads {site = site} processor w next cause sendings r (by_reload {times = times} x s m t l) =
-    let all = by-all-noted w x m in
+    let all = by-all-marked w x m in
     let less : nat_lt times most_reloads ≡ true = lt-ltb times most_reloads l in
     subst (λ y. reload_done site y w ≡ Some (record { world = next; sendings = sendings })) (same-reload r)
     (ap (reload_where site x w) s ∙ ap (reload_counted site x w) t

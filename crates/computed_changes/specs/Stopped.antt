@@ -3,7 +3,7 @@ use Rattle.std.specs.Prelude.{ℕ, ◌+◌, ◌&&◌, nat_lt, Bool, true, false,
 use Rattle.std.specs.Prelude.{Some, None}
 use Rattle.std.specs.List.{flat_map}
 use Rattle.tal_tree.specs.declared.site.Site.{Site}
-use Rattle.world_semantics.specs.World.{World, is_running, has_noted, is_noted_by_all, is_whole}
+use Rattle.world_semantics.specs.World.{World, is_running, has_marked, is_marked_by_all, is_whole}
 use Rattle.world_semantics.specs.Rules.{stopped_pair, pair_at_down, told_at_down, most_reloads, reloaded_from}
 use Rattle.world_semantics.specs.Rules.{without_downs}
 use Rattle.world_semantics.specs.Running.{Done}
@@ -37,15 +37,15 @@ world_at_down node processor w = record {
 }
 
 -- whether a node may mark a processor that has stopped: the node runs, and hasn't marked it
-abbrev pub may_note : ℕ → ℕ → World → Bool
-may_note node processor w = is_running w.stopped node && not (has_noted w.downs node processor)
+abbrev pub may_mark : ℕ → ℕ → World → Bool
+may_mark node processor w = is_running w.stopped node && not (has_marked w.downs node processor)
 
 abbrev pub marked_where : ℕ → ℕ → World → Bool → Option Done
 marked_where node processor w true = Some (world_at_down node processor w)
 marked_where node processor w false = None
 
 abbrev pub mark_where : ℕ → ℕ → World → Option Bool → Option Done
-mark_where node processor w (Some true) = marked_where node processor w (may_note node processor w)
+mark_where node processor w (Some true) = marked_where node processor w (may_mark node processor w)
 mark_where node processor w (Some false) = None
 mark_where node processor w None = None
 
@@ -70,7 +70,7 @@ reload_if site processor times w false = None
 abbrev pub reload_counted : Site → ℕ → World → Option ℕ → Option Done
 reload_counted site processor w None = None
 reload_counted site processor w (Some times) =
-    reload_if site processor times w (is_noted_by_all w processor && nat_lt times most_reloads)
+    reload_if site processor times w (is_marked_by_all w processor && nat_lt times most_reloads)
 
 abbrev pub reload_where : Site → ℕ → World → Option Bool → Option Done
 reload_where site processor w (Some true) = reload_counted site processor w (slice_get w.reloads processor)

@@ -15,8 +15,8 @@ ghost use Rattle.world_semantics.specs.declared.role.Role.TheVariants.{Acting, W
 ghost use Rattle.world_semantics.specs.Core.{Core, next_on};
 ghost use Rattle.world_semantics.specs.declared.which.Which.{Which};
 ghost use Rattle.world_semantics.specs.declared.which.Which.TheVariants.{First, Second};
-ghost use Rattle.world_semantics.specs.World.{Pair, World, copy_of, terminal_node, is_running, has_noted};
-ghost use Rattle.world_semantics.specs.World.{is_noted_by_all, is_whole, Terminal as AtTerminal};
+ghost use Rattle.world_semantics.specs.World.{Pair, World, copy_of, terminal_node, is_running, has_marked};
+ghost use Rattle.world_semantics.specs.World.{is_marked_by_all, is_whole, Terminal as AtTerminal};
 ghost use Rattle.world_semantics.specs.Messages.{Asking, Replying, Checkpointing, Taking};
 ghost use Rattle.world_semantics.specs.Running.{Done, sendings_of};
 ghost use Rattle.change_layout.specs.declared.message.ChangeMessage.{ChangeMessage};
@@ -181,7 +181,7 @@ pub fn a_processor_stops_once()
 pub fn only_what_all_have_marked_is_loaded_again()
     ensures running { (site : Site) (w : World) (processor : ℕ) → slice_get w.stopped processor ≡ Some false
         → reload_done site processor w ≡ None }
-    ensures unmarked { (site : Site) (w : World) (processor : ℕ) → is_noted_by_all w processor ≡ false
+    ensures unmarked { (site : Site) (w : World) (processor : ℕ) → is_marked_by_all w processor ≡ false
         → reload_done site processor w ≡ None }
     ensures often { (site : Site) (w : World) (processor : ℕ) → slice_get w.reloads processor ≡ Some 127
         → reload_done site processor w ≡ None }
@@ -193,7 +193,7 @@ pub fn only_what_stopped_is_marked()
         → down_done node processor w ≡ None }
     ensures node { (w : World) (node processor : ℕ) → is_running w.stopped node ≡ false
         → down_done node processor w ≡ None }
-    ensures again { (w : World) (node processor : ℕ) → has_noted w.downs node processor ≡ true
+    ensures again { (w : World) (node processor : ℕ) → has_marked w.downs node processor ≡ true
         → down_done node processor w ≡ None }
 {}
 

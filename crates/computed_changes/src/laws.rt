@@ -9,7 +9,7 @@ ghost use Rattle.world_semantics.specs.checkpoint_image.specs.declared.message.F
 ghost use Rattle.world_semantics.specs.checkpoint_image.specs.declared.message.ImageMessage.{ImageMessage};
 ghost use Rattle.world_semantics.specs.declared.which.Which.{Which};
 ghost use Rattle.world_semantics.specs.World.{Pair, World, copy_of, is_whole};
-ghost use Rattle.world_semantics.specs.Messages.{Message, Sending, Entering, Handing, Stopping, NotingDown};
+ghost use Rattle.world_semantics.specs.Messages.{Message, Sending, Entering, Handing, Stopping, MarkingDown};
 ghost use Rattle.world_semantics.specs.Messages.{Reloading};
 ghost use Rattle.world_semantics.specs.Rules.{Change};
 ghost use Rattle.world_semantics.specs.Follows.{Follows, IsIdleFor, IsRun};
@@ -110,12 +110,12 @@ pub fn a_reload_is_computed()
 /// A mark makes the change that is computed, no other, and none where none is.
 pub fn a_mark_is_computed()
     ensures made { (site : Site) (w : World) (node processor : ℕ) (done : Done) → down_done node processor w ≡ Some done
-        → Change site w (NotingDown node processor) done.sendings done.world }
+        → Change site w (MarkingDown node processor) done.sendings done.world }
     ensures only { (site : Site) (w next : World) (node processor : ℕ) (sendings : List Sending)
-        → Change site w (NotingDown node processor) sendings next
+        → Change site w (MarkingDown node processor) sendings next
         → down_done node processor w ≡ Some (record { world = next; sendings = sendings }) }
     ensures none { (site : Site) (w : World) (node processor : ℕ) → down_done node processor w ≡ None
-        → IsIdleFor site w (NotingDown node processor) }
+        → IsIdleFor site w (MarkingDown node processor) }
     ensures follows { (site : Site) (w : World) (y : Bool) (k node processor : ℕ)
         → Follows site w (Deliver y k) (sendings_of (down_done node processor w))
         (world_after w (down_done node processor w)) }

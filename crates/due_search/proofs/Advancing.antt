@@ -12,13 +12,14 @@ use Rattle.flow_paths.specs.Graph.{Node, IsWithin}
 use Rattle.reason_dues.specs.Amounts.{after_entry}
 use Rattle.due_search.specs.declared.queue.Visit.{Visit}
 use Rattle.due_search.specs.declared.search.Aim.{Aim}
-use Rattle.due_search.specs.Search.{HasRoom, ComesBy, visit_after, ComesByEach, IsMarked, IsSearched, EndsAt, ends_with}
-use Rattle.due_search.proofs.Marks.{few-visits}
+use Rattle.due_search.specs.Search.{HasRoom, ComesBy, visit_after, ComesByEach, IsSeenOnce, IsSearched, EndsAt}
+use Rattle.due_search.specs.Search.{ends_with}
+use Rattle.due_search.proofs.Seen.{few-visits}
 use Rattle.due_search.proofs.Advanced.{advanced}
 
 module _ (nodes : List Node) (aim : Aim) (seen : List Bool) (queue : List Visit) (head : ℕ) (visit : Visit)
     (node : Node)
-    (small : length nodes ≤ 8192) (searched : IsSearched nodes aim queue head) (marked : IsMarked seen queue)
+    (small : length nodes ≤ 8192) (searched : IsSearched nodes aim queue head) (once : IsSeenOnce seen queue)
     (room : length seen ≡ length nodes * 5) (inside : head < length queue) (read : visit ≡ get_or queue head visit)
     (at_node : slice_get nodes visit.node ≡ Some node)
     (within : IsWithin (length nodes) node) where
@@ -26,10 +27,10 @@ module _ (nodes : List Node) (aim : Aim) (seen : List Bool) (queue : List Visit)
   got-visit = slice_get_read queue (length queue) head visit refl inside read
 
   pub due-few : visit.due ≤ 4
-  due-few = marked.small head visit got-visit
+  due-few = once.small head visit got-visit
 
   pub head-few : head < 65535
-  head-few = let visits : length queue ≤ length seen = few-visits seen queue marked in omega arith
+  head-few = let visits : length queue ≤ length seen = few-visits seen queue once in omega arith
 
   pub steps-few : visit.steps < 65535
   steps-few = let low : visit.steps ≤ head =
@@ -43,9 +44,9 @@ module _ (nodes : List Node) (aim : Aim) (seen : List Bool) (queue : List Visit)
   pub first-room : (edge : Edge) → edge ≡ node.first → HasRoom edge.goal (length seen)
   first-room edge is = room-by edge.goal (λ j goal. within.goals edge (inl is) j goal)
 
-  pub second-room : (edge : Edge) → Some edge ≡ node.second → (marks : ℕ) → marks ≡ length seen
-      → HasRoom edge.goal marks
-  second-room edge is marks same = subst (HasRoom edge.goal) (sym same)
+  pub second-room : (edge : Edge) → Some edge ≡ node.second → (count : ℕ) → count ≡ length seen
+      → HasRoom edge.goal count
+  second-room edge is count same = subst (HasRoom edge.goal) (sym same)
       (room-by edge.goal (λ j goal. within.goals edge
       (inr (subst (λ (o : Option Edge). IsAmong edge (option_to_list o)) is (inl refl))) j goal))
 

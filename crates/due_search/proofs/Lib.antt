@@ -1,7 +1,7 @@
 pub mod Advanced
 pub mod Advancing
-pub mod Marks
 pub mod Numbering
 pub mod Paths
+pub mod Seen
 pub mod Trails
 pub mod Ways

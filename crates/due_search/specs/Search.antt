@@ -77,28 +77,28 @@ ComesByEach old new reason most after place visit None = new ≡ old
 ComesByEach old new reason most after place visit (Some edge) =
     ComesBy old new edge.goal (visit_after reason most after edge.targets place visit)
 
--- the place of a visit in the marks
-abbrev pub mark_of : Visit → ℕ
-mark_of visit = visit.node * 5 + visit.due
+-- the place of a visit in what is seen
+abbrev pub place_in_seen : Visit → ℕ
+place_in_seen visit = visit.node * 5 + visit.due
 
--- exactly what stands in the queue is marked, once
-pub record IsMarked (seen : List Bool) (queue : List Visit) : Type 0 where
-  pub count : length queue ≡ count_by (λ mark. mark) seen
+-- exactly what stands in the queue is seen, once
+pub record IsSeenOnce (seen : List Bool) (queue : List Visit) : Type 0 where
+  pub count : length queue ≡ count_by (λ is. is) seen
   pub small : (place : ℕ) (visit : Visit) → slice_get queue place ≡ Some visit → visit.due ≤ MOST_DEPTH
-  pub inside : (place : ℕ) (visit : Visit) → slice_get queue place ≡ Some visit → mark_of visit < length seen
-  pub there : (mark : ℕ) → slice_get seen mark ≡ Some true
-      → (place : ℕ) × (visit : Visit) × (slice_get queue place ≡ Some visit) × (mark ≡ mark_of visit)
+  pub inside : (place : ℕ) (visit : Visit) → slice_get queue place ≡ Some visit → place_in_seen visit < length seen
+  pub there : (k : ℕ) → slice_get seen k ≡ Some true
+      → (place : ℕ) × (visit : Visit) × (slice_get queue place ≡ Some visit) × (k ≡ place_in_seen visit)
 
--- what is still marked stands in the queue at this place or later
-abbrev pub IsMarkedFrom : List Bool → List Visit → ℕ → Type 0
-IsMarkedFrom seen queue from = (mark : ℕ) → slice_get seen mark ≡ Some true
-    → (place : ℕ) × (visit : Visit) × (from ≤ place) × (slice_get queue place ≡ Some visit) × (mark ≡ mark_of visit)
+-- what still counts as seen stands in the queue at this place or later
+abbrev pub IsSeenFrom : List Bool → List Visit → ℕ → Type 0
+IsSeenFrom seen queue from = (k : ℕ) → slice_get seen k ≡ Some true
+    → (place : ℕ) × (visit : Visit) × (from ≤ place) × (slice_get queue place ≡ Some visit) × (k ≡ place_in_seen visit)
 
--- a node to which a goal leads has room in so many marks
+-- a node to which a goal leads has room in a list of so many
 abbrev pub HasRoom : Goal → ℕ → Type 0
-HasRoom (At k) marks = k * 5 + 4 < marks
-HasRoom Left marks = Unit {0}
-HasRoom Ended marks = Unit {0}
+HasRoom (At k) count = k * 5 + 4 < count
+HasRoom Left count = Unit {0}
+HasRoom Ended count = Unit {0}
 
 -- whether a search ends at an entry where so much is due: if it is to end where the reason breaks, with as much as it
 -- counts
@@ -113,9 +113,9 @@ pub record IsTrail (nodes : List Node) (queue : List Visit) : Type 0 where
   pub numbers : (place : ℕ) (visit : Visit) (node : Node) → slice_get queue place ≡ Some visit
       → slice_get nodes visit.node ≡ Some node → entry_number node.entry ≤ MOST_STATEMENTS
 
--- nothing is marked
+-- nothing is seen
 abbrev pub IsClear : List Bool → Type 0
-IsClear seen = (mark : ℕ) → slice_get seen mark ≡ Some true → ⊥
+IsClear seen = (k : ℕ) → slice_get seen k ≡ Some true → ⊥
 
 module _ (nodes : List Node) (aim : Aim) where
   -- a visit follows another by an edge

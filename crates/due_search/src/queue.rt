@@ -1,5 +1,5 @@
 ghost use Rattle.std.specs.Prelude.{◌≡◌};
-ghost use Rattle.due_search.specs.Search.{first_visit, mark_of};
+ghost use Rattle.due_search.specs.Search.{first_visit, place_in_seen};
 
 /// A node to which a search comes, with how much is due there, cut at the most that is counted: the place in the queue
 /// of the visit from which it comes, and its steps from the start.
@@ -24,9 +24,9 @@ impl Visit {
         }
     }
 
-    /// Its place among the marks: five for each node, one for each amount up to 4.
-    pub(crate) fn mark(&self) -> usize
-        ensures { result ≡ mark_of self.now }
+    /// Its place in what is seen: five for each node, one for each amount up to 4.
+    pub(crate) fn place_in_seen(&self) -> usize
+        ensures { result ≡ place_in_seen self.now }
     {
         usize::from(self.node) * 5 + usize::from(self.due)
     }

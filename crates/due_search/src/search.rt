@@ -3,7 +3,8 @@ ghost use Rattle.flow_paths.specs.process_semantics.specs.Rests.{entry_number};
 ghost use Rattle.flow_paths.specs.process_semantics.specs.SeenEntries.{entry_of};
 ghost use Rattle.due_search.specs.declared.queue.Visit.{Visit};
 ghost use Rattle.due_search.specs.Ends.{AreNumbered, HasFound, HasStopped};
-ghost use Rattle.due_search.specs.Search.{first_visit, mark_of, ends_with, HasRoom, IsMarked, IsClear, Comes, ComesBy};
+ghost use Rattle.due_search.specs.Search.{first_visit, place_in_seen, ends_with, HasRoom, IsSeenOnce, IsClear, Comes};
+ghost use Rattle.due_search.specs.Search.{ComesBy};
 ghost use Rattle.due_search.specs.Search.{visit_after, back, IsTrail, IsSearched, Advances};
 ghost use Rattle.gd_words.specs.declared.limits.TheConstants.{MOST_DEPTH, MOST_STATEMENTS, MOST_WRITTEN_OUT};
 
@@ -97,7 +98,7 @@ impl Search {
         requires clear { IsClear self.old.seen.items }
         requires room { length self.old.seen.items ≡ length flow.now * 5 }
         ensures stopped { IfOk result (λ stopped. HasStopped flow.now aim self.new.queue.items stopped) }
-        ensures marked { IfOk result (λ _. IsMarked self.new.seen.items self.new.queue.items) }
+        ensures once { IfOk result (λ _. IsSeenOnce self.new.seen.items self.new.queue.items) }
         ensures room { length self.new.seen.items ≡ length self.old.seen.items }
     {
         self.queue.clear();
@@ -121,11 +122,11 @@ impl Search {
         requires few { aim.most ≤ MOST_DEPTH }
         requires head { head < length self.old.queue.items }
         requires searched { IsSearched flow.now aim self.old.queue.items head }
-        requires marked { IsMarked self.old.seen.items self.old.queue.items }
+        requires once { IsSeenOnce self.old.seen.items self.old.queue.items }
         requires room { length self.old.seen.items ≡ length flow.now * 5 }
         ensures advances { IfOk result (λ ends.
             Advances flow.now aim self.old.queue.items self.new.queue.items head ends) }
-        ensures marked { IfOk result (λ _. IsMarked self.new.seen.items self.new.queue.items) }
+        ensures once { IfOk result (λ _. IsSeenOnce self.new.seen.items self.new.queue.items) }
         ensures room { length self.new.seen.items ≡ length self.old.seen.items }
     {
         let visit = self.queue[head];
@@ -155,10 +156,10 @@ impl Search {
         requires most { aim.most ≤ MOST_DEPTH }
         requires steps { visit.steps < 65535 }
         requires goal { HasRoom edge.now.goal (length self.old.seen.items) }
-        requires marked { IsMarked self.old.seen.items self.old.queue.items }
+        requires once { IsSeenOnce self.old.seen.items self.old.queue.items }
         ensures comes { OnOk result (ComesBy self.old.queue.items self.new.queue.items edge.now.goal
             (visit_after aim.reason aim.most after edge.now.targets from visit)) }
-        ensures marked { OnOk result (IsMarked self.new.seen.items self.new.queue.items) }
+        ensures once { OnOk result (IsSeenOnce self.new.seen.items self.new.queue.items) }
         ensures room { length self.new.seen.items ≡ length self.old.seen.items }
     {
         match edge.goal {
@@ -180,25 +181,25 @@ impl Search {
 
     /// Puts a visit behind the others, unless one to the same node with as much due has come.
     fn come(&mut self, visit: Visit) -> Result<(), NoMemory>
-        requires room { mark_of visit < length self.old.seen.items }
+        requires room { place_in_seen visit < length self.old.seen.items }
         requires due { visit.due ≤ MOST_DEPTH }
-        requires marked { IsMarked self.old.seen.items self.old.queue.items }
+        requires once { IsSeenOnce self.old.seen.items self.old.queue.items }
         ensures comes { OnOk result (Comes self.old.queue.items self.new.queue.items visit) }
-        ensures marked { OnOk result (IsMarked self.new.seen.items self.new.queue.items) }
+        ensures once { OnOk result (IsSeenOnce self.new.seen.items self.new.queue.items) }
         ensures room { length self.new.seen.items ≡ length self.old.seen.items }
     {
-        let mark = visit.mark();
-        if self.seen[mark] {
+        let place = visit.place_in_seen();
+        if self.seen[place] {
             return Ok(());
         }
-        self.seen[mark] = true;
+        self.seen[place] = true;
         self.queue.push(visit)?;
         Ok(())
     }
 
-    /// Takes all marks back.
+    /// Nothing is seen any more.
     fn clear(&mut self)
-        requires marked { IsMarked self.old.seen.items self.old.queue.items }
+        requires once { IsSeenOnce self.old.seen.items self.old.queue.items }
         ensures clear { IsClear self.new.seen.items }
         ensures visits { self.new.queue.items ≡ self.old.queue.items }
         ensures room { length self.new.seen.items ≡ length self.old.seen.items }
@@ -206,7 +207,7 @@ impl Search {
         let visits = self.queue.as_slice();
         let seen = self.seen.as_mut_slice();
         for visit in visits {
-            seen[visit.mark()] = false;
+            seen[visit.place_in_seen()] = false;
         }
     }
 

@@ -19,7 +19,7 @@ use Rattle.trace_lines.specs.declared.finding.MessageName.{MessageName}
 use Rattle.trace_lines.specs.declared.finding.PacketSight.{PacketSight}
 use Rattle.trace_lines.specs.declared.finding.PacketSort.{PacketSort}
 use Rattle.trace_lines.specs.declared.finding.PacketSort.TheVariants as sort
-use Rattle.world_semantics.specs.World.{has_noted, is_running}
+use Rattle.world_semantics.specs.World.{has_marked, is_running}
 use Rattle.event_findings.specs.Messages.{message_named}
 
 abbrev pub sort_of : PacketKind → PacketSort
@@ -61,7 +61,7 @@ taken_in before = if before then fate.CameAgain else fate.Came
 -- of a processor that it has marked
 abbrev pub taken_fate : Packeted → Packet → Fate
 taken_fate s packet =
-    if has_noted s.world.downs packet.receiver packet.sender then fate.Refused
+    if has_marked s.world.downs packet.receiver packet.sender then fate.Refused
     else taken_in (had_come (sort_of packet.kind) (end_at s.wires.nodes packet.receiver packet.sender))
 
 abbrev pub current_fate : Packeted → Packet → Fate

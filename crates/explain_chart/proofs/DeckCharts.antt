@@ -4,7 +4,7 @@ use Rattle.charted_runs.specs.Charts.{Charts}
 use Rattle.charted_runs.specs.declared.charted.ChartFault.{ChartFault}
 use Rattle.charted_runs.specs.declared.charted.ChartFault.TheVariants as fault
 use Rattle.charted_runs.specs.declared.charted.Charted.{Charted}
-use Rattle.chart_marks.specs.Chart.{drawing_of}
+use Rattle.chart_drawing.specs.Chart.{drawing_of}
 use Rattle.explain_why.specs.deck_reader.specs.declared.deck.Deck.{Deck}
 use Rattle.explain_chart.specs.DeckCharts.{ChartsSite, IsChartDeck, IsOfChart, chart_told, layout_of, told}
 use Rattle.explain_chart.specs.declared.scope.Scope.{Scope}

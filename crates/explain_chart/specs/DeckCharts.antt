@@ -1,7 +1,7 @@
 -- What is told of a deck where its chart is asked for. Our own.
 use Rattle.std.specs.Prelude.{◌≡◌, ◌⊎◌, ℕ, true, false, List, length, Option, Result, Ok, Err}
-use Rattle.chart_marks.specs.Chart.{drawing_of}
-use Rattle.chart_marks.specs.declared.layout.Layout.{Layout}
+use Rattle.chart_drawing.specs.Chart.{drawing_of}
+use Rattle.chart_drawing.specs.declared.layout.Layout.{Layout}
 use Rattle.charted_runs.specs.Charts.{Charts}
 use Rattle.charted_runs.specs.declared.charted.ChartFault.{ChartFault}
 use Rattle.charted_runs.specs.declared.charted.ChartFault.TheVariants as fault

@@ -1,5 +1,5 @@
 ghost use Rattle.std.specs.Prelude.{◌≡◌, ◌≤◌, length, IfOk};
-ghost use Rattle.chart_marks.specs.Chart.{drawing_of};
+ghost use Rattle.chart_drawing.specs.Chart.{drawing_of};
 ghost use Rattle.explain_why.specs.deck_reader.specs.Decks.{Decks};
 ghost use Rattle.explain_chart.specs.DeckCharts as spec;
 ghost use Rattle.explain_chart.specs.DeckCharts.{ChartsSite, IsChartDeck, IsOfChart};
@@ -13,7 +13,7 @@ ghost use Rattle.traced_decks.specs.verdicts.specs.Refused.{AreAccepted};
 ghost use Rattle.gd_words.specs.declared.limits.TheConstants.{MOST_DECK_BYTES};
 
 use crate::scope::Scope;
-use chart_marks::{Chart, Layout};
+use chart_drawing::{Chart, Layout};
 use charted_runs::{ChartFault, chart_run, sizes_of};
 use explain_why::{
     Deck, JudgedDeck, judged_deck, programs_of_a_deck_can_be_judged,

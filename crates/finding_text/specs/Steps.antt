@@ -6,7 +6,7 @@ use Rattle.path_semantics.specs.declared.reason.Reason.{Reason}
 use Rattle.path_semantics.specs.declared.reason.Reason.TheVariants.{Data, SyncBlock, Input, Depth}
 use Rattle.statement_lines.specs.Lines.{line_among}
 use Rattle.tal_tree.specs.declared.program.Program.{Program}
-use Rattle.pair_findings.specs.Marks.{is_marked}
+use Rattle.pair_findings.specs.Notes.{has_note}
 use Rattle.pair_findings.specs.declared.finding.PairFinding.{PairFinding}
 use Rattle.finding_text.specs.DeckPlace.{source_text}
 use Rattle.finding_text.specs.Names.{file_name, item_name}
@@ -23,32 +23,32 @@ abbrev pub place_text : ℕ → List ℕ
 place_text line = padding line ++ decimal line ++ codes "  "
 
 -- what a statement made due
-abbrev pub due_mark : Program → Reason → List ℕ
-due_mark program (Data item) = codes "   <- sets " ++ item_name program item
-due_mark program (SyncBlock file) = codes "   <- asks " ++ file_name program file
-due_mark program Input = codes "   <- reads a request"
-due_mark program (Depth file) = codes "   <- asks " ++ file_name program file
+abbrev pub due_note : Program → Reason → List ℕ
+due_note program (Data item) = codes "   <- sets " ++ item_name program item
+due_note program (SyncBlock file) = codes "   <- asks " ++ file_name program file
+due_note program Input = codes "   <- reads a request"
+due_note program (Depth file) = codes "   <- asks " ++ file_name program file
 
-abbrev pub unnamed_mark : List ℕ → List ℕ
-unnamed_mark name = codes "   <- doesn't name " ++ name
+abbrev pub unnamed_note : List ℕ → List ℕ
+unnamed_note name = codes "   <- doesn't name " ++ name
 
-abbrev pub uncovered_mark : List ℕ
-uncovered_mark = codes "   <- comes with no CHECKPOINT before it"
+abbrev pub uncovered_note : List ℕ
+uncovered_note = codes "   <- comes with no CHECKPOINT before it"
 
-abbrev pub one_too_many_mark : List ℕ → List ℕ
-one_too_many_mark name = codes "   <- is one too many for " ++ name
+abbrev pub one_too_many_note : List ℕ → List ℕ
+one_too_many_note name = codes "   <- is one too many for " ++ name
 
 -- how the last statement breaks
-abbrev pub last_mark : Program → Reason → List ℕ
-last_mark program (Data item) = unnamed_mark (item_name program item)
-last_mark program (SyncBlock file) = unnamed_mark (file_name program file)
-last_mark program Input = uncovered_mark
-last_mark program (Depth file) = one_too_many_mark (file_name program file)
+abbrev pub last_note : Program → Reason → List ℕ
+last_note program (Data item) = unnamed_note (item_name program item)
+last_note program (SyncBlock file) = unnamed_note (file_name program file)
+last_note program Input = uncovered_note
+last_note program (Depth file) = one_too_many_note (file_name program file)
 
-abbrev pub mark_text : Program → PairFinding → Way → ℕ → ℕ → List ℕ
-mark_text program finding way place number =
-    if place + 1 == way.count then last_mark program way.reason
-    else if is_marked finding.deeds finding.since place number then due_mark program way.reason
+abbrev pub note_text : Program → PairFinding → Way → ℕ → ℕ → List ℕ
+note_text program finding way place number =
+    if place + 1 == way.count then last_note program way.reason
+    else if has_note finding.deeds finding.since place number then due_note program way.reason
     else []
 
 -- the statement of this number at a place of the path
@@ -56,7 +56,7 @@ abbrev pub step_text : List ℕ → Program → PairFinding → Way → ℕ → 
 step_text bytes program finding way place number =
     place_text (way.start + line_among finding.lines number)
     ++ source_text bytes (way.start + line_among finding.lines number)
-    ++ mark_text program finding way place number ++ 10 ∷ []
+    ++ note_text program finding way place number ++ 10 ∷ []
 
 -- statements, of which the first stands at this place
 abbrev pub steps_text : List ℕ → Program → PairFinding → Way → ℕ → List ℕ → List ℕ

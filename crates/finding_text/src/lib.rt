@@ -1,5 +1,5 @@
 //! What is found of the programs of a deck, as text for people: for a refused program the cause as a sentence, the way
-//! to it as lines of the deck with a mark at each statement that leads to it, and what the program lacks; for an
+//! to it as lines of the deck with a note at each statement that leads to it, and what the program lacks; for an
 //! accepted one what each CHECKPOINT sends, and which names it doesn't need.
 //!
 //! Below stand `pair_findings` with what is found, `fault_words` with the lines of a deck, and `text_pieces`, by whose

@@ -1,15 +1,15 @@
 ghost use Rattle.std.specs.Prelude.{◌≡◌, ◌≤◌, ◌+◌, ◌++◌, length, OnOk};
 ghost use Rattle.statement_lines.specs.Lines.{line_among};
-ghost use Rattle.finding_text.specs.Steps.{due_mark, gap_text, last_mark, mark_text, padding, path_text};
-ghost use Rattle.finding_text.specs.Steps.{one_too_many_mark, place_text, step_text, steps_text};
-ghost use Rattle.finding_text.specs.Steps.{uncovered_mark, unnamed_mark};
+ghost use Rattle.finding_text.specs.Steps.{due_note, gap_text, last_note, note_text, padding, path_text};
+ghost use Rattle.finding_text.specs.Steps.{one_too_many_note, place_text, step_text, steps_text};
+ghost use Rattle.finding_text.specs.Steps.{uncovered_note, unnamed_note};
 ghost use Rattle.finding_text.specs.Names.{file_name, item_name};
 ghost use Rattle.gd_words.specs.declared.limits.TheConstants.{MOST_DECK_BYTES};
 
 use crate::deck_place::put_source;
 use crate::names::{put_file, put_item};
 use gd_words::{List, NoMemory};
-use pair_findings::{PairFinding, is_marked};
+use pair_findings::{PairFinding, has_note};
 use path_semantics::Reason;
 use tal_tree::Program;
 use text_pieces::{put, put_number};
@@ -28,7 +28,7 @@ pub(crate) struct Way {
     pub(crate) count: usize,
 }
 
-/// Puts the statements of a path behind the text, each by its line of the deck, with a mark at each that made due what
+/// Puts the statements of a path behind the text, each by its line of the deck, with a note at each that made due what
 /// breaks at the last.
 pub(crate) fn put_path(
     text: &mut List<u8>,
@@ -111,7 +111,7 @@ fn put_step(
     let line = way.start + u64::from(line_among(finding.lines.as_slice(), number));
     put_place(text, line)?;
     put_source(text, bytes, line)?;
-    put_mark(text, program, finding, way, place, number)?;
+    put_note(text, program, finding, way, place, number)?;
     put(text, b"\n")
 }
 
@@ -156,7 +156,7 @@ fn padding(number: u64) -> &'static [u8]
     }
 }
 
-fn put_mark(
+fn put_note(
     text: &mut List<u8>,
     program: &Program,
     finding: &PairFinding,
@@ -165,19 +165,19 @@ fn put_mark(
     number: u16,
 ) -> Result<(), NoMemory>
     requires { place + 1 ≤ way.count }
-    ensures { OnOk result (text.new ≡ text.old ++ mark_text program.now finding.now way place number) }
+    ensures { OnOk result (text.new ≡ text.old ++ note_text program.now finding.now way place number) }
 {
     if place + 1 == way.count {
-        put_last_mark(text, program, way.reason)
-    } else if is_marked(finding.deeds.as_slice(), finding.since, place, number) {
-        put_due_mark(text, program, way.reason)
+        put_last_note(text, program, way.reason)
+    } else if has_note(finding.deeds.as_slice(), finding.since, place, number) {
+        put_due_note(text, program, way.reason)
     } else {
         Ok(())
     }
 }
 
-fn put_due_mark(text: &mut List<u8>, program: &Program, reason: Reason) -> Result<(), NoMemory>
-    ensures { OnOk result (text.new ≡ text.old ++ due_mark program.now reason) }
+fn put_due_note(text: &mut List<u8>, program: &Program, reason: Reason) -> Result<(), NoMemory>
+    ensures { OnOk result (text.new ≡ text.old ++ due_note program.now reason) }
 {
     match reason {
         Reason::Data(item) => {
@@ -196,8 +196,8 @@ fn put_due_mark(text: &mut List<u8>, program: &Program, reason: Reason) -> Resul
     }
 }
 
-fn put_last_mark(text: &mut List<u8>, program: &Program, reason: Reason) -> Result<(), NoMemory>
-    ensures { OnOk result (text.new ≡ text.old ++ last_mark program.now reason) }
+fn put_last_note(text: &mut List<u8>, program: &Program, reason: Reason) -> Result<(), NoMemory>
+    ensures { OnOk result (text.new ≡ text.old ++ last_note program.now reason) }
 {
     match reason {
         Reason::Data(item) => put_unnamed_item(text, program, item),
@@ -208,27 +208,27 @@ fn put_last_mark(text: &mut List<u8>, program: &Program, reason: Reason) -> Resu
 }
 
 fn put_unnamed_item(text: &mut List<u8>, program: &Program, item: u16) -> Result<(), NoMemory>
-    ensures { OnOk result (text.new ≡ text.old ++ unnamed_mark (item_name program.now item)) }
+    ensures { OnOk result (text.new ≡ text.old ++ unnamed_note (item_name program.now item)) }
 {
     put(text, b"   <- doesn't name ")?;
     put_item(text, program, item)
 }
 
 fn put_unnamed_file(text: &mut List<u8>, program: &Program, file: u8) -> Result<(), NoMemory>
-    ensures { OnOk result (text.new ≡ text.old ++ unnamed_mark (file_name program.now file)) }
+    ensures { OnOk result (text.new ≡ text.old ++ unnamed_note (file_name program.now file)) }
 {
     put(text, b"   <- doesn't name ")?;
     put_file(text, program, usize::from(file))
 }
 
 fn put_uncovered(text: &mut List<u8>) -> Result<(), NoMemory>
-    ensures { OnOk result (text.new ≡ text.old ++ uncovered_mark) }
+    ensures { OnOk result (text.new ≡ text.old ++ uncovered_note) }
 {
     put(text, b"   <- comes with no CHECKPOINT before it")
 }
 
 fn put_one_too_many(text: &mut List<u8>, program: &Program, file: u8) -> Result<(), NoMemory>
-    ensures { OnOk result (text.new ≡ text.old ++ one_too_many_mark (file_name program.now file)) }
+    ensures { OnOk result (text.new ≡ text.old ++ one_too_many_note (file_name program.now file)) }
 {
     put(text, b"   <- is one too many for ")?;
     put_file(text, program, usize::from(file))

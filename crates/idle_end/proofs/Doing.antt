@@ -18,7 +18,7 @@ use Rattle.world_semantics.specs.Own.{by_inner, by_ask, by_answer, by_device, by
 use Rattle.world_semantics.specs.Passes.{by_send, by_pass, by_pass_again}
 use Rattle.world_semantics.specs.Messages.{Running}
 use Rattle.world_semantics.specs.Rules.{IsFreeFor, by_own, by_checkpoint}
-use Rattle.world_semantics.specs.World.{Pair, has_noted, may_pass, copy_of, other_of}
+use Rattle.world_semantics.specs.World.{Pair, has_marked, may_pass, copy_of, other_of}
 use Rattle.world_semantics.proofs.Running.{enters-as}
 use Rattle.letters.specs.Posts.{Post}
 use Rattle.idle_end.proofs.Ends.{IsEnd}
@@ -48,13 +48,13 @@ module _ {site : Site} {events : ℕ} {post : Post} (end : IsEnd site events pos
       → (copy_of k pair).role ≡ Acting
       → process.point (copy_of k pair).core.state ≡ point.AtCheckpoint → ⊥
   downs-none number pair k there role at =
-      by (has_noted post.world.downs (copy_of k pair).processor (copy_of (other_of k) pair).processor) refl
+      by (has_marked post.world.downs (copy_of k pair).processor (copy_of (other_of k) pair).processor) refl
     where
       or-else : (one : Bool) {other : Bool} → other ≡ true → (one || other) ≡ true
       or-else true is = refl
       or-else false is = is
 
-      by : (marked : Bool) → has_noted post.world.downs (copy_of k pair).processor
+      by : (marked : Bool) → has_marked post.world.downs (copy_of k pair).processor
           (copy_of (other_of k) pair).processor ≡ marked → ⊥
       by false is = end.idle.runs number _ _ (by_checkpoint number pair there
           (by_send k role (inl at) (end.idle.waits number pair k there role) is))

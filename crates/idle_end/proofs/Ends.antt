@@ -8,7 +8,7 @@ use Rattle.world_semantics.specs.declared.role.Role.{Role}
 use Rattle.world_semantics.specs.declared.role.Role.TheVariants.{Acting, Watching, Blank, Gone}
 use Rattle.world_semantics.specs.declared.which.Which.{Which}
 use Rattle.world_semantics.specs.declared.which.Which.TheVariants.{First, Second}
-use Rattle.world_semantics.specs.World.{Pair, terminal_node, is_running, has_noted, copy_of, other_of, receives}
+use Rattle.world_semantics.specs.World.{Pair, terminal_node, is_running, has_marked, copy_of, other_of, receives}
 use Rattle.world_semantics.proofs.Reached.{gone-is, one-acts}
 use Rattle.letters.specs.Idle.{IsIdle}
 use Rattle.letters.specs.Posts.{Post}
@@ -146,10 +146,10 @@ module _ {site : Site} {events : ℕ} {post : Post} (end : IsEnd site events pos
     where
       -- the processor of a copy that acts isn't marked
       acts-on : (k : Which) → (copy_of k pair).role ≡ Acting
-          → has_noted post.world.downs node (copy_of k pair).processor ≡ false
-      acts-on k acts = of (has_noted post.world.downs node (copy_of k pair).processor) refl
+          → has_marked post.world.downs node (copy_of k pair).processor ≡ false
+      acts-on k acts = of (has_marked post.world.downs node (copy_of k pair).processor) refl
         where
-          of : (marked : Bool) → has_noted post.world.downs node (copy_of k pair).processor ≡ marked → marked ≡ false
+          of : (marked : Bool) → has_marked post.world.downs node (copy_of k pair).processor ≡ marked → marked ≡ false
           of false is = refl
           of true is =
               let gone = (gone-is post.world.stopped pair (end.good.roles number pair there) k).1
@@ -162,7 +162,7 @@ module _ {site : Site} {events : ℕ} {post : Post} (end : IsEnd site events pos
 
       -- where the other one leads that is gone, and its processor is marked
       acts-for : (k : Which) → pair.led ≡ other_of k → (copy_of k pair).role ≡ Acting
-          → has_noted post.world.downs node (copy_of (other_of k) pair).processor ≡ true
+          → has_marked post.world.downs node (copy_of (other_of k) pair).processor ≡ true
       acts-for k led acts =
           end.idle.marked node (copy_of (other_of k) pair).processor runs
           ((gone-is post.world.stopped pair (end.good.roles number pair there) (other_of k)).0

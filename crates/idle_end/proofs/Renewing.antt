@@ -18,7 +18,7 @@ use Rattle.world_semantics.specs.Passes.{by_acknowledge}
 use Rattle.world_semantics.specs.Rules.{Change, by_own, by_checkpoint, by_request, by_early_request, by_enter, by_print}
 use Rattle.world_semantics.specs.Rules.{by_stop, by_mark, by_reload, stopped_pair, taker, pair_after_down, pair_at_down}
 use Rattle.world_semantics.specs.Rules.{renewals_ended, new_core, reloaded_by, without_downs}
-use Rattle.world_semantics.specs.World.{Copy, Pair, Down, World, copy_of, other_of, with_copy, has_noted}
+use Rattle.world_semantics.specs.World.{Copy, Pair, Down, World, copy_of, other_of, with_copy, has_marked}
 use Rattle.world_semantics.proofs.Beginning.{all-begin}
 use Rattle.world_semantics.proofs.Lists.{set-all, map-all}
 use Rattle.world_semantics.proofs.Roles.{both-true, reload-all}
@@ -26,7 +26,7 @@ use Rattle.world_semantics.proofs.Runs.{holds-on}
 
 -- a copy that has to send everything, at a node, where the other one is in a processor
 abbrev IsUnmarked : List Down → Bool → ℕ → ℕ → Type 0
-IsUnmarked downs renewal here there = renewal ≡ true → has_noted downs here there ≡ false
+IsUnmarked downs renewal here there = renewal ≡ true → has_marked downs here there ≡ false
 
 record BothUnmarked (downs : List Down) (one : ℕ) (first : Bool) (two : ℕ) (second : Bool) : Type 0 where
   first_copy : IsUnmarked downs first one two
@@ -92,8 +92,8 @@ mark-unmarked node processor downs renewal here there ok renews =
     by (node == here) refl (processor == there) refl both.1 (ok both.0)
   where
     by : (one : Bool) → (node == here) ≡ one → (two : Bool) → (processor == there) ≡ two
-        → not (here == node && there == processor) ≡ true → has_noted downs here there ≡ false
-        → ((one && two) || has_noted downs here there) ≡ false
+        → not (here == node && there == processor) ≡ true → has_marked downs here there ≡ false
+        → ((one && two) || has_marked downs here there) ≡ false
     by true a true b other old =
         let here_is = eq-eqb here node (sym (eqb-true node here a)) in
         let there_is = eq-eqb there processor (sym (eqb-true processor there b)) in
@@ -126,23 +126,23 @@ downs-unmarked node processor downs pair (Some Second) ok = record {
 -- Reloads
 
 -- what wasn't marked isn't where marks are taken away
-fewer-downs : (x node processor : ℕ) (downs : List Down) → has_noted downs node processor ≡ false
-    → has_noted (without_downs x downs) node processor ≡ false
+fewer-downs : (x node processor : ℕ) (downs : List Down) → has_marked downs node processor ≡ false
+    → has_marked (without_downs x downs) node processor ≡ false
 fewer-downs x node processor [] none = refl
 fewer-downs x node processor (mark ∷ downs) none =
     by (not (mark.down == x)) (mark.node == node && mark.down == processor) refl none
     (fewer-downs x node processor downs)
   where
     by : (stays here : Bool) → (mark.node == node && mark.down == processor) ≡ here
-        → (here || has_noted downs node processor) ≡ false
-        → (has_noted downs node processor ≡ false → has_noted (without_downs x downs) node processor ≡ false)
-        → has_noted (cond stays (mark ∷ without_downs x downs) (without_downs x downs)) node processor ≡ false
+        → (here || has_marked downs node processor) ≡ false
+        → (has_marked downs node processor ≡ false → has_marked (without_downs x downs) node processor ≡ false)
+        → has_marked (cond stays (mark ∷ without_downs x downs) (without_downs x downs)) node processor ≡ false
     by stays true is none rest = absurd (cc)
     by true false is none rest = rw is (rest none)
     by false false is none rest = rest none
 
 -- and nothing of a processor is, whose marks are
-none-left : (x node : ℕ) (downs : List Down) → has_noted (without_downs x downs) node x ≡ false
+none-left : (x node : ℕ) (downs : List Down) → has_marked (without_downs x downs) node x ≡ false
 none-left x node [] = refl
 none-left x node (mark ∷ downs) = by (mark.down == x) refl (none-left x node downs)
   where
@@ -150,10 +150,10 @@ none-left x node (mark ∷ downs) = by (mark.down == x) refl (none-left x node d
     not-here true rest is = is
     not-here false rest is = is
 
-    by : (here : Bool) → (mark.down == x) ≡ here → has_noted (without_downs x downs) node x ≡ false
-        → has_noted (cond (not here) (mark ∷ without_downs x downs) (without_downs x downs)) node x ≡ false
+    by : (here : Bool) → (mark.down == x) ≡ here → has_marked (without_downs x downs) node x ≡ false
+        → has_marked (cond (not here) (mark ∷ without_downs x downs) (without_downs x downs)) node x ≡ false
     by true is rest = rest
-    by false is rest = rw is (not-here (mark.node == node) (has_noted (without_downs x downs) node x) rest)
+    by false is rest = rw is (not-here (mark.node == node) (has_marked (without_downs x downs) node x) rest)
 
 reload-unmarked : (core : Core) (x : ℕ) (downs : List Down) (pair : Pair) (one two : Bool)
     → (pair.first.processor == x) ≡ one → (pair.second.processor == x) ≡ two → UnmarkedOf downs pair
@@ -207,7 +207,7 @@ abbrev pub RenewingIsUnmarked : World → Type 0
 RenewingIsUnmarked w =
     (number : ℕ) (pair : Pair) (k : Which) → slice_get w.processes number ≡ Some pair
     → (copy_of k pair).renewal ≡ true
-    → has_noted w.downs (copy_of k pair).processor (copy_of (other_of k) pair).processor ≡ false
+    → has_marked w.downs (copy_of k pair).processor (copy_of (other_of k) pair).processor ≡ false
 
 pub run-renewing : {site : Site} {events : List Event} {w : World} → IsRun site events w → RenewingIsUnmarked w
 run-renewing {site = site} {w = w} run number pair k there = by k
@@ -220,6 +220,6 @@ run-renewing {site = site} {w = w} run number pair k there = by k
         }))
 
     by : (k : Which) → (copy_of k pair).renewal ≡ true
-        → has_noted w.downs (copy_of k pair).processor (copy_of (other_of k) pair).processor ≡ false
+        → has_marked w.downs (copy_of k pair).processor (copy_of (other_of k) pair).processor ≡ false
     by First renews = (all number pair there).first_copy renews
     by Second renews = (all number pair there).second_copy renews

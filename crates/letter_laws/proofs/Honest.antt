@@ -6,7 +6,7 @@ use Rattle.gd_words.proofs.Among.{among-left, among-right, among-either}
 use Rattle.tal_tree.specs.declared.site.Site.{Site}
 use Rattle.schedule.specs.declared.event.Event.{Event}
 use Rattle.world_semantics.specs.Follows.{stays}
-use Rattle.world_semantics.specs.Messages.{Message, Sending, Cause, Running, Entering, Handing, Stopping, NotingDown}
+use Rattle.world_semantics.specs.Messages.{Message, Sending, Cause, Running, Entering, Handing, Stopping, MarkingDown}
 use Rattle.world_semantics.specs.Messages.{Reloading}
 use Rattle.world_semantics.specs.Rules.{Change}
 use Rattle.world_semantics.specs.World.{World}
@@ -25,7 +25,7 @@ use Rattle.awaited_requests.specs.letters.proofs.Owed.{filter-among, rest-there}
 use Rattle.awaited_requests.specs.letters.specs.Again.{sent_again}
 use Rattle.awaited_requests.specs.letters.specs.Posts.{Post, post_at_boot, with_letters, after_change}
 use Rattle.awaited_requests.specs.letters.specs.Posts.{without_those_between, post_after_down}
-use Rattle.awaited_requests.specs.letters.specs.Posts.{NotesLetters, no_mark, one_mark, PlaysEvent, plays_run}
+use Rattle.awaited_requests.specs.letters.specs.Posts.{MarksLetters, no_mark, one_mark, PlaysEvent, plays_run}
 use Rattle.awaited_requests.specs.letters.specs.Posts.{plays_no_run, plays_enter}
 use Rattle.awaited_requests.specs.letters.specs.Posts.{plays_no_enter, plays_nothing, plays_hand, plays_drop}
 use Rattle.awaited_requests.specs.letters.specs.Posts.{plays_again, plays_mark}
@@ -109,25 +109,25 @@ module _ (site : Site) (fit : IsFit site) where
 
   pub honest-mark : (events later : ℕ) (post : Post) (next : World) (node processor : ℕ) (sendings : List Sending)
       → IsGood site events post.world → IsGood site later next
-      → IsHonest site post → Change site post.world (NotingDown node processor) sendings next
+      → IsHonest site post → Change site post.world (MarkingDown node processor) sendings next
       → IsHonest site (post_after_down site node processor sendings next post)
   honest-mark events later post next node processor sendings good after honest change =
-      letters-honest events post next (without_those_between node processor post.owed) (NotingDown node processor)
+      letters-honest events post next (without_those_between node processor post.owed) (MarkingDown node processor)
       sendings
       (sendings ++ sent_again site post.world next node processor) good honest
       (λ letter among. honest.owed letter (among-filter letter _ post.owed among).0) change
       (λ sending among. elim (among-either sending sendings (sent_again site post.world next node processor) among) [
-        | inl new ↦ sends-sent post.world next (NotingDown node processor) sendings change honest.reached sending new
+        | inl new ↦ sends-sent post.world next (MarkingDown node processor) sendings change honest.reached sending new
         | inr again ↦ again-sent site later next after reached awaited sending.message
             (again-is site post.world next node processor sending again)
       ])
     where
       reached : IsReached site next
-      reached = change-reached post.world next (NotingDown node processor) sendings change honest.reached
+      reached = change-reached post.world next (MarkingDown node processor) sendings change honest.reached
 
       awaited : AwaitedWereSent site next
       awaited = change-awaited site fit.regular events post.world good honest.calm honest.awaited next
-          (NotingDown node processor) sendings change
+          (MarkingDown node processor) sendings change
 
   -- with other letters owed that were sent
   pub honest-owed : (post : Post) (owed : List Letter) → IsHonest site post → WereSent post owed
@@ -205,7 +205,7 @@ module _ (site : Site) (fit : IsFit site) where
   acts-most (Entering number) = omega arith
   acts-most (Handing node message) = omega arith
   acts-most (Stopping processor) = omega arith
-  acts-most (NotingDown node processor) = omega arith
+  acts-most (MarkingDown node processor) = omega arith
   acts-most (Reloading processor) = omega arith
 
   change-sound : (most : ℕ) (post : Post) (next : World) (owed : List Letter) (cause : Cause) (sendings : List Sending)
@@ -251,11 +251,11 @@ module _ (site : Site) (fit : IsFit site) where
 
   mark-sound : (most : ℕ) (post : Post) (next : World) (node processor : ℕ) (sendings : List Sending)
       → most < 4294967295 → IsSound most post
-      → Change site post.world (NotingDown node processor) sendings next
+      → Change site post.world (MarkingDown node processor) sendings next
       → IsSound most (post_after_down site node processor sendings next post)
   mark-sound most post next node processor sendings low sound change =
       let few = sound.few in
-      let after = change-good site fit sound.events post.world next (NotingDown node processor) sendings
+      let after = change-good site fit sound.events post.world next (MarkingDown node processor) sendings
       (omega (arith, few, low)) sound.good change in
       record {
         events = sound.events + 0;
@@ -266,7 +266,7 @@ module _ (site : Site) (fit : IsFit site) where
       }
 
   downs-sound : (most : ℕ) {node : ℕ} {post end : Post} → most < 4294967295 → IsSound most post
-      → NotesLetters site node post end → IsSound most end
+      → MarksLetters site node post end → IsSound most end
   downs-sound most low sound no_mark = sound
   downs-sound most {node = node} {post = post} low sound
       (one_mark {sendings = sendings} {next = next} processor change more) =

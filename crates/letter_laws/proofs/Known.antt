@@ -11,9 +11,9 @@ use Rattle.schedule.specs.declared.event.Event.{Event}
 use Rattle.world_semantics.specs.declared.role.Role.TheVariants.{Acting}
 use Rattle.world_semantics.specs.declared.which.Which.{Which}
 use Rattle.world_semantics.specs.declared.which.Which.TheVariants.{First, Second}
-use Rattle.world_semantics.specs.Messages.{Message, Asking, Sending, Cause, Handing, Stopping, NotingDown, Reloading}
+use Rattle.world_semantics.specs.Messages.{Message, Asking, Sending, Cause, Handing, Stopping, MarkingDown, Reloading}
 use Rattle.world_semantics.specs.Rules.{Change}
-use Rattle.world_semantics.specs.World.{Pair, World, boot, copy_of, other_of, has_noted, pair_at_boot, receives}
+use Rattle.world_semantics.specs.World.{Pair, World, boot, copy_of, other_of, has_marked, pair_at_boot, receives}
 use Rattle.world_semantics.proofs.Becoming.{acting-gets-none, change-was}
 use Rattle.world_semantics.proofs.Beginning.{all-begin}
 use Rattle.world_semantics.proofs.Fair.{fair-of, run-fair}
@@ -32,7 +32,7 @@ use Rattle.awaited_requests.specs.letters.proofs.Owed.{taken-there, rest-there}
 use Rattle.awaited_requests.specs.letters.specs.Again.{sent_again}
 use Rattle.awaited_requests.specs.letters.specs.Posts.{Post, post_at_boot, with_letters, after_change}
 use Rattle.awaited_requests.specs.letters.specs.Posts.{without_those_between, post_after_down}
-use Rattle.awaited_requests.specs.letters.specs.Posts.{NotesLetters, no_mark, one_mark, PlaysEvent, plays_run}
+use Rattle.awaited_requests.specs.letters.specs.Posts.{MarksLetters, no_mark, one_mark, PlaysEvent, plays_run}
 use Rattle.awaited_requests.specs.letters.specs.Posts.{plays_no_run, plays_enter}
 use Rattle.awaited_requests.specs.letters.specs.Posts.{plays_no_enter, plays_nothing, plays_hand, plays_drop}
 use Rattle.awaited_requests.specs.letters.specs.Posts.{plays_again, plays_mark}
@@ -106,15 +106,15 @@ route-down w node pair k stopped seat gets route = by pair.led refl k gets route
 
     -- the node goes from the copy that leads to the other one
     turned : (l : Which) (other : ℕ) → (other ≡ (copy_of l pair).processor → ⊥)
-        → (if has_noted w.downs node (copy_of l pair).processor then other else (copy_of l pair).processor) ≡ other
+        → (if has_marked w.downs node (copy_of l pair).processor then other else (copy_of l pair).processor) ≡ other
         → slice_get w.stopped (copy_of l pair).processor ≡ Some true
-    turned l other apart = told (has_noted w.downs node (copy_of l pair).processor) refl
+    turned l other apart = told (has_marked w.downs node (copy_of l pair).processor) refl
       where
-        told : (b : Bool) → has_noted w.downs node (copy_of l pair).processor ≡ b
+        told : (b : Bool) → has_marked w.downs node (copy_of l pair).processor ≡ b
             → (if b then other else (copy_of l pair).processor) ≡ other
             → slice_get w.stopped (copy_of l pair).processor ≡ Some true
-        told true noted is = marked-down w.stopped w.downs node (copy_of l pair).processor stopped noted
-        told false noted is = absurd (apart (sym is))
+        told true is_marked is = marked-down w.stopped w.downs node (copy_of l pair).processor stopped is_marked
+        told false is_marked is = absurd (apart (sym is))
 
     by : (l : Which) → pair.led ≡ l → (m : Which) → receives (copy_of m pair).role ≡ true
         → route_of w.downs node pair ≡ (copy_of m pair).processor
@@ -123,11 +123,11 @@ route-down w node pair k stopped seat gets route = by pair.led refl k gets route
     by Second led Second got is = absurd (leads Second led got)
     by First led Second got is =
         turned First pair.second.processor (λ same. seat.apart (sym same))
-        (subst (λ l. (if has_noted w.downs node (copy_of l pair).processor then (copy_of (other_of l) pair).processor
+        (subst (λ l. (if has_marked w.downs node (copy_of l pair).processor then (copy_of (other_of l) pair).processor
         else (copy_of l pair).processor) ≡ pair.second.processor) led is)
     by Second led First got is =
         turned Second pair.first.processor seat.apart
-        (subst (λ l. (if has_noted w.downs node (copy_of l pair).processor then (copy_of (other_of l) pair).processor
+        (subst (λ l. (if has_marked w.downs node (copy_of l pair).processor then (copy_of (other_of l) pair).processor
         else (copy_of l pair).processor) ≡ pair.first.processor) led is)
 
 module _ (site : Site) (fit : IsFit site) where
@@ -237,19 +237,19 @@ module _ (site : Site) (fit : IsFit site) where
 
   pub known-mark : (events later : ℕ) (post : Post) (next : World) (node processor : ℕ) (sendings : List Sending)
       → IsGood site events post.world → IsGood site later next → IsKnown site post
-      → Change site post.world (NotingDown node processor) sendings next
+      → Change site post.world (MarkingDown node processor) sendings next
       → IsKnown site (post_after_down site node processor sendings next post)
   known-mark events later post next node processor sendings good after known change =
       let honest = honest-mark site fit events later post next node processor sendings good after known.honest change in
       record {
         honest = honest;
         early = early-step later post next (without_those_between node processor post.owed)
-            (NotingDown node processor) sendings
+            (MarkingDown node processor) sendings
             (sendings ++ sent_again site post.world next node processor) after (world-seats next honest.reached)
             known.early change (λ x is. cc)
             (λ sending request among asks. elim (among-either sending sendings
             (sent_again site post.world next node processor) among) [
-              | inl new ↦ change-asker site fit.regular events post.world good next (NotingDown node processor)
+              | inl new ↦ change-asker site fit.regular events post.world good next (MarkingDown node processor)
                   sendings change sending request new asks
               | inr again ↦ again-asker site fit.regular later next after sending.message request
                   (again-is site post.world next node processor sending again) asks
@@ -361,11 +361,11 @@ module _ (site : Site) (fit : IsFit site) where
   letter-sent post letter among node request same = let both = handing-same same in (letter, among, both.0, both.1)
 
   downs-known : {node : ℕ} (events : ℕ) {post end : Post} → events < 4294967295 → IsGood site events post.world
-      → IsKnown site post → NotesLetters site node post end → IsKnown site end
+      → IsKnown site post → MarksLetters site node post end → IsKnown site end
   downs-known events low good known no_mark = known
   downs-known {node = node} events {post = post} low good known
       (one_mark {sendings = sendings} {next = next} processor change more) =
-      let after = change-good site fit events post.world next (NotingDown node processor) sendings low good change in
+      let after = change-good site fit events post.world next (MarkingDown node processor) sendings low good change in
       let same : events + 0 ≡ events = omega arith in
       downs-known (events + 0) (subst (λ n. n < 4294967295) (sym same) low) after
       (known-mark events (events + 0) post next node processor sendings good after known change) more
@@ -413,7 +413,7 @@ module _ (site : Site) (fit : IsFit site) where
   known-plays events post next event low good known
       (plays_mark {sendings = sendings} {next = w} node processor change) =
       known-mark events (events + 0) post w node processor sendings good
-      (change-good site fit events post.world w (NotingDown node processor) sendings low good change) known change
+      (change-good site fit events post.world w (MarkingDown node processor) sendings low good change) known change
   known-plays events post next event low good known plays_loss = known
   known-plays events post next event low good known plays_repeat = known
   known-plays events post next event low good known plays_drive = known

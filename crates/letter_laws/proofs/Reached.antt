@@ -5,7 +5,7 @@ use Rattle.tal_tree.specs.declared.site.Site.{Site}
 use Rattle.schedule.specs.declared.event.Event.{Event}
 use Rattle.schedule.specs.declared.event.Event.TheVariants.{Fail, Reload}
 use Rattle.world_semantics.specs.Follows.{Follows, runs, enters, delivers, delivers_mark, fails, reloads, IsRun}
-use Rattle.world_semantics.specs.Messages.{Sending, Cause, Running, Entering, Handing, Stopping, NotingDown}
+use Rattle.world_semantics.specs.Messages.{Sending, Cause, Running, Entering, Handing, Stopping, MarkingDown}
 use Rattle.world_semantics.specs.Messages.{Reloading}
 use Rattle.world_semantics.specs.Rules.{Change, by_own, by_checkpoint, by_request, by_early_request, by_enter, by_print}
 use Rattle.world_semantics.specs.Rules.{by_stop, by_mark, by_reload}
@@ -74,7 +74,7 @@ change-permits : {site : Site} (w next : World) (cause : Cause) (sendings : List
 change-permits w next (Running number) sendings change = (_, runs change)
 change-permits w next (Entering terminal) sendings change = (_, enters change)
 change-permits w next (Handing node message) sendings change = (_, delivers {y = false} {k = 0} node message change)
-change-permits w next (NotingDown node processor) sendings change =
+change-permits w next (MarkingDown node processor) sendings change =
     (_, delivers_mark {y = false} {k = 0} node processor change)
 change-permits {site = site} w next (Stopping processor) sendings change =
     let none = (stop-is w next processor sendings change).none in (

@@ -7,7 +7,7 @@ use Rattle.world_semantics.specs.tal_tree.specs.declared.site.Site.{Site}
 use Rattle.schedule.specs.declared.event.Event.{Event}
 use Rattle.world_semantics.proofs.Members.{among-filter}
 use Rattle.letters.specs.Posts.{Post, with_letters, without_those_between, IsTaken, takes_first, takes_later}
-use Rattle.letters.specs.Posts.{NotesLetters, no_mark, one_mark, PlaysEvent, plays_run, plays_no_run, plays_enter}
+use Rattle.letters.specs.Posts.{MarksLetters, no_mark, one_mark, PlaysEvent, plays_run, plays_no_run, plays_enter}
 use Rattle.letters.specs.Posts.{plays_no_enter, plays_nothing, plays_hand, plays_drop, plays_again, plays_mark}
 use Rattle.letters.specs.Posts.{plays_loss, plays_repeat, plays_no_tick, plays_tick, plays_tick_stop, plays_fail}
 use Rattle.letters.specs.Posts.{plays_drive, plays_no_fail, HasPlayed, played_none, played_more, is_from_or_to}
@@ -47,7 +47,7 @@ filter-among x test (y ∷ xs) (inr i) t = by (test y) (filter-among x test xs i
     by true j = inr j
     by false j = j
 
-downs-sent : {site : Site} {node : ℕ} {post next : Post} → OwedWasSent post → NotesLetters site node post next
+downs-sent : {site : Site} {node : ℕ} {post next : Post} → OwedWasSent post → MarksLetters site node post next
     → OwedWasSent next
 downs-sent all no_mark = all
 downs-sent {node = node} {post = post} all (one_mark {next = next} processor change more) =

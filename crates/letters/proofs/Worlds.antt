@@ -2,11 +2,11 @@
 use Rattle.std.proofs.Common.{List, [], ◌∷◌, ◌++◌}
 use Rattle.world_semantics.specs.tal_tree.specs.declared.site.Site.{Site}
 use Rattle.schedule.specs.declared.event.Event.{Event}
-use Rattle.world_semantics.specs.Follows.{Follows, NotesDowns, marks_none, marks_one, Leads, stays, goes_on, IsRun}
+use Rattle.world_semantics.specs.Follows.{Follows, MarksDowns, marks_none, marks_one, Leads, stays, goes_on, IsRun}
 use Rattle.world_semantics.specs.Follows as follows
 use Rattle.world_semantics.specs.Messages.{Sending}
 use Rattle.world_semantics.specs.World.{World}
-use Rattle.letters.specs.Posts.{Post, NotesLetters, no_mark, one_mark, PlaysEvent, plays_run, plays_no_run, plays_enter}
+use Rattle.letters.specs.Posts.{Post, MarksLetters, no_mark, one_mark, PlaysEvent, plays_run, plays_no_run, plays_enter}
 use Rattle.letters.specs.Posts.{plays_no_enter, plays_nothing, plays_hand, plays_drop, plays_again, plays_mark}
 use Rattle.letters.specs.Posts.{plays_loss, plays_repeat, plays_no_tick, plays_tick, plays_tick_stop, plays_fail}
 use Rattle.letters.specs.Posts.{plays_drive, plays_no_fail, HasPlayed, played_none, played_more, plays_no_reload}
@@ -16,8 +16,8 @@ use Rattle.letters.specs.Posts.{plays_reload}
 abbrev pub Permits : Site → World → Event → World → Type 0
 Permits site w event next = (sendings : List Sending) × Follows site w event sendings next
 
-downs-made : {site : Site} {node : _} {post next : Post} → NotesLetters site node post next
-    → (sendings : List Sending) × NotesDowns site node post.world sendings next.world
+downs-made : {site : Site} {node : _} {post next : Post} → MarksLetters site node post next
+    → (sendings : List Sending) × MarksDowns site node post.world sendings next.world
 downs-made no_mark = ([], marks_none)
 downs-made (one_mark {sendings = sendings} processor change more) =
     let rest = downs-made more in (sendings ++ rest.0, marks_one processor change rest.1)

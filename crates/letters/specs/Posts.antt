@@ -9,7 +9,7 @@ use Rattle.schedule.specs.declared.event.Event.{Event}
 use Rattle.schedule.specs.declared.event.Event.TheVariants.{Run, Enter, Deliver, Lose, Repeat, Tick, Fail, Drive}
 use Rattle.schedule.specs.declared.event.Event.TheVariants.{Reload}
 use Rattle.world_semantics.specs.World.{World, boot, is_running}
-use Rattle.world_semantics.specs.Messages.{Sending, Running, Entering, Handing, Stopping, NotingDown, Reloading}
+use Rattle.world_semantics.specs.Messages.{Sending, Running, Entering, Handing, Stopping, MarkingDown, Reloading}
 use Rattle.world_semantics.specs.Rules.{Change}
 use Rattle.world_semantics.specs.Follows.{IsIdleFor}
 use Rattle.letters.specs.Routes.{Letter, is_between, letters_of}
@@ -66,12 +66,12 @@ pub data IsTaken (letter : Letter) : List Letter → List Letter → Type 0 wher
       → IsTaken letter (other ∷ letters) (other ∷ rest)
 
 -- any number of marks that a node makes, one after the other
-pub data NotesLetters (site : Site) (node : ℕ) : Post → Post → Type 0 where
-  no_mark : {post : Post} → NotesLetters site node post post
+pub data MarksLetters (site : Site) (node : ℕ) : Post → Post → Type 0 where
+  no_mark : {post : Post} → MarksLetters site node post post
   one_mark : {post end : Post} {sendings : List Sending} {next : World} → (processor : ℕ)
-      → Change site post.world (NotingDown node processor) sendings next
-      → NotesLetters site node (post_after_down site node processor sendings next post) end
-      → NotesLetters site node post end
+      → Change site post.world (MarkingDown node processor) sendings next
+      → MarksLetters site node (post_after_down site node processor sendings next post) end
+      → MarksLetters site node post end
 
 -- what an event does to a post. A process runs or a terminal enters where it can. A delivery does nothing; or hands
 -- over a letter that is owed at its receiver, or drops it there where it changes nothing; or hands over once more one
@@ -101,17 +101,17 @@ pub data PlaysEvent (site : Site) (post : Post) : Event → Post → Type 0 wher
       → Change site post.world (Handing letter.receiver letter.message) sendings next
       → PlaysEvent site post (Deliver y k) (after_change site sendings next post)
   plays_mark : {y : Bool} {k : ℕ} {sendings : List Sending} {next : World} → (node processor : ℕ)
-      → Change site post.world (NotingDown node processor) sendings next
+      → Change site post.world (MarkingDown node processor) sendings next
       → PlaysEvent site post (Deliver y k) (post_after_down site node processor sendings next post)
   plays_loss : {y : Bool} {k : ℕ} → PlaysEvent site post (Lose y k) post
   plays_repeat : {y : Bool} {k : ℕ} → PlaysEvent site post (Repeat y k) post
   plays_no_tick : {node : ℕ} → PlaysEvent site post (Tick node) post
-  plays_tick : {node : ℕ} {next : Post} → is_running post.world.stopped node ≡ true → NotesLetters site node post next
+  plays_tick : {node : ℕ} {next : Post} → is_running post.world.stopped node ≡ true → MarksLetters site node post next
       → PlaysEvent site post (Tick node) next
   plays_tick_stop : {node : ℕ} {between : World} {next : Post} → (processor : ℕ)
       → is_running post.world.stopped node ≡ true → processor ≢ node
       → Change site post.world (Stopping processor) [] between
-      → NotesLetters site node (record post { world = between }) next
+      → MarksLetters site node (record post { world = between }) next
       → PlaysEvent site post (Tick node) next
   plays_fail : {processor : ℕ} {next : World} → Change site post.world (Stopping processor) [] next
       → PlaysEvent site post (Fail processor) (record post { world = next })

@@ -7,14 +7,14 @@ use Rattle.world_semantics.specs.tal_tree.specs.declared.site.Site.{Site}
 use Rattle.world_semantics.specs.tal_tree.specs.declared.site.Who.{Who}
 use Rattle.world_semantics.specs.tal_tree.specs.declared.site.Who.TheVariants as who
 use Rattle.world_semantics.specs.plain_semantics.specs.Openers.{openers_of}
-use Rattle.world_semantics.specs.World.{Pair, Down, World, terminal_node, has_noted, copy_of, other_of}
+use Rattle.world_semantics.specs.World.{Pair, Down, World, terminal_node, has_marked, copy_of, other_of}
 use Rattle.world_semantics.specs.Messages.{Message, Asking, Replying, Checkpointing, Taking, Sending}
 
 -- the processor to which a node sends what is for a process: that of the copy that leads, or the other one's once the
 -- node has marked that
 abbrev pub route_of : List Down → ℕ → Pair → ℕ
 route_of downs node pair =
-    if has_noted downs node (copy_of pair.led pair).processor then (copy_of (other_of pair.led) pair).processor
+    if has_marked downs node (copy_of pair.led pair).processor then (copy_of (other_of pair.led) pair).processor
     else (copy_of pair.led pair).processor
 
 -- the route of a node to the process of a number, if it is there

@@ -357,7 +357,7 @@ change-eras w next cause sendings (by_mark node processor down alive unmarked) h
           (λ number pair there. marked-eras w.reloads pair (has.eras number pair there) node processor
           (taker node processor pair) refl);
     }
-change-eras {site = site} w next cause sendings (by_reload {times = times} x down noted there low) has =
+change-eras {site = site} w next cause sendings (by_reload {times = times} x down is_marked there low) has =
     record {
       few = few-loads w.reloads x times low has.few;
       eras = reload-all (λ j p. ErasOf (slice_set w.reloads x (times + 1)) p) site x w.processes

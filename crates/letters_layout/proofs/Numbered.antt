@@ -25,7 +25,7 @@ use Rattle.world_semantics.specs.Rules.{reloaded_by, renewals_ended, stopped_pai
 use Rattle.world_semantics.specs.Follows.{Follows, runs, cannot_run, enters, cannot_enter, delivers_none, delivers}
 use Rattle.world_semantics.specs.Follows.{delivers_mark, loses, doubles, ticks_none, ticks, ticks_stop, fails}
 use Rattle.world_semantics.specs.Follows.{cannot_reload, reloads, turns_drive}
-use Rattle.world_semantics.specs.Follows.{cannot_fail, NotesDowns, marks_none, marks_one, Leads, stays, goes_on, IsRun}
+use Rattle.world_semantics.specs.Follows.{cannot_fail, MarksDowns, marks_none, marks_one, Leads, stays, goes_on, IsRun}
 use Rattle.world_semantics.proofs.Beginning.{all-begin}
 use Rattle.world_semantics.proofs.Lists.{set-all, map-all}
 use Rattle.world_semantics.proofs.Roles.{reload-all, roles-begin}
@@ -432,7 +432,7 @@ module _ (site : Site) (fit : IsFit site) where
   }
 
   downs-fine : (n : ℕ) {node : ℕ} {w end : World} {sendings : List Sending} → n < 4294967295 → IsFine n w
-      → NotesDowns site node w sendings end → IsFine n end
+      → MarksDowns site node w sendings end → IsFine n end
   downs-fine n few is marks_none = is
   downs-fine n few is (marks_one {w = w} {next = next} processor change more) =
       downs-fine n few (more-fine n (omega arith) (change-fine n w next _ _ few is change)) more

@@ -138,4 +138,4 @@ module _ (site : Site) (fit : IsFit site) (events : List Event) (w : World) (few
   told-ended next number cause sendings (by_print one terminal told there odd known opens same) is among = absurd among
   told-ended next number cause sendings (by_stop processor runs whole) is among = absurd among
   told-ended next number cause sendings (by_mark marking processor down runs unmarked) is among = absurd (cc)
-  told-ended next number cause sendings (by_reload processor gone noted there less) is among = absurd among
+  told-ended next number cause sendings (by_reload processor gone is_marked there less) is among = absurd among

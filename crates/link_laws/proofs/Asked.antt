@@ -228,7 +228,7 @@ module _ (site : Site) (fit : IsFit site) (events : List Event) (w : World) (few
       enter-linked next words number terminal opener there even asked opens refl refl among
   sent-linked next cause sendings (by_print number terminal reply there odd known opens same) among = absurd among
   sent-linked next cause sendings (by_stop processor runs whole) among = absurd among
-  sent-linked next cause sendings (by_reload processor gone noted there less) among = absurd among
+  sent-linked next cause sendings (by_reload processor gone is_marked there less) among = absurd among
   sent-linked next cause sendings (by_mark marking processor down runs unmarked) among =
       let of = among-flat_map (told_at_down marking processor) w.processes _ among in
       absurd (told-none marking processor of.item of.within)

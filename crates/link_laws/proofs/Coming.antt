@@ -162,7 +162,7 @@ module _ (site : Site) (w : World) (node : ℕ) where
       absurd (cc)
   handed-stays events run next cause sendings (by_mark marking processor down runs unmarked) at request one is waited
       unless = absurd (cc)
-  handed-stays events run next cause sendings (by_reload processor gone noted there less) at request one is waited
+  handed-stays events run next cause sendings (by_reload processor gone is_marked there less) at request one is waited
       unless = absurd (cc)
 
   pub handed-were : (next : World) (cause : Cause) (sendings : List Sending) → Change site w cause sendings next
@@ -188,4 +188,4 @@ module _ (site : Site) (w : World) (node : ℕ) where
       absurd (cc)
   handed-were next cause sendings (by_stop processor runs whole) at request one is waited = absurd (cc)
   handed-were next cause sendings (by_mark marking processor down runs unmarked) at request one is waited = absurd (cc)
-  handed-were next cause sendings (by_reload processor gone noted there less) at request one is waited = absurd (cc)
+  handed-were next cause sendings (by_reload processor gone is_marked there less) at request one is waited = absurd (cc)

@@ -185,4 +185,4 @@ module _ (site : Site) (fit : IsFit site) (events : List Event) (w : World) (few
       (print-over next number terminal one there odd opens same refl refl)
   handed-over next cause sendings (by_stop processor runs whole) node reply is = absurd (cc)
   handed-over next cause sendings (by_mark marking processor down runs unmarked) node reply is = absurd (cc)
-  handed-over next cause sendings (by_reload processor gone noted there less) node reply is = absurd (cc)
+  handed-over next cause sendings (by_reload processor gone is_marked there less) node reply is = absurd (cc)

@@ -12,13 +12,13 @@ use Rattle.world_semantics.specs.declared.role.Role.{Role}
 use Rattle.world_semantics.specs.declared.role.Role.TheVariants.{Acting}
 use Rattle.world_semantics.specs.declared.which.Which.{Which}
 use Rattle.world_semantics.specs.declared.which.Which.TheVariants.{First, Second}
-use Rattle.world_semantics.specs.Messages.{Sending, NotingDown}
+use Rattle.world_semantics.specs.Messages.{Sending, MarkingDown}
 use Rattle.world_semantics.specs.Rules.{Change, pair_after_down, pair_at_down, taker}
 use Rattle.world_semantics.specs.Running.{Done}
 use Rattle.world_semantics.specs.World.{Pair, World, copy_of}
 use Rattle.world_semantics.proofs.Lists.{some-same}
 use Rattle.world_semantics.proofs.Roles.{taker-is}
-use Rattle.computed_changes.specs.Stopped.{mark_where, marked_where, may_note, world_at_down}
+use Rattle.computed_changes.specs.Stopped.{mark_where, marked_where, may_mark, world_at_down}
 use Rattle.computed_changes.proofs.Stopped.{mark-only}
 use Rattle.served_requests.proofs.Queues.{filter-in}
 use Rattle.node_needs.specs.NodeNeeds.{if_there, needs_at, of_copies, waiting_at}
@@ -120,7 +120,7 @@ module _ (w : World) (node processor at : ℕ) (one : Request) where
   marked-kept site = copies-kept 0 w.processes (λ j pair there. (j, there))
 
 pub mark-keeps : (site : Site) (w next : World) (node processor at : ℕ) (one : Request) (sendings : List Sending)
-    → Change site w (NotingDown node processor) sendings next → IsAmong one (needs_at site w at).waiting
+    → Change site w (MarkingDown node processor) sendings next → IsAmong one (needs_at site w at).waiting
     → IsAmong one (needs_at site next at).waiting ⊎ IsDropped w one
 mark-keeps site w next node processor at one sendings change waits =
     by (slice_get w.stopped processor) (mark-only node processor w next sendings change)
@@ -136,4 +136,4 @@ mark-keeps site w next node processor at one sendings change waits =
         → IsAmong one (needs_at site next at).waiting ⊎ IsDropped w one
     by None is = absurd (cc)
     by (Some false) is = absurd (cc)
-    by (Some true) is = where_it (may_note node processor w) is
+    by (Some true) is = where_it (may_mark node processor w) is

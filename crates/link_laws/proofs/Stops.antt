@@ -12,7 +12,7 @@ use Rattle.world_semantics.specs.Messages.{Reloading, Sending, Stopping}
 use Rattle.world_semantics.specs.Rules.{Change, new_core, blank_copy, most_reloads, reloaded_by, reloaded_from, renewed}
 use Rattle.world_semantics.specs.Rules.{stopped_copy, stopped_pair}
 use Rattle.world_semantics.specs.Running.{Done}
-use Rattle.world_semantics.specs.World.{Copy, Pair, World, is_noted_by_all, is_whole, terminal_node}
+use Rattle.world_semantics.specs.World.{Copy, Pair, World, is_marked_by_all, is_whole, terminal_node}
 use Rattle.world_semantics.proofs.Lists.{some-same}
 use Rattle.computed_changes.specs.Stopped.{reload_counted, reload_if, reload_where, reloaded_world, stop_if, stop_where}
 use Rattle.computed_changes.specs.Stopped.{stopped_world}
@@ -223,7 +223,7 @@ reload-begins {site = site} w next processor sendings change other =
     counted : (times : Option ℕ) → Is (reload_counted site processor w times)
         → needs_at site next processor ≡ nothing
     counted None is = absurd (cc)
-    counted (Some times) is = where_it times (is_noted_by_all w processor && nat_lt times most_reloads) is
+    counted (Some times) is = where_it times (is_marked_by_all w processor && nat_lt times most_reloads) is
 
     by : (found : Option Bool) → Is (reload_where site processor w found) → needs_at site next processor ≡ nothing
     by None is = absurd (cc)

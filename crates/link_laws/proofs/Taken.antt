@@ -276,4 +276,4 @@ module _ (site : Site) (events : List Event) (w : World) (run : IsRun site event
         absurd (cc)
     run-keeps-waiting next number cause sendings (by_stop processor runs whole) is waits = absurd (cc)
     run-keeps-waiting next number cause sendings (by_mark marking processor down runs unmarked) is waits = absurd (cc)
-    run-keeps-waiting next number cause sendings (by_reload processor gone noted there less) is waits = absurd (cc)
+    run-keeps-waiting next number cause sendings (by_reload processor gone is_marked there less) is waits = absurd (cc)

@@ -6,7 +6,7 @@ ghost use Rattle.gd_words.specs.declared.message.Request.{Request};
 ghost use Rattle.tal_tree.specs.declared.site.Site.{Site};
 ghost use Rattle.schedule.specs.declared.event.Event.{Event};
 ghost use Rattle.world_semantics.specs.Follows.{IsRun};
-ghost use Rattle.world_semantics.specs.Messages.{Asking, Cause, Handing, NotingDown, Replying, Running, Sending};
+ghost use Rattle.world_semantics.specs.Messages.{Asking, Cause, Handing, MarkingDown, Replying, Running, Sending};
 ghost use Rattle.world_semantics.specs.Messages.{Reloading, Stopping};
 ghost use Rattle.world_semantics.specs.Rules.{Change};
 ghost use Rattle.world_semantics.specs.World.{World, terminal_node};
@@ -79,7 +79,7 @@ pub fn a_request_that_comes_leaves_the_links_of_others()
 /// A mark leaves the links of all requests that wait, but for those that a copy drops which takes over.
 pub fn a_mark_ends_the_links_of_what_is_dropped()
     ensures { (site : Site) (w next : World) (node processor at : ℕ) (one : Request) (sendings : List Sending)
-        → Change site w (NotingDown node processor) sendings next
+        → Change site w (MarkingDown node processor) sendings next
         → IsAmong one (needs_at site w at).waiting
         → IsAmong one (needs_at site next at).waiting ⊎ IsDropped w one }
 {}

@@ -4,7 +4,7 @@ ghost use Rattle.world_semantics.specs.declared.role.Role.TheVariants.{Acting, B
 ghost use Rattle.world_semantics.specs.Messages.{Message};
 ghost use Rattle.world_semantics.specs.World.{Pair, World};
 ghost use Rattle.message_wires.specs.Examples.{end_of};
-ghost use Rattle.message_wires.specs.Idle.{all_noted, has_marked_all, is_idle, none_enters, none_owed, none_runs};
+ghost use Rattle.message_wires.specs.Idle.{all_marked, has_marked_all, is_idle, none_enters, none_owed, none_runs};
 ghost use Rattle.message_wires.specs.Idle.{none_awaits_taking};
 ghost use Rattle.machine_guards.specs.States.{awaiting_taking, between, discs_at_boot, marking, nothing_owed, standing};
 
@@ -51,10 +51,10 @@ pub fn who_has_not_marked_is_told()
     ensures lowest { (w : World) → has_marked_all (marking (true ∷ false ∷ false ∷ []) [] w) 1 ≡ false }
     ensures marked { (w : World) → has_marked_all (marking (false ∷ true ∷ false ∷ []) (0 ∷ []) w) 0 ≡ true }
     ensures stopped { (w : World) → has_marked_all (marking (false ∷ true ∷ false ∷ []) [] w) 1 ≡ true }
-    ensures all { (w : World) → all_noted (marking (false ∷ true ∷ false ∷ []) (0 ∷ 2 ∷ 16 ∷ []) w) ≡ true }
-    ensures not_the_first { (w : World) → all_noted (marking (false ∷ true ∷ false ∷ []) (2 ∷ 16 ∷ []) w) ≡ false }
-    ensures not_the_last { (w : World) → all_noted (marking (false ∷ true ∷ false ∷ []) (0 ∷ 16 ∷ []) w) ≡ false }
-    ensures not_the_terminals { (w : World) → all_noted (marking (false ∷ true ∷ false ∷ []) (0 ∷ 2 ∷ []) w) ≡ false }
+    ensures all { (w : World) → all_marked (marking (false ∷ true ∷ false ∷ []) (0 ∷ 2 ∷ 16 ∷ []) w) ≡ true }
+    ensures not_the_first { (w : World) → all_marked (marking (false ∷ true ∷ false ∷ []) (2 ∷ 16 ∷ []) w) ≡ false }
+    ensures not_the_last { (w : World) → all_marked (marking (false ∷ true ∷ false ∷ []) (0 ∷ 16 ∷ []) w) ≡ false }
+    ensures not_the_terminals { (w : World) → all_marked (marking (false ∷ true ∷ false ∷ []) (0 ∷ 2 ∷ []) w) ≡ false }
 {}
 
 /// A state is idle where none of the five is left: an entry, a run, a wait at a checkpoint, a letter that is owed, and

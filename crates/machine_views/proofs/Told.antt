@@ -94,24 +94,24 @@ among-number give x first (suc count) among =
 abbrev mark : ℕ → ℕ → DownView
 mark node processor = record { node = node; down = processor }
 
-mark-told : (downs : List world.Down) (node processor : ℕ) → world.has_noted downs node processor ≡ true
+mark-told : (downs : List world.Down) (node processor : ℕ) → world.has_marked downs node processor ≡ true
     → IsAmong (mark node processor) (down_of downs node processor)
 mark-told downs node processor is = rw is (inl refl)
 
 told-mark : (downs : List world.Down) (node processor : ℕ) (one : DownView) → IsAmong one (down_of downs node processor)
-    → (one ≡ mark node processor) × (world.has_noted downs node processor ≡ true)
-told-mark downs node processor one among = found (world.has_noted downs node processor) refl among
+    → (one ≡ mark node processor) × (world.has_marked downs node processor ≡ true)
+told-mark downs node processor one among = found (world.has_marked downs node processor) refl among
   where
-    found : (is : Bool) → world.has_noted downs node processor ≡ is
+    found : (is : Bool) → world.has_marked downs node processor ≡ is
         → IsAmong one (if is then mark node processor ∷ [] else [])
-        → (one ≡ mark node processor) × (world.has_noted downs node processor ≡ true)
+        → (one ≡ mark node processor) × (world.has_marked downs node processor ≡ true)
     found true is (inl same) = (same, is)
     found true is (inr none) = absurd none
     found false is none = absurd none
 
 -- a mark that stands, of a processor below 16 by a node below 17
 abbrev Stands : List world.Down → ℕ → ℕ → Type 0
-Stands downs node processor = (node ≤ 16) × (processor < 16) × (world.has_noted downs node processor ≡ true)
+Stands downs node processor = (node ≤ 16) × (processor < 16) × (world.has_marked downs node processor ≡ true)
 
 told-stands : (downs : List world.Down) (node processor : ℕ) → IsAmong (mark node processor) (downs_in downs)
     → Stands downs node processor
@@ -121,7 +121,7 @@ told-stands downs node processor among =
     let (same, is) = told-mark downs by of (mark node processor) here in
     let node_is : node ≡ by = ap (λ (one : DownView). one.node) same in
     let down_is : processor ≡ of = ap (λ (one : DownView). one.down) same in
-    (omega (arith, by_few, node_is), omega (arith, of_few, down_is), ap₂ (world.has_noted downs) node_is down_is ∙ is)
+    (omega (arith, by_few, node_is), omega (arith, of_few, down_is), ap₂ (world.has_marked downs) node_is down_is ∙ is)
 
 stands-told : (downs : List world.Down) (node processor : ℕ) → Stands downs node processor
     → IsAmong (mark node processor) (downs_in downs)
@@ -132,5 +132,5 @@ stands-told downs node processor (node_few, down_few, is) =
 
 pub mark-is-told : (downs : List world.Down) (node processor : ℕ)
     → (IsAmong (record { node = node; down = processor }) (downs_in downs) ↔ (node ≤ 16) × (processor < 16)
-    × (world.has_noted downs node processor ≡ true))
+    × (world.has_marked downs node processor ≡ true))
 mark-is-told downs node processor = (told-stands downs node processor, stands-told downs node processor)

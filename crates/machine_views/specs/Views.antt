@@ -12,7 +12,7 @@ use Rattle.process_semantics.specs.Process.{ProcessState, asked_file, point}
 use Rattle.site_machine.specs.processes.specs.Seen.{next_number_of}
 use Rattle.world_semantics.specs.Core.{Core, next_on}
 use Rattle.world_semantics.specs.World as world
-use Rattle.world_semantics.specs.World.{Copy, Pair, World, has_noted, is_acting, terminal_node}
+use Rattle.world_semantics.specs.World.{Copy, Pair, World, has_marked, is_acting, terminal_node}
 use Rattle.machine_views.specs.declared.views.Awaited.{Awaited}
 use Rattle.machine_views.specs.declared.views.CopyView.{CopyView}
 use Rattle.machine_views.specs.declared.views.DownView.{DownView}
@@ -46,7 +46,7 @@ acting_in pair =
 -- the mark of a processor by a node, if it stands
 abbrev pub down_of : List world.Down → ℕ → ℕ → List DownView
 down_of downs node processor =
-    if has_noted downs node processor then record { node = node; down = processor } ∷ [] else []
+    if has_marked downs node processor then record { node = node; down = processor } ∷ [] else []
 
 -- the marks by a node: a processor's number is below that of the node of the terminals
 abbrev pub downs_by : List world.Down → ℕ → List DownView

@@ -18,5 +18,5 @@ pub fn stopped_processors_are_told()
 pub fn marks_are_told()
     ensures { (downs : List world.Down) (node processor : ℕ)
         → (IsAmong (record { node = node; down = processor }) (downs_in downs)
-        ↔ (node ≤ TERMINAL_NODE) × (processor < MOST_PROCESSORS) × (world.has_noted downs node processor ≡ true)) }
+        ↔ (node ≤ TERMINAL_NODE) × (processor < MOST_PROCESSORS) × (world.has_marked downs node processor ≡ true)) }
 {}

@@ -5,7 +5,7 @@ use Rattle.std.specs.List.{list_all}
 use Rattle.tal_tree.specs.declared.site.Site.{Site}
 use Rattle.computed_changes.specs.world_semantics.specs.declared.role.Role.{Role}
 use Rattle.computed_changes.specs.world_semantics.specs.declared.role.Role.TheVariants.{Acting, Watching, Blank, Gone}
-use Rattle.computed_changes.specs.world_semantics.specs.World.{Copy, Pair, World, terminal_node, is_running, has_noted}
+use Rattle.computed_changes.specs.world_semantics.specs.World.{Copy, Pair, World, terminal_node, is_running, has_marked}
 use Rattle.computed_changes.specs.world_semantics.specs.Running.{run_done}
 use Rattle.computed_changes.specs.Entered.{enter_done}
 use Rattle.message_wires.specs.Wires.{Sent}
@@ -46,7 +46,7 @@ none_owed stopped owed =
 
 -- whether a node has marked a processor, if that has stopped
 abbrev pub has_marked_if : World → ℕ → ℕ → Option Bool → Bool
-has_marked_if w node processor (Some true) = has_noted w.downs node processor
+has_marked_if w node processor (Some true) = has_marked w.downs node processor
 has_marked_if w node processor (Some false) = true
 has_marked_if w node processor None = true
 
@@ -57,12 +57,12 @@ has_marked_all w node =
     || all_from (λ processor. has_marked_if w node processor (slice_get w.stopped processor)) 0 (length w.stopped)
 
 -- each node has, the processors and the node of the terminals
-abbrev pub all_noted : World → Bool
-all_noted w = all_from (λ node. has_marked_all w node) 0 (length w.stopped) && has_marked_all w terminal_node
+abbrev pub all_marked : World → Bool
+all_marked w = all_from (λ node. has_marked_all w node) 0 (length w.stopped) && has_marked_all w terminal_node
 
 -- nothing is left to do
 abbrev pub is_idle : MachineState → Bool
 is_idle s =
     none_enters s.site s.world
     && (none_runs s.site s.world && (none_awaits_taking s.world.processes
-    && (none_owed s.world.stopped s.wires.owed && all_noted s.world)))
+    && (none_owed s.world.stopped s.wires.owed && all_marked s.world)))

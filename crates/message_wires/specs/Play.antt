@@ -6,7 +6,7 @@ use Rattle.tal_tree.specs.declared.site.Site.{Site}
 use Rattle.schedule.specs.declared.event.Event.{Event}
 use Rattle.schedule.specs.declared.event.Event.TheVariants.{Run, Enter, Deliver, Lose, Repeat, Tick, Fail, Reload}
 use Rattle.schedule.specs.declared.event.Event.TheVariants.{Drive}
-use Rattle.computed_changes.specs.world_semantics.specs.World.{boot, is_running, has_noted}
+use Rattle.computed_changes.specs.world_semantics.specs.World.{boot, is_running, has_marked}
 use Rattle.computed_changes.specs.world_semantics.specs.Running.{Done, run_done}
 use Rattle.computed_changes.specs.Entered.{enter_done}
 use Rattle.computed_changes.specs.Handed.{handed_done}
@@ -58,7 +58,7 @@ state_after_handing packet s =
 -- whether the receiver of a letter admits it, if it isn't old: it runs, and hasn't marked the sender
 abbrev pub is_admitted : MachineState → Letter → Bool
 is_admitted s letter =
-    is_running s.world.stopped letter.receiver && not (has_noted s.world.downs letter.receiver letter.sender)
+    is_running s.world.stopped letter.receiver && not (has_marked s.world.downs letter.receiver letter.sender)
 
 abbrev pub state_after_receiving : Sent → MachineState → MachineState
 state_after_receiving packet s =
@@ -101,8 +101,8 @@ reload_played processor s (Some done) =
 
 -- the state after a node marked a processor: what was owed between both is so no more, and what the mark sends and
 -- sends again is posted
-abbrev pub after_noted : ℕ → ℕ → MachineState → Done → MachineState
-after_noted node processor s done = record s {
+abbrev pub after_marked : ℕ → ℕ → MachineState → Done → MachineState
+after_marked node processor s done = record s {
   world = done.world;
   wires =
       wires_after_posts (letters_of s.site done.world
@@ -110,15 +110,15 @@ after_noted node processor s done = record s {
       (paid_between node processor s.wires);
 }
 
-abbrev pub noted_by : ℕ → ℕ → MachineState → Option Done → MachineState
-noted_by node processor s None = s
-noted_by node processor s (Some done) = after_noted node processor s done
+abbrev pub marked_by : ℕ → ℕ → MachineState → Option Done → MachineState
+marked_by node processor s None = s
+marked_by node processor s (Some done) = after_marked node processor s done
 
 -- a node marks each of so many processors, from one on, that has stopped and isn't marked yet
-abbrev pub notes_from : ℕ → ℕ → ℕ → MachineState → MachineState
-notes_from node processor zero s = s
-notes_from node processor (suc more) s =
-    notes_from node (processor + 1) more (noted_by node processor s (down_done node processor s.world))
+abbrev pub marks_from : ℕ → ℕ → ℕ → MachineState → MachineState
+marks_from node processor zero s = s
+marks_from node processor (suc more) s =
+    marks_from node (processor + 1) more (marked_by node processor s (down_done node processor s.world))
 
 -- a tick of a node: it marks, and then puts on the bus again what it sent, that is owed and not on the bus
 abbrev pub state_after_tick : ℕ → MachineState → MachineState
@@ -127,7 +127,7 @@ state_after_tick node s = record s { wires = wires_again s.world.stopped node s.
 abbrev pub tick_played : ℕ → MachineState → Played Wires
 tick_played node s =
     if is_running s.world.stopped node then Makes
-    (state_after_tick node (notes_from node 0 (length s.world.stopped) s)) else Skips
+    (state_after_tick node (marks_from node 0 (length s.world.stopped) s)) else Skips
 
 -- Events
 

@@ -12,9 +12,10 @@ use Rattle.message_wires.specs.machine_states.specs.States.{Played, Makes, Skips
 use Rattle.message_wires.specs.machine_states.proofs.Turning.{drive-cases}
 use Rattle.message_wires.specs.Wires.{Sent, Wires, is_current, paid, without_packet}
 use Rattle.message_wires.specs.Play.{MachineState, made_by, after_any, state_after_handing, is_admitted, deliver_played}
-use Rattle.message_wires.specs.Play.{lose_played, repeat_played, notes_from, state_after_tick, tick_played, packet_at}
+use Rattle.message_wires.specs.Play.{lose_played, repeat_played, marks_from, state_after_tick, tick_played, packet_at}
 use Rattle.message_wires.specs.Play.{play, reload_played}
-use Rattle.message_wires_laws.proofs.Whole.{StaysWhole, enter-whole, handed-whole, none-noted, none-reloaded, run-whole}
+use Rattle.message_wires_laws.proofs.Whole.{StaysWhole, enter-whole, handed-whole, none-marked-in, none-reloaded}
+use Rattle.message_wires_laws.proofs.Whole.{run-whole}
 
 -- a whole world stays whole, and no processor would stop in another one
 abbrev pub KeepsWhole : MachineState → Played Wires → Type 0
@@ -55,9 +56,10 @@ module _ (s : MachineState) where
   tick-whole node = by (is_running s.world.stopped node)
     where
       by : (test : Bool) → KeepsWhole s (if test then Makes
-          (state_after_tick node (notes_from node 0 (length s.world.stopped) s)) else Skips)
+          (state_after_tick node (marks_from node 0 (length s.world.stopped) s)) else Skips)
       by true = λ whole.
-          ap (λ (end : MachineState). is_whole end.world) (none-noted node 0 (length s.world.stopped) s whole) ∙ whole
+          ap (λ (end : MachineState). is_whole end.world) (none-marked-in node 0 (length s.world.stopped) s whole)
+          ∙ whole
       by false = tt
 
   reload-whole : (processor : ℕ) → KeepsWhole s (reload_played processor s (reload_done s.site processor s.world))

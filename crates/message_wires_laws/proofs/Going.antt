@@ -11,7 +11,7 @@ use Rattle.schedule.specs.declared.event.Event.{Event}
 use Rattle.schedule.specs.declared.event.Event.TheVariants.{Run, Enter, Deliver, Lose, Repeat, Tick, Fail, Reload}
 use Rattle.schedule.specs.declared.event.Event.TheVariants.{Drive}
 use Rattle.world_semantics.specs.Running.{Done, run_done}
-use Rattle.world_semantics.specs.World.{World, boot, is_noted_by_all, is_pair_of, is_running, is_whole}
+use Rattle.world_semantics.specs.World.{World, boot, is_marked_by_all, is_pair_of, is_running, is_whole}
 use Rattle.world_semantics.proofs.Lists.{Changed, is_new, is_same, changed}
 use Rattle.world_semantics.proofs.Roles.{both-true}
 use Rattle.world_semantics.specs.Rules.{most_reloads}
@@ -26,8 +26,8 @@ use Rattle.letters.specs.Again.{sent_again}
 use Rattle.letters.specs.Routes.{Letter, letters_of}
 use Rattle.message_wires.specs.Play.{MachineState, made_by, after_any, state_after_handing, is_admitted, reload_played}
 use Rattle.message_wires.specs.Play.{deliver_played, lose_played, repeat_played, some_has_stopped, fail_played}
-use Rattle.message_wires.specs.Play.{noted_by}
-use Rattle.message_wires.specs.Play.{notes_from, state_after_tick, stop_played, tick_played, packet_at, play}
+use Rattle.message_wires.specs.Play.{marked_by}
+use Rattle.message_wires.specs.Play.{marks_from, state_after_tick, stop_played, tick_played, packet_at, play}
 use Rattle.message_wires.specs.Runs.{IsPlayed, played_none, played_more, skipped}
 use Rattle.message_wires_laws.proofs.Stopping.{StopsNone, run-none, enter-none, handed-none, mark-none}
 use Rattle.message_wires.specs.machine_states.proofs.Turning.{drive-cases}
@@ -101,7 +101,7 @@ reload-goes processor s = by (slice_get s.world.stopped processor)
     counted : (times : Option ℕ)
         → Goes s (reload_played processor s (reload_counted s.site processor s.world times))
     counted None = skips
-    counted (Some times) = may times (is_noted_by_all s.world processor && nat_lt times most_reloads)
+    counted (Some times) = may times (is_marked_by_all s.world processor && nat_lt times most_reloads)
 
     by : (stopped : Option Bool) → Goes s (reload_played processor s (reload_where s.site processor s.world stopped))
     by None = skips
@@ -109,33 +109,33 @@ reload-goes processor s = by (slice_get s.world.stopped processor)
     by (Some false) = skips
 
 pub downs-none : (node processor more : ℕ) (s : MachineState)
-    → ((notes_from node processor more s).site ≡ s.site)
-    × ((notes_from node processor more s).world.stopped ≡ s.world.stopped)
+    → ((marks_from node processor more s).site ≡ s.site)
+    × ((marks_from node processor more s).world.stopped ≡ s.world.stopped)
 downs-none node processor zero s = (refl, refl)
 downs-none node processor (suc more) s =
     by (down_done node processor s.world) (mark-none s.site s.world node processor)
     (downs-none node (processor + 1) more)
   where
     by : (done : Option Done) → StopsNone s.world done
-        → ((s : MachineState) → ((notes_from node (processor + 1) more s).site ≡ s.site)
-        × ((notes_from node (processor + 1) more s).world.stopped ≡ s.world.stopped))
-        → ((notes_from node (processor + 1) more (noted_by node processor s done)).site ≡ s.site)
-        × ((notes_from node (processor + 1) more (noted_by node processor s done)).world.stopped ≡ s.world.stopped)
+        → ((s : MachineState) → ((marks_from node (processor + 1) more s).site ≡ s.site)
+        × ((marks_from node (processor + 1) more s).world.stopped ≡ s.world.stopped))
+        → ((marks_from node (processor + 1) more (marked_by node processor s done)).site ≡ s.site)
+        × ((marks_from node (processor + 1) more (marked_by node processor s done)).world.stopped ≡ s.world.stopped)
     by None none rest = rest s
-    by (Some done) none rest = let later = rest (noted_by node processor s (Some done)) in (later.0, later.1 ∙ none)
+    by (Some done) none rest = let later = rest (marked_by node processor s (Some done)) in (later.0, later.1 ∙ none)
 
 downs-before : (node processor more : ℕ) (s : MachineState)
-    → (notes_from node processor more s).wires.before ≡ s.wires.before
+    → (marks_from node processor more s).wires.before ≡ s.wires.before
 downs-before node processor zero s = refl
 downs-before node processor (suc more) s =
     by (down_done node processor s.world) (downs-before node (processor + 1) more)
   where
     by : (done : Option Done)
-        → ((s : MachineState) → (notes_from node (processor + 1) more s).wires.before ≡ s.wires.before)
-        → (notes_from node (processor + 1) more (noted_by node processor s done)).wires.before ≡ s.wires.before
+        → ((s : MachineState) → (marks_from node (processor + 1) more s).wires.before ≡ s.wires.before)
+        → (marks_from node (processor + 1) more (marked_by node processor s done)).wires.before ≡ s.wires.before
     by None rest = rest s
     by (Some done) rest =
-        rest (noted_by node processor s (Some done))
+        rest (marked_by node processor s (Some done))
         ∙ posts-before (letters_of s.site done.world
         (done.sendings ++ sent_again s.site s.world done.world node processor)) (paid_between node processor s.wires)
 
@@ -143,7 +143,7 @@ tick-goes : (node : ℕ) (s : MachineState) → Goes s (tick_played node s)
 tick-goes node s = by (is_running s.world.stopped node)
   where
     by : (test : Bool) → Goes s (if test then Makes
-        (state_after_tick node (notes_from node 0 (length s.world.stopped) s)) else Skips)
+        (state_after_tick node (marks_from node 0 (length s.world.stopped) s)) else Skips)
     by true =
         let marked = downs-none node 0 (length s.world.stopped) s in
         stops_none marked.0 marked.1 (downs-before node 0 (length s.world.stopped) s)

@@ -16,7 +16,7 @@ use Rattle.world_semantics.specs.Follows.{IsIdleFor}
 use Rattle.world_semantics.specs.Messages.{Cause, Entering}
 use Rattle.world_semantics.specs.Rules.{Change}
 use Rattle.world_semantics.specs.Running.{Done, run_done}
-use Rattle.world_semantics.specs.World.{Pair, World, copy_of, terminal_node, runs_by, is_running, has_noted}
+use Rattle.world_semantics.specs.World.{Pair, World, copy_of, terminal_node, runs_by, is_running, has_marked}
 use Rattle.world_semantics.proofs.Members.{among-map}
 use Rattle.world_semantics.proofs.Ran.{run-may, run-idle}
 use Rattle.world_semantics.proofs.Roles.{both-true}
@@ -27,7 +27,7 @@ use Rattle.letters.specs.Idle.{IsIdle}
 use Rattle.letters.specs.Routes.{Letter}
 use Rattle.message_wires.specs.Idle.{all_from, none_enters, none_runs, awaits_taking_as, awaits_taking, none_owed}
 use Rattle.message_wires.specs.Idle.{none_awaits_taking}
-use Rattle.message_wires.specs.Idle.{has_marked_if, has_marked_all, all_noted, is_idle}
+use Rattle.message_wires.specs.Idle.{has_marked_if, has_marked_all, all_marked, is_idle}
 use Rattle.message_wires.specs.Play.{MachineState}
 use Rattle.message_wires.specs.Runs.{letters_in, post_of}
 use Rattle.message_wires.specs.Wires.{Sent}
@@ -119,7 +119,7 @@ among-letter one (first ∷ owed) (inr among) = inr (among-letter one owed among
 module _ (w : World) where
   marked-of : (node processor : ℕ) → is_running w.stopped node ≡ true → slice_get w.stopped processor ≡ Some true
       → has_marked_all w node ≡ true
-      → has_noted w.downs node processor ≡ true
+      → has_marked w.downs node processor ≡ true
   marked-of node processor runs stopped all =
       let each : all_from (λ processor. has_marked_if w node processor (slice_get w.stopped processor)) 0
       (length w.stopped) ≡ true =
@@ -130,7 +130,7 @@ module _ (w : World) where
       each processor
       (slice_get_within w.stopped processor true stopped)
 
-  marked-at : (node : ℕ) → all_noted w ≡ true → is_running w.stopped node ≡ true → has_marked_all w node ≡ true
+  marked-at : (node : ℕ) → all_marked w ≡ true → is_running w.stopped node ≡ true → has_marked_all w node ≡ true
   marked-at node all runs = by (slice_get w.stopped node) refl runs
     where
       parts : (all_from (λ node. has_marked_all w node) 0 (length w.stopped) ≡ true)
@@ -145,7 +145,7 @@ module _ (w : World) where
           (slice_get_within w.stopped node one e)
 
   downs-all : (node : ℕ) → ((processor : ℕ) → is_running w.stopped node ≡ true
-      → slice_get w.stopped processor ≡ Some true → has_noted w.downs node processor ≡ true)
+      → slice_get w.stopped processor ≡ Some true → has_marked w.downs node processor ≡ true)
       → has_marked_all w node ≡ true
   downs-all node downs = by (is_running w.stopped node) refl
     where

@@ -28,14 +28,14 @@ use Rattle.letters.specs.Again.{sent_again}
 use Rattle.letters.specs.Posts.{HasPlayed, Post, after_change, played_more, PlaysEvent, plays_run, plays_no_run}
 use Rattle.letters.specs.Posts.{plays_enter, plays_no_enter, plays_nothing, plays_hand, plays_drop, plays_again}
 use Rattle.letters.specs.Posts.{plays_loss, plays_repeat, plays_no_tick, plays_tick, plays_fail, plays_no_fail}
-use Rattle.letters.specs.Posts.{plays_reload, plays_no_reload, plays_drive, NotesLetters, no_mark, one_mark, IsTaken}
+use Rattle.letters.specs.Posts.{plays_reload, plays_no_reload, plays_drive, MarksLetters, no_mark, one_mark, IsTaken}
 use Rattle.letters.specs.Posts.{is_from_or_to, without_those_of}
 use Rattle.message_wires.specs.machine_states.specs.States.{Played, Makes, Skips, Would}
 use Rattle.message_wires.specs.Wires.{Sent, Wires, is_current, without_number, paid, paid_between, without_packet}
 use Rattle.message_wires.specs.Wires.{repeated_packet}
 use Rattle.message_wires.specs.Play.{MachineState, after_done, made_by, after_any, state_after_handing, is_admitted}
-use Rattle.message_wires.specs.Play.{deliver_played, lose_played, repeat_played, fail_played, stop_played, after_noted}
-use Rattle.message_wires.specs.Play.{noted_by, notes_from, state_after_tick, packet_at, play, reload_played}
+use Rattle.message_wires.specs.Play.{deliver_played, lose_played, repeat_played, fail_played, stop_played, after_marked}
+use Rattle.message_wires.specs.Play.{marked_by, marks_from, state_after_tick, packet_at, play, reload_played}
 use Rattle.message_wires.specs.Runs.{letters_in, post_of}
 use Rattle.message_wires_laws.specs.Carried.{AreTidy, IsCarried, IsOn}
 use Rattle.message_wires_laws.proofs.Tidy.{without-tidy, repeated-tidy, again-tidy, paid-tidy, Pays, was_owed, was_paid}
@@ -287,14 +287,14 @@ module _ (events : List Event) (s : MachineState) (sent : List Letter) (carried 
 record Marked (node : ℕ) (s end : MachineState) (sent : List Letter) : Type 0 where
   all : List Letter
   site : end.site ≡ s.site
-  makes : NotesLetters s.site node (post_of s sent) (post_of end all)
+  makes : MarksLetters s.site node (post_of s sent) (post_of end all)
   tidy : AreTidy end.wires all
   stays : (message : Message) → IsSent s.world message → IsSent end.world message
   more : (letter : Letter) → IsAmong letter sent → IsAmong letter all
   from : (one : Sent) → IsOn one end.wires → IsOn one s.wires ⊎ IsAmong one.letter all
 
 downs-on : (node processor more : ℕ) (s : MachineState) (sent : List Letter) → AreTidy s.wires sent
-    → Marked node s (notes_from node processor more s) sent
+    → Marked node s (marks_from node processor more s) sent
 downs-on node processor zero s sent tidy = record {
   all = sent;
   site = refl;
@@ -309,23 +309,23 @@ downs-on node processor (suc more) s sent tidy =
   where
     by : (done : Option Done) → down_done node processor s.world ≡ done
         → ((next : MachineState) (all : List Letter) → AreTidy next.wires all
-        → Marked node next (notes_from node (processor + 1) more next) all)
-        → Marked node s (notes_from node (processor + 1) more (noted_by node processor s done)) sent
+        → Marked node next (marks_from node (processor + 1) more next) all)
+        → Marked node s (marks_from node (processor + 1) more (marked_by node processor s done)) sent
     by None e rest = rest s sent tidy
     by (Some done) e rest =
         let letters =
         letters_of s.site done.world (done.sendings ++ sent_again s.site s.world done.world node processor) in
         let here = posted-between s sent node processor letters tidy in
-        let later = rest (after_noted node processor s done) (letters ++ sent) here.1 in
+        let later = rest (after_marked node processor s done) (letters ++ sent) here.1 in
         let change = mark-may s.site node processor s.world done e in
         record {
           all = later.all;
           site = later.site;
           makes =
               one_mark processor change
-              (subst (λ (owed : List Letter). NotesLetters s.site node
+              (subst (λ (owed : List Letter). MarksLetters s.site node
               (record { world = done.world; owed = owed; sent = letters ++ sent })
-              (post_of (notes_from node (processor + 1) more (after_noted node processor s done)) later.all)) here.0
+              (post_of (marks_from node (processor + 1) more (after_marked node processor s done)) later.all)) here.0
               later.makes);
           tidy = later.tidy;
           stays = λ message was. later.stays message (sent-stays s.world done.world _ _ change message was);
@@ -347,11 +347,11 @@ tick-on events s sent carried node were = by (is_running s.world.stopped node) r
   where
     by : (test : Bool) → is_running s.world.stopped node ≡ test
         → GoesOn (events ++ Tick node ∷ []) s sent
-        (if test then Makes (state_after_tick node (notes_from node 0 (length s.world.stopped) s)) else Skips)
+        (if test then Makes (state_after_tick node (marks_from node 0 (length s.world.stopped) s)) else Skips)
     by false e =
         record { played = played_more carried.played plays_no_tick; tidy = carried.tidy; honest = carried.honest }
     by true e =
-        let end = notes_from node 0 (length s.world.stopped) s in
+        let end = marks_from node 0 (length s.world.stopped) s in
         let marked = downs-on node 0 (length s.world.stopped) s sent carried.tidy in
         let played = played_more carried.played (plays_tick e marked.makes) in (
           marked.all,

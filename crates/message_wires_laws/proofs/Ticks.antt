@@ -8,7 +8,7 @@ use Rattle.schedule.specs.declared.event.Event.TheVariants.{Tick}
 use Rattle.world_semantics.specs.World.{is_running}
 use Rattle.message_wires.specs.machine_states.specs.States.{Played, Makes, Skips, Would}
 use Rattle.message_wires.specs.Wires.{Sent, Wires, has_room, put_on, is_sending, is_on, is_due, put_again}
-use Rattle.message_wires.specs.Play.{MachineState, notes_from, state_after_tick, play}
+use Rattle.message_wires.specs.Play.{MachineState, marks_from, state_after_tick, play}
 
 -- a packet of a sending is on a bus, or that is full
 abbrev pub IsOnUnlessFull : List Sent → ℕ → Type 0
@@ -86,8 +86,8 @@ tick-again s next node one e = subst Again e (by (is_running s.world.stopped nod
     Again (Would harm) = Unit {0}
 
     by : (test : Bool) → Again (if test then Makes
-        (state_after_tick node (notes_from node 0 (length s.world.stopped) s)) else Skips)
+        (state_after_tick node (marks_from node 0 (length s.world.stopped) s)) else Skips)
     by true =
-        let marked = notes_from node 0 (length s.world.stopped) s in
+        let marked = marks_from node 0 (length s.world.stopped) s in
         λ among sends runs. again-on marked.world.stopped node marked.wires.owed marked.wires.bus one among sends runs
     by false = tt

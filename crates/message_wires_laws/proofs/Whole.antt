@@ -29,7 +29,7 @@ use Rattle.world_semantics.specs.Running.{step_at_checkpoint}
 use Rattle.world_semantics.specs.Running.{copy_passed, own_of, own_step, renewing_step, run_done, run_pair}
 use Rattle.world_semantics.specs.Running.{sending_step, step_as, step_at, step_if, step_of, step_of_copy}
 use Rattle.world_semantics.specs.Passes.{after_sending, after_sent, after_told, checkpoint_of}
-use Rattle.world_semantics.specs.World.{Copy, Down, Pair, Terminal, World, boot, copy_of, has_noted, is_pair_of}
+use Rattle.world_semantics.specs.World.{Copy, Down, Pair, Terminal, World, boot, copy_of, has_marked, is_pair_of}
 use Rattle.world_semantics.specs.World.{is_whole, may_pass, other_of, pairs_at_boot, terminal_node, with_copy}
 use Rattle.world_semantics.proofs.Lifted.{lifted}
 use Rattle.world_semantics.proofs.Lists.{some-same}
@@ -43,7 +43,7 @@ use Rattle.computed_changes.specs.Replies.{awaits, copy_got, printed_at, printed
 use Rattle.computed_changes.specs.Replies.{reply_step_where}
 use Rattle.computed_changes.specs.Requests.{after_early_request, after_request, request_step}
 use Rattle.computed_changes.specs.Stopped.{down_done, mark_where, reload_done, reload_where}
-use Rattle.message_wires.specs.Play.{MachineState, noted_by, notes_from}
+use Rattle.message_wires.specs.Play.{MachineState, marked_by, marks_from}
 use Rattle.message_wires_laws.proofs.Going.{none-at-boot, none-stopped, whole-runs}
 
 -- Steps of a process
@@ -104,7 +104,7 @@ module _ (site : Site) (number : ℕ) (pair : Pair) (records : Records) where
     renewing-paired stands = by stands
       where
         may : StaysPaired pair (step_if
-            (not (has_noted downs (copy_of k pair).processor (copy_of (other_of k) pair).processor))
+            (not (has_marked downs (copy_of k pair).processor (copy_of (other_of k) pair).processor))
             (sending_step number k pair records))
         may = if-paired (sending_step number k pair records) (sending-paired k) _
 
@@ -358,13 +358,13 @@ module _ (site : Site) (w : World) where
       by (Some false) e = refl
       by (Some true) e = absurd (none-stopped w.stopped processor (whole-runs w whole) e)
 
-pub none-noted : (node processor more : ℕ) (s : MachineState) → is_whole s.world ≡ true
-    → notes_from node processor more s ≡ s
-none-noted node processor zero s whole = refl
-none-noted node processor (suc more) s whole =
-    ap (λ done. notes_from node (processor + 1) more (noted_by node processor s done))
+pub none-marked-in : (node processor more : ℕ) (s : MachineState) → is_whole s.world ≡ true
+    → marks_from node processor more s ≡ s
+none-marked-in node processor zero s whole = refl
+none-marked-in node processor (suc more) s whole =
+    ap (λ done. marks_from node (processor + 1) more (marked_by node processor s done))
     (none-marked s.site s.world node processor whole)
-    ∙ none-noted node (processor + 1) more s whole
+    ∙ none-marked-in node (processor + 1) more s whole
 
 -- a site begins whole
 all-paired : (site : Site) (number : ℕ) (specs : List ProcessSpec)

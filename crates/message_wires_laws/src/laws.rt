@@ -5,7 +5,7 @@ ghost use Rattle.tal_tree.specs.declared.site.Site.{Site};
 ghost use Rattle.schedule.specs.declared.event.Event.{Event};
 ghost use Rattle.schedule.specs.declared.event.Event.TheVariants.{Fail, Tick};
 ghost use Rattle.world_semantics.specs.Follows.{IsRun};
-ghost use Rattle.world_semantics.specs.World.{is_running, is_whole, has_noted};
+ghost use Rattle.world_semantics.specs.World.{is_running, is_whole, has_marked};
 ghost use Rattle.computed_changes.specs.Laws.{HasCopiesApart, IsSent};
 ghost use Rattle.letter_laws.specs.takeover_laws.specs.Fit.{IsFit};
 ghost use Rattle.letters.specs.Idle.{IsIdle, OneStops};
@@ -61,7 +61,7 @@ pub fn what_is_owed_is_put_again()
 pub fn what_has_stopped_is_marked()
     ensures { (s next : MachineState) (node processor : ℕ) → play s (Tick node) ≡ Makes next
         → slice_get next.world.stopped processor ≡ Some true
-        → has_noted next.world.downs node processor ≡ true }
+        → has_marked next.world.downs node processor ≡ true }
 {}
 
 /// Whether a state is idle is computed: it is where nothing is left to do for its post.

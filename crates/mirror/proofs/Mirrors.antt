@@ -30,26 +30,26 @@ part-written all sectors Failed sector stored there same has = record {
   count = same ∙ sym (length-set all sector stored);
   has = has ∙ ap blanks (sym (length-set all sector stored));
 }
-part-written all sectors (Reviving mark) sector stored there same has = by (nat_lt sector mark) refl
+part-written all sectors (Reviving next) sector stored there same has = by (nat_lt sector next) refl
   where
-    below : mark < length (slice_set all sector stored)
-    below = subst (λ (n : ℕ). mark < n) (sym (length-set all sector stored)) has.0
+    below : next < length (slice_set all sector stored)
+    below = subst (λ (n : ℕ). next < n) (sym (length-set all sector stored)) has.0
 
-    by : (b : Bool) → nat_lt sector mark ≡ b
+    by : (b : Bool) → nat_lt sector next ≡ b
         → Mirrors (slice_set all sector stored)
-        (if b then record { state = Reviving mark; sectors = slice_set sectors sector stored } else record
-        { state = Reviving mark; sectors = sectors })
+        (if b then record { state = Reviving next; sectors = slice_set sectors sector stored } else record
+        { state = Reviving next; sectors = sectors })
     by true is = record {
       count = length-set sectors sector stored ∙ same ∙ sym (length-set all sector stored);
       has = (
         below,
-        take-set-lt mark sectors sector stored (ltb-true sector mark is) ∙ ap (λ xs. slice_set xs sector stored) has.1
-            ∙ sym (take-set-lt mark all sector stored (ltb-true sector mark is)),
+        take-set-lt next sectors sector stored (ltb-true sector next is) ∙ ap (λ xs. slice_set xs sector stored) has.1
+            ∙ sym (take-set-lt next all sector stored (ltb-true sector next is)),
       );
     }
     by false is = record {
       count = same ∙ sym (length-set all sector stored);
-      has = (below, has.1 ∙ sym (take-set-le mark all sector stored (ltb-false sector mark is)));
+      has = (below, has.1 ∙ sym (take-set-le next all sector stored (ltb-false sector next is)));
     }
 
 -- a write leaves the state of a drive
@@ -75,7 +75,7 @@ first-written : (sector : ℕ) (stored : Stored) (state : DriveState) (sectors :
     ≡ slice_set (if is_working state then sectors else rest) sector stored
 first-written sector stored Working sectors rest after is = refl
 first-written sector stored Failed sectors rest after is = is
-first-written sector stored (Reviving mark) sectors rest after is = is
+first-written sector stored (Reviving next) sectors rest after is = is
 
 -- the content after a write
 pub content-written : (sector : ℕ) (stored : Stored) (drives : List DriveHeld)
@@ -124,7 +124,7 @@ content-changed change all (one ∷ others) zero held at idle part is =
         → (if is_working state then sectors else rest) ≡ all
     by Working sectors rest has same = has
     by Failed sectors rest has same = same
-    by (Reviving mark) sectors rest has same = same
+    by (Reviving next) sectors rest has same = same
 content-changed change all (one ∷ others) (suc drive) held at idle part is =
     by (is_working one.state) is (content-changed change all others drive held at idle part)
   where
@@ -190,28 +190,28 @@ mirror-changed change drives drive held at idle part mirror =
 -- Copying
 
 -- a drive has its part after one more sector was copied
-part-copied : (all sectors : List Stored) (mark : ℕ) → length sectors ≡ length all → HasOf all sectors (Reviving mark)
-    → Mirrors all (after_copy mark (get_or all mark blank) (record { state = Reviving mark; sectors = sectors }))
-part-copied all sectors mark same has =
+part-copied : (all sectors : List Stored) (next : ℕ) → length sectors ≡ length all → HasOf all sectors (Reviving next)
+    → Mirrors all (after_copy next (get_or all next blank) (record { state = Reviving next; sectors = sectors }))
+part-copied all sectors next same has =
     record {
-      count = length-set sectors mark (get_or all mark blank) ∙ same;
-      has = by (mark + 1 == length sectors) refl;
+      count = length-set sectors next (get_or all next blank) ∙ same;
+      has = by (next + 1 == length sectors) refl;
     }
   where
-    more : take (mark + 1) (slice_set sectors mark (get_or all mark blank)) ≡ take (mark + 1) all
-    more = take_more_set sectors mark (get_or all mark blank) (omega (arith, has.0, same))
-        ∙ ap (λ (xs : List Stored). xs ++ get_or all mark blank ∷ []) has.1
-        ∙ sym (take_more all mark blank has.0)
+    more : take (next + 1) (slice_set sectors next (get_or all next blank)) ≡ take (next + 1) all
+    more = take_more_set sectors next (get_or all next blank) (omega (arith, has.0, same))
+        ∙ ap (λ (xs : List Stored). xs ++ get_or all next blank ∷ []) has.1
+        ∙ sym (take_more all next blank has.0)
 
-    by : (b : Bool) → (mark + 1 == length sectors) ≡ b
-        → HasOf all (slice_set sectors mark (get_or all mark blank)) (if b then Working else Reviving (mark + 1))
+    by : (b : Bool) → (next + 1 == length sectors) ≡ b
+        → HasOf all (slice_set sectors next (get_or all next blank)) (if b then Working else Reviving (next + 1))
     by true is =
-        let last : mark + 1 ≡ length sectors = eqb-true (mark + 1) (length sectors) is in
-        sym (take_all (mark + 1) (slice_set sectors mark (get_or all mark blank))
-        (omega (arith, last, length-set sectors mark (get_or all mark blank)))) ∙ more
-        ∙ take_all (mark + 1) all (omega (arith, last, same))
+        let last : next + 1 ≡ length sectors = eqb-true (next + 1) (length sectors) is in
+        sym (take_all (next + 1) (slice_set sectors next (get_or all next blank))
+        (omega (arith, last, length-set sectors next (get_or all next blank)))) ∙ more
+        ∙ take_all (next + 1) all (omega (arith, last, same))
     by false is =
-        let apart : mark + 1 ≡ length sectors → ⊥ = eqb-false (mark + 1) (length sectors) is in
+        let apart : next + 1 ≡ length sectors → ⊥ = eqb-false (next + 1) (length sectors) is in
         (omega (arith, apart, same, has.0), more)
 
 pub part-at : (all : List Stored) (drives : List DriveHeld) (drive : ℕ) (held : DriveHeld)
@@ -226,28 +226,28 @@ pub record IsCopied (now : List DriveHeld) (drive : ℕ) (after : List DriveHeld
   pub kept : content after ≡ content now
   pub mirror : IsMirror after
 
-mirror-copied : (now : List DriveHeld) (drive mark : ℕ) (stored : Stored) → Reviving mark ≡ state_of now drive
-    → slice_get (content now) mark ≡ Some stored → IsMirror now
-    → IsCopied now drive (changed (after_copy mark stored) drive now)
-mirror-copied now drive mark stored reviving got mirror = by (slice_get now drive) refl reviving
+mirror-copied : (now : List DriveHeld) (drive next : ℕ) (stored : Stored) → Reviving next ≡ state_of now drive
+    → slice_get (content now) next ≡ Some stored → IsMirror now
+    → IsCopied now drive (changed (after_copy next stored) drive now)
+mirror-copied now drive next stored reviving got mirror = by (slice_get now drive) refl reviving
   where
-    same : get_or (content now) mark blank ≡ stored
-    same = get_or_from_slice_get (content now) mark stored blank got
+    same : get_or (content now) next blank ≡ stored
+    same = get_or_from_slice_get (content now) next stored blank got
 
-    by : (found : Option DriveHeld) → slice_get now drive ≡ found → Reviving mark ≡ state_in found
-        → IsCopied now drive (changed (after_copy mark stored) drive now)
+    by : (found : Option DriveHeld) → slice_get now drive ≡ found → Reviving next ≡ state_in found
+        → IsCopied now drive (changed (after_copy next stored) drive now)
     by None at is = absurd (cc)
     by (Some held) at is =
         let part : Mirrors (content now) held = part-at (content now) now drive held at mirror.parts in
-        let has : HasOf (content now) held.sectors (Reviving mark) =
+        let has : HasOf (content now) held.sectors (Reviving next) =
         subst (HasOf (content now) held.sectors) (sym is) part.has in
-        let next : Mirrors (content now) (after_copy mark stored held) =
-        subst (λ (x : Stored). Mirrors (content now) (after_copy mark x held)) same
-        (part-copied (content now) held.sectors mark part.count has) in
-        let left = mirror-changed (after_copy mark stored) now drive held at (ap is_working (sym is)) next mirror in
+        let holds : Mirrors (content now) (after_copy next stored held) =
+        subst (λ (x : Stored). Mirrors (content now) (after_copy next x held)) same
+        (part-copied (content now) held.sectors next part.count has) in
+        let left = mirror-changed (after_copy next stored) now drive held at (ap is_working (sym is)) holds mirror in
         record {
           drives = sym (ap (λ (s : DriveState). copied_by s drive now) (sym reviving)
-              ∙ ap (λ (x : Stored). changed (after_copy mark x) drive now) same);
+              ∙ ap (λ (x : Stored). changed (after_copy next x) drive now) same);
           kept = left.0;
           mirror = left.1;
         }
@@ -257,26 +257,26 @@ first-changed : (change : DriveHeld → DriveHeld) (first : DriveHeld) (second :
 first-changed change first None = refl
 first-changed change first (Some second) = refl
 
-pub first-copied : (now : List DriveHeld) (drive mark : ℕ) (stored : Stored) (sectors : List Stored) (first : DriveHeld)
+pub first-copied : (now : List DriveHeld) (drive next : ℕ) (stored : Stored) (sectors : List Stored) (first : DriveHeld)
     (second : Option DriveHeld) (after : DriveHeld) → drives_of first second ≡ now → drive ≡ 0
-    → Reviving mark ≡ state_of now drive
-    → sectors ≡ content now → slice_get sectors mark ≡ Some stored → after ≡ after_copy mark stored first
+    → Reviving next ≡ state_of now drive
+    → sectors ≡ content now → slice_get sectors next ≡ Some stored → after ≡ after_copy next stored first
     → IsMirror now → IsCopied now drive (drives_of after second)
-first-copied now drive mark stored sectors first second after view place reviving whole got is mirror =
+first-copied now drive next stored sectors first second after view place reviving whole got is mirror =
     subst (IsCopied now drive)
-    (ap₂ (λ (d : ℕ) (ds : List DriveHeld). changed (after_copy mark stored) d ds) place (sym view)
-    ∙ sym (first-changed (after_copy mark stored) first second) ∙ ap (λ (h : DriveHeld). drives_of h second) (sym is))
-    (mirror-copied now drive mark stored reviving (ap (λ (xs : List Stored). slice_get xs mark) (sym whole) ∙ got)
+    (ap₂ (λ (d : ℕ) (ds : List DriveHeld). changed (after_copy next stored) d ds) place (sym view)
+    ∙ sym (first-changed (after_copy next stored) first second) ∙ ap (λ (h : DriveHeld). drives_of h second) (sym is))
+    (mirror-copied now drive next stored reviving (ap (λ (xs : List Stored). slice_get xs next) (sym whole) ∙ got)
     mirror)
 
-pub second-copied : (now : List DriveHeld) (drive mark : ℕ) (stored : Stored) (sectors : List Stored)
+pub second-copied : (now : List DriveHeld) (drive next : ℕ) (stored : Stored) (sectors : List Stored)
     (first second after : DriveHeld) → first ∷ second ∷ [] ≡ now → drive ≡ 1
-    → Reviving mark ≡ state_of now drive
-    → sectors ≡ content now → slice_get sectors mark ≡ Some stored → after ≡ after_copy mark stored second
+    → Reviving next ≡ state_of now drive
+    → sectors ≡ content now → slice_get sectors next ≡ Some stored → after ≡ after_copy next stored second
     → IsMirror now → IsCopied now drive (first ∷ after ∷ [])
-second-copied now drive mark stored sectors first second after view place reviving whole got is mirror =
+second-copied now drive next stored sectors first second after view place reviving whole got is mirror =
     subst (IsCopied now drive)
-    (ap₂ (λ (d : ℕ) (ds : List DriveHeld). changed (after_copy mark stored) d ds) place (sym view)
+    (ap₂ (λ (d : ℕ) (ds : List DriveHeld). changed (after_copy next stored) d ds) place (sym view)
     ∙ ap (λ (h : DriveHeld). first ∷ h ∷ []) (sym is))
-    (mirror-copied now drive mark stored reviving (ap (λ (xs : List Stored). slice_get xs mark) (sym whole) ∙ got)
+    (mirror-copied now drive next stored reviving (ap (λ (xs : List Stored). slice_get xs next) (sym whole) ∙ got)
     mirror)

@@ -85,7 +85,7 @@ states-copied drive drives mirror =
         ≡ states_copied_by s (length (content drives)) drive (states_of drives)
     by Working = refl
     by Failed = refl
-    by (Reviving mark) =
-        states-changed (after_copy mark (get_or (content drives) mark blank))
-        (state_at (mark + 1) (length (content drives))) drives drive
-        (λ held at. ap (state_at (mark + 1)) (part-at (content drives) drives drive held at mirror.parts).count)
+    by (Reviving next) =
+        states-changed (after_copy next (get_or (content drives) next blank))
+        (state_at (next + 1) (length (content drives))) drives drive
+        (λ held at. ap (state_at (next + 1)) (part-at (content drives) drives drive held at mirror.parts).count)

@@ -29,11 +29,11 @@ content [] = []
 content (held ∷ others) = if is_working held.state then held.sectors else content others
 
 -- what a drive has of a content, by how it stands: all of it where it works, nothing where it failed, and the sectors
--- below the mark while it is revived
+-- below the next sector while it is revived
 abbrev pub HasOf : List Stored → List Stored → DriveState → Type 0
 HasOf all sectors Working = sectors ≡ all
 HasOf all sectors Failed = sectors ≡ blanks (length all)
-HasOf all sectors (Reviving mark) = (mark < length all) × (take mark sectors ≡ take mark all)
+HasOf all sectors (Reviving next) = (next < length all) × (take next sectors ≡ take next all)
 
 -- what a drive is to a content: it has as many sectors, and what its state says
 pub record Mirrors (all : List Stored) (held : DriveHeld) : Type 0 where
@@ -96,7 +96,7 @@ all_working first second = drives_of (working first) (option_map working second)
 abbrev pub takes_write : ℕ → DriveState → Bool
 takes_write sector Working = true
 takes_write sector Failed = false
-takes_write sector (Reviving mark) = nat_lt sector mark
+takes_write sector (Reviving next) = nat_lt sector next
 
 -- a drive after a write that is done
 abbrev pub after_write : ℕ → Stored → DriveHeld → DriveHeld
@@ -120,7 +120,7 @@ after_fail held = record { state = Failed; sectors = blanks (length held.sectors
 abbrev pub failing_by : DriveState → DriveState → Failing
 failing_by Failed other = AlreadyFailed
 failing_by Working other = if is_working other then Done else LastOne
-failing_by (Reviving mark) other = if is_working other then Done else LastOne
+failing_by (Reviving next) other = if is_working other then Done else LastOne
 
 -- the other of two drives
 abbrev pub other_than : ℕ → ℕ
@@ -151,24 +151,24 @@ revived drive drives = if is_failed (state_of drives drive) then changed after_r
 -- Copying
 
 abbrev pub is_reviving : DriveState → Bool
-is_reviving (Reviving mark) = true
+is_reviving (Reviving next) = true
 is_reviving _ = false
 
--- the state after the sectors below a mark were copied, of so many
+-- the state after the sectors below the next one were copied, of so many
 abbrev pub state_at : ℕ → ℕ → DriveState
-state_at mark count = if mark == count then Working else Reviving mark
+state_at next count = if next == count then Working else Reviving next
 
--- a drive after the sector at its mark was copied
+-- a drive after its next sector was copied
 abbrev pub after_copy : ℕ → Stored → DriveHeld → DriveHeld
-after_copy mark stored held =
-    record { state = state_at (mark + 1) (length held.sectors); sectors = slice_set held.sectors mark stored }
+after_copy next stored held =
+    record { state = state_at (next + 1) (length held.sectors); sectors = slice_set held.sectors next stored }
 
 abbrev pub copied_by : DriveState → ℕ → List DriveHeld → List DriveHeld
-copied_by (Reviving mark) drive drives =
-    changed (after_copy mark (get_or (content drives) mark blank)) drive drives
+copied_by (Reviving next) drive drives =
+    changed (after_copy next (get_or (content drives) next blank)) drive drives
 copied_by Working drive drives = drives
 copied_by Failed drive drives = drives
 
--- the drives after the sector at the mark of one that is revived was put on it as the content has it
+-- the drives after the next sector of one that is revived was put on it as the content has it
 abbrev pub copied : ℕ → List DriveHeld → List DriveHeld
 copied drive drives = copied_by (state_of drives drive) drive drives

@@ -37,10 +37,10 @@ abbrev pub states_revived : ℕ → List DriveState → List DriveState
 states_revived drive states = states_revived_by (is_failed (standing states drive)) drive states
 
 abbrev pub states_copied_by : DriveState → ℕ → ℕ → List DriveState → List DriveState
-states_copied_by (Reviving mark) count drive states = slice_set states drive (state_at (mark + 1) count)
+states_copied_by (Reviving next) count drive states = slice_set states drive (state_at (next + 1) count)
 states_copied_by Working count drive states = states
 states_copied_by Failed count drive states = states
 
--- how they stand after the sector at the mark of one that is revived was copied, of so many sectors
+-- how they stand after the next sector of one that is revived was copied, of so many sectors
 abbrev pub states_copied : ℕ → ℕ → List DriveState → List DriveState
 states_copied count drive states = states_copied_by (standing states drive) count drive states

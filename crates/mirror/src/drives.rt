@@ -140,8 +140,8 @@ impl<D: Drive> Drives<D> {
         self.working().get(sector).number
     }
 
-    /// Writes a sector under a number on each drive that works, and on one that is revived where its mark has passed
-    /// the sector. It tells whether this is a new write: one whose number stands there was done already.
+    /// Writes a sector under a number on each drive that works, and on one that is revived if its next
+    /// sector is a later one. It tells whether this is a new write: one whose number stands there was done already.
     pub fn write(&mut self, sector: u8, words: &Sector, number: u32) -> bool
         requires { sector < length (content self.old) }
         ensures drives { self.new ≡ written self.old sector words.now number }
@@ -200,7 +200,7 @@ impl<D: Drive> Drives<D> {
         true
     }
 
-    /// Copies the sector at the mark of a drive that is revived, and tells whether it is. After the last one it works.
+    /// Copies the next sector of a drive that is revived, and tells whether it is. After the last one it works.
     pub fn copy(&mut self, drive: u8) -> bool
         requires two { length self.old ≡ 2 }
         requires there { drive < 2 }
@@ -209,14 +209,14 @@ impl<D: Drive> Drives<D> {
         ensures content { content self.new ≡ content self.old }
         ensures mirror { IsMirror self.old }
     {
-        let DriveState::Reviving(mark) = self.state(drive) else {
+        let DriveState::Reviving(next) = self.state(drive) else {
             return false;
         };
-        let stored = self.working().get(mark);
+        let stored = self.working().get(next);
         if drive == 0 {
-            self.first.copy(mark, &stored);
+            self.first.copy(next, &stored);
         } else if let Some(second) = &mut self.second {
-            second.copy(mark, &stored);
+            second.copy(next, &stored);
         }
         true
     }

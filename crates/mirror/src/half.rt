@@ -45,7 +45,7 @@ impl<D: Drive> Half<D> {
         &self.drive
     }
 
-    /// Writes on it where it works, or is revived and its mark has passed the sector.
+    /// Writes on it where it works, or is revived and its next sector is a later one.
     pub fn write(&mut self, sector: u8, stored: &Stored)
         requires { sector < length self.old.sectors }
         ensures { self.new ≡ after_write sector stored.now self.old }
@@ -53,8 +53,8 @@ impl<D: Drive> Half<D> {
         match self.state {
             DriveState::Working => self.drive.put(sector, stored),
             DriveState::Failed => {}
-            DriveState::Reviving(mark) => {
-                if sector < mark {
+            DriveState::Reviving(next) => {
+                if sector < next {
                     self.drive.put(sector, stored);
                 }
             }
@@ -77,18 +77,18 @@ impl<D: Drive> Half<D> {
         self.state = DriveState::Reviving(0);
     }
 
-    /// The sector at its mark is copied; after the last one it works.
-    pub fn copy(&mut self, mark: u8, stored: &Stored)
-        requires { mark < length self.old.sectors }
-        ensures { self.new ≡ after_copy mark stored.now self.old }
+    /// Its next sector is copied; after the last one it works.
+    pub fn copy(&mut self, next: u8, stored: &Stored)
+        requires { next < length self.old.sectors }
+        ensures { self.new ≡ after_copy next stored.now self.old }
     {
         let count = self.drive.count();
-        self.drive.put(mark, stored);
-        let next = mark + 1;
-        self.state = if next == count {
+        self.drive.put(next, stored);
+        let after = next + 1;
+        self.state = if after == count {
             DriveState::Working
         } else {
-            DriveState::Reviving(next)
+            DriveState::Reviving(after)
         };
     }
 }

@@ -3,7 +3,7 @@
 //!
 //! Below stands `gd_words` with the words of a sector. The layer above uses that what `Drives` reads and writes is one
 //! content, which no failing, reviving or copying changes, and that `drive` lends a drive which itself holds it: all of
-//! it while it works, and what stands below its mark while it is revived.
+//! it while it works, and what stands below its next sector while it is revived.
 #![tactic(auto)]
 
 pub mod drive;

@@ -5,7 +5,7 @@ pub enum DriveState {
     Working,
     /// It has nothing.
     Failed,
-    /// A new drive, which has all that was written on the sectors below this mark.
+    /// A new drive, which has all that was written on the sectors below this one.
     Reviving(u8),
 }
 

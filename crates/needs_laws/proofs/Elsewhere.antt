@@ -15,7 +15,7 @@ use Rattle.plain_semantics.specs.Machine.{next_request}
 use Rattle.world_semantics.specs.declared.which.Which.{Which}
 use Rattle.world_semantics.specs.declared.which.Which.TheVariants.{First, Second}
 use Rattle.world_semantics.specs.Core.{Core}
-use Rattle.world_semantics.specs.World.{Copy, Pair, Terminal, World, copy_of, is_noted_by_all, is_whole, terminal_node}
+use Rattle.world_semantics.specs.World.{Copy, Pair, Terminal, World, copy_of, is_marked_by_all, is_whole, terminal_node}
 use Rattle.world_semantics.specs.Messages.{Message, Asking, Replying, Checkpointing, Taking}
 use Rattle.world_semantics.specs.Records.{records_of}
 use Rattle.world_semantics.specs.Rules.{new_core, most_reloads, pair_at_down, reloaded_at, reloaded_by, reloaded_from}
@@ -26,7 +26,7 @@ use Rattle.world_semantics.proofs.Roles.{reload-all}
 use Rattle.computed_changes.specs.Entered.{enter_done, enter_at, enter_where, enter_to, entered_done}
 use Rattle.computed_changes.specs.Handed.{brought_to, handed_done, replied_done, step_on}
 use Rattle.computed_changes.specs.Replies.{awaits_at, printed_at, printed_done, printed_where}
-use Rattle.computed_changes.specs.Stopped.{down_done, mark_where, marked_where, may_note, stop_done, stop_where}
+use Rattle.computed_changes.specs.Stopped.{down_done, mark_where, marked_where, may_mark, stop_done, stop_where}
 use Rattle.computed_changes.specs.Stopped.{reload_counted, reload_done, reload_if, reload_where, reloaded_world}
 use Rattle.computed_changes.specs.Stopped.{stop_if, stopped_world, world_at_down}
 use Rattle.packet_places.specs.Places.{KeepsItsOwn}
@@ -258,7 +258,7 @@ marked-elsewhere site w node processor x done made differs = by (slice_get w.sto
         → needs_at site done.world x ≡ needs_at site w x
     by None is = absurd (cc)
     by (Some false) is = absurd (cc)
-    by (Some true) is = where_it (may_note node processor w) is
+    by (Some true) is = where_it (may_mark node processor w) is
 
 -- Stops
 
@@ -370,7 +370,7 @@ reloaded-elsewhere site w processor x done made differs = by (slice_get w.stoppe
     counted : (times : Option ℕ) → reload_counted site processor w times ≡ Some done
         → needs_at site done.world x ≡ needs_at site w x
     counted None is = absurd (cc)
-    counted (Some times) is = where_it times (is_noted_by_all w processor && nat_lt times most_reloads) is
+    counted (Some times) is = where_it times (is_marked_by_all w processor && nat_lt times most_reloads) is
 
     by : (found : Option Bool) → reload_where site processor w found ≡ Some done
         → needs_at site done.world x ≡ needs_at site w x

@@ -14,7 +14,7 @@ use Rattle.world_semantics.specs.declared.role.Role.TheVariants.{Acting, Watchin
 use Rattle.world_semantics.specs.declared.which.Which.{Which}
 use Rattle.world_semantics.specs.declared.which.Which.TheVariants.{First, Second}
 use Rattle.world_semantics.specs.Core.{Core}
-use Rattle.world_semantics.specs.World.{Down, Pair, copy_of, has_noted, may_pass, other_of, with_copy}
+use Rattle.world_semantics.specs.World.{Down, Pair, copy_of, has_marked, may_pass, other_of, with_copy}
 use Rattle.world_semantics.specs.Messages.{Message, Asking, Replying, Checkpointing, Taking}
 use Rattle.world_semantics.specs.Records.{Records}
 use Rattle.world_semantics.specs.Kept.{own_acts}
@@ -83,11 +83,12 @@ module _ (site : Site) (number : ℕ) (pair : Pair) (downs : List Down) (records
   if-home true step home = home
   if-home false step home = tt
 
-  everything-home : (k : Which) (noted : Bool) → StepsHome pair (step_if noted (sending_step number k pair records))
-  everything-home k noted = if-home noted (sending_step number k pair records) (sent-home k)
+  everything-home : (k : Which) (is_marked : Bool)
+      → StepsHome pair (step_if is_marked (sending_step number k pair records))
+  everything-home k is_marked = if-home is_marked (sending_step number k pair records) (sent-home k)
 
   abbrev unmarked : Which → Bool
-  unmarked k = not (has_noted downs (copy_of k pair).processor (copy_of (other_of k) pair).processor)
+  unmarked k = not (has_marked downs (copy_of k pair).processor (copy_of (other_of k) pair).processor)
 
   renewed-home : (k : Which) (stands : Point) → StepsHome pair (renewing_step number k pair downs records stands)
   renewed-home k point.Await = tt

@@ -1,6 +1,6 @@
 ghost use Rattle.std.specs.Prelude.{◌≡◌, ◌==◌, ◌&&◌, [], ◌∷◌, OnOk};
 ghost use Rattle.kept_acts.specs.world_semantics.specs.Rules.{without_downs};
-ghost use Rattle.kept_acts.specs.world_semantics.specs.World.{has_noted};
+ghost use Rattle.kept_acts.specs.world_semantics.specs.World.{has_marked};
 
 use gd_words::NoMemory;
 use std::alloc::Global;
@@ -8,12 +8,12 @@ use std::marker::Model;
 
 /// A node has marked a processor as stopped.
 #[derive(Clone, Copy, PartialEq, Eq)]
-pub struct NotedDown {
+pub struct MarkedDown {
     node: u8,
     down: u8,
 }
 
-impl Model for NotedDown {
+impl Model for MarkedDown {
     ghost use Rattle.kept_acts.specs.world_semantics.specs.World as world;
 
     ghost Value = { world.Down };
@@ -23,7 +23,7 @@ impl Model for NotedDown {
     ghost inverse = { λ mark. record { node = mark.node; down = mark.down } };
 }
 
-impl NotedDown {
+impl MarkedDown {
     fn is(&self, node: usize, down: usize) -> bool
         ensures { result ≡ ((self.now.node == node) && (self.now.down == down)) }
     {
@@ -34,7 +34,7 @@ impl NotedDown {
 /// The marks of all nodes, the newest first: of one processor, at most as many as nodes.
 #[derive(Drop)]
 pub struct Downs {
-    items: Vec<NotedDown>,
+    items: Vec<MarkedDown>,
 }
 
 impl Model for Downs {
@@ -58,14 +58,14 @@ impl Downs {
 
     /// Whether a node has marked a processor.
     pub fn has(&self, node: u8, down: u8) -> bool
-        ensures { result ≡ has_noted self.now node down }
+        ensures { result ≡ has_marked self.now node down }
     {
         self.has_at(usize::from(node), usize::from(down))
     }
 
     /// Whether the node at a place has marked the processor at a place.
     pub fn has_at(&self, node: usize, down: usize) -> bool
-        ensures { result ≡ has_noted self.now node down }
+        ensures { result ≡ has_marked self.now node down }
     {
         has_marked(self.items.as_slice(), node, down)
     }
@@ -74,7 +74,7 @@ impl Downs {
     pub fn add(&mut self, node: u8, down: u8) -> Result<(), NoMemory>
         ensures { OnOk result (self.new ≡ record { node = node; down = down } ∷ self.old) }
     {
-        self.items.insert(0, NotedDown { node, down })?;
+        self.items.insert(0, MarkedDown { node, down })?;
         Ok(())
     }
 
@@ -86,8 +86,8 @@ impl Downs {
     }
 }
 
-fn has_marked(downs: &[NotedDown], node: usize, down: usize) -> bool
-    ensures { result ≡ has_noted downs.now node down }
+fn has_marked(downs: &[MarkedDown], node: usize, down: usize) -> bool
+    ensures { result ≡ has_marked downs.now node down }
 {
     downs.iter().any(|mark| mark.is(node, down))
 }

@@ -13,10 +13,10 @@ use Rattle.schedule.specs.declared.event.Event.TheVariants.{Run, Enter, Deliver,
 use Rattle.schedule.specs.declared.event.Event.TheVariants.{Drive}
 use Rattle.world_semantics.specs.Rules.{pair_at_down}
 use Rattle.world_semantics.specs.Running.{Done}
-use Rattle.world_semantics.specs.World.{World, has_noted, is_running, pairs_at_boot, runs_by, terminal_node}
+use Rattle.world_semantics.specs.World.{World, has_marked, is_running, pairs_at_boot, runs_by, terminal_node}
 use Rattle.world_semantics.proofs.Roles.{both-true}
 use Rattle.computed_changes.specs.Handed.{handed_done}
-use Rattle.computed_changes.specs.Stopped.{world_at_down, may_note, marked_where, mark_where, down_done, reload_done}
+use Rattle.computed_changes.specs.Stopped.{world_at_down, may_mark, marked_where, mark_where, down_done, reload_done}
 use Rattle.message_wires.specs.letters.specs.Routes.{Letter, letters_of}
 use Rattle.message_wires.specs.letters.specs.Again.{sent_again}
 use Rattle.message_wires.specs.machine_states.specs.States.{Played, Makes, Skips, Would}
@@ -27,7 +27,7 @@ use Rattle.message_wires.specs.Play.{MachineState, machine_at_boot, after_done, 
 use Rattle.message_wires.specs.Play.{state_after_handing}
 use Rattle.message_wires.specs.Play.{is_admitted, deliver_played, lose_played, repeat_played}
 use Rattle.message_wires.specs.Play.{stop_played, fail_played}
-use Rattle.message_wires.specs.Play.{reload_played, noted_by, notes_from, state_after_tick}
+use Rattle.message_wires.specs.Play.{reload_played, marked_by, marks_from, state_after_tick}
 use Rattle.message_wires.specs.Play.{tick_played, packet_at}
 use Rattle.message_wires.specs.Play.{play}
 use Rattle.message_wires.specs.Runs.{IsPlayed, played_none, played_more, skipped}
@@ -48,7 +48,7 @@ posted-count (letter ∷ letters) wires =
 
 -- a mark only adds to the count
 pub marked-grows : (node processor : ℕ) (s : MachineState) (done : Option Done)
-    → s.wires.count ≤ (noted_by node processor s done).wires.count
+    → s.wires.count ≤ (marked_by node processor s done).wires.count
 marked-grows node processor s None = omega arith
 marked-grows node processor s (Some done) =
     let wires_after_post = posted-count (letters_of s.site done.world
@@ -56,11 +56,11 @@ marked-grows node processor s (Some done) =
     omega (arith, wires_after_post)
 
 pub downs-grow : (node processor left : ℕ) (s : MachineState)
-    → s.wires.count ≤ (notes_from node processor left s).wires.count
+    → s.wires.count ≤ (marks_from node processor left s).wires.count
 downs-grow node processor zero s = omega arith
 downs-grow node processor (suc left) s =
     let one = marked-grows node processor s (down_done node processor s.world) in
-    let rest = downs-grow node (processor + 1) left (noted_by node processor s (down_done node processor s.world)) in
+    let rest = downs-grow node (processor + 1) left (marked_by node processor s (down_done node processor s.world)) in
     omega (arith, one, rest)
 
 -- the world is of a size within the limits
@@ -197,16 +197,16 @@ not-marked false is = refl
 module _ (n before : ℕ) (less : before < n) (kinds : ℕ → Bool) (low : n ≤ 4294967295) where
   mark-counted : (node processor : ℕ) (s : MachineState) → WholeWithin n kinds s
       → WatchersWithin before s.world.processes → Counted n s
-      → Counted n (noted_by node processor s (down_done node processor s.world))
+      → Counted n (marked_by node processor s (down_done node processor s.world))
   mark-counted node processor s within watchers is =
       by (slice_get s.world.stopped processor) refl
       (mark-within n kinds s.world within.0 before node processor less watchers)
     where
-      downs : may_note node processor s.world ≡ true → slice_get s.world.stopped processor ≡ Some true
+      downs : may_mark node processor s.world ≡ true → slice_get s.world.stopped processor ≡ Some true
           → AnyWithin n kinds (Some (world_at_down node processor s.world))
-          → Counted n (noted_by node processor s (Some (world_at_down node processor s.world)))
+          → Counted n (marked_by node processor s (Some (world_at_down node processor s.world)))
       downs may there done =
-          let both = both-true (is_running s.world.stopped node) (not (has_noted s.world.downs node processor)) may in
+          let both = both-true (is_running s.world.stopped node) (not (has_marked s.world.downs node processor)) may in
           let node_low = running-low s.world.stopped node is.small.stopped both.0 in
           let down = there-low s.world.stopped processor true there in
           let few = is.small.stopped in
@@ -236,22 +236,22 @@ module _ (n before : ℕ) (less : before < n) (kinds : ℕ → Bool) (low : n �
             count = omega (arith, left, letters, fewer, wires_after_post, was);
           }
 
-      where_may : (test : Bool) → may_note node processor s.world ≡ test
+      where_may : (test : Bool) → may_mark node processor s.world ≡ test
           → slice_get s.world.stopped processor ≡ Some true
           → AnyWithin n kinds (marked_where node processor s.world test)
-          → Counted n (noted_by node processor s (marked_where node processor s.world test))
+          → Counted n (marked_by node processor s (marked_where node processor s.world test))
       where_may true may there done = downs may there done
       where_may false may there done = is
 
       by : (stopped : Option Bool) → slice_get s.world.stopped processor ≡ stopped
           → AnyWithin n kinds (mark_where node processor s.world stopped)
-          → Counted n (noted_by node processor s (mark_where node processor s.world stopped))
+          → Counted n (marked_by node processor s (mark_where node processor s.world stopped))
       by None there done = is
       by (Some false) there done = is
-      by (Some true) there done = where_may (may_note node processor s.world) refl there done
+      by (Some true) there done = where_may (may_mark node processor s.world) refl there done
 
   downs-counted : (node processor left : ℕ) (s : MachineState) → WholeWithin n kinds s
-      → WatchersWithin before s.world.processes → Counted n s → Counted n (notes_from node processor left s)
+      → WatchersWithin before s.world.processes → Counted n s → Counted n (marks_from node processor left s)
   downs-counted node processor zero s within watchers is = is
   downs-counted node processor (suc left) s within watchers is =
       downs-counted node (processor + 1) left _
@@ -266,8 +266,8 @@ module _ (n before : ℕ) (less : before < n) (kinds : ℕ → Bool) (low : n �
   tick-counted node s within watchers is = by (is_running s.world.stopped node)
     where
       by : (test : Bool) → CountedPlayed n (if test then Makes
-          (state_after_tick node (notes_from node 0 (length s.world.stopped) s)) else Skips)
-      by true = counted-wires n (notes_from node 0 (length s.world.stopped) s) _ refl
+          (state_after_tick node (marks_from node 0 (length s.world.stopped) s)) else Skips)
+      by true = counted-wires n (marks_from node 0 (length s.world.stopped) s) _ refl
           (downs-counted node 0 (length s.world.stopped) s within watchers is)
       by false = tt
 

@@ -354,12 +354,12 @@ module _ (n : ℕ) (kinds : ℕ → Bool) (w : World) (within : WorldWithin n ki
         ≤ n + 1
     behind-acts First applied =
         let all =
-            held-set w.processes number pair (after_applying_behind number First message applied w.kept pair) there in
+        held-set w.processes number pair (after_applying_behind number First message applied w.kept pair) there in
         let acts = within.acts in
         omega (arith, all, acts)
     behind-acts Second applied =
         let all =
-            held-set w.processes number pair (after_applying_behind number Second message applied w.kept pair) there in
+        held-set w.processes number pair (after_applying_behind number Second message applied w.kept pair) there in
         let acts = within.acts in
         omega (arith, all, acts)
 

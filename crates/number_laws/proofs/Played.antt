@@ -30,7 +30,7 @@ use Rattle.message_wires.specs.Play.{MachineState, machine_at_boot, after_done, 
 use Rattle.message_wires.specs.Play.{state_after_handing}
 use Rattle.message_wires.specs.Play.{is_admitted, deliver_played, lose_played, repeat_played}
 use Rattle.message_wires.specs.Play.{stop_played, fail_played}
-use Rattle.message_wires.specs.Play.{reload_played, noted_by, notes_from, state_after_tick}
+use Rattle.message_wires.specs.Play.{reload_played, marked_by, marks_from, state_after_tick}
 use Rattle.message_wires.specs.Play.{tick_played, packet_at}
 use Rattle.message_wires.specs.Play.{play}
 use Rattle.message_wires.specs.Runs.{IsPlayed, played_none, played_more, skipped}
@@ -136,7 +136,7 @@ module _ (n : ℕ) (kinds : ℕ → Bool) where
   any-within s (Some done) within is = done-within s done within is
 
   pub marked-within : (node processor : ℕ) (s : MachineState) (done : Option Done) → WholeWithin n kinds s
-      → AnyWithin n kinds done → WholeWithin n kinds (noted_by node processor s done)
+      → AnyWithin n kinds done → WholeWithin n kinds (marked_by node processor s done)
   marked-within node processor s None within is = within
   marked-within node processor s (Some done) within is = (
     is.world,
@@ -149,13 +149,13 @@ module _ (n : ℕ) (kinds : ℕ → Bool) where
 
   pub marked-watchers : (before node processor : ℕ) (s : MachineState) (done : Option Done)
       → WatchersWithin before s.world.processes → AnyWatchersWithin before done
-      → WatchersWithin before (noted_by node processor s done).world.processes
+      → WatchersWithin before (marked_by node processor s done).world.processes
   marked-watchers before node processor s None watchers is = watchers
   marked-watchers before node processor s (Some done) watchers is = is
 
   -- where the eras of copies that watch have room: a copy takes over once
   downs-within : (before node processor left : ℕ) (s : MachineState) → before < n → WholeWithin n kinds s
-      → WatchersWithin before s.world.processes → WholeWithin n kinds (notes_from node processor left s)
+      → WatchersWithin before s.world.processes → WholeWithin n kinds (marks_from node processor left s)
   downs-within before node processor zero s less within watchers = within
   downs-within before node processor (suc left) s less within watchers =
       downs-within before node (processor + 1) left _ less
@@ -169,10 +169,10 @@ module _ (n : ℕ) (kinds : ℕ → Bool) where
   tick-within before node s less within watchers = by (is_running s.world.stopped node)
     where
       by : (test : Bool) → PlayedWithin n kinds
-          (if test then Makes (state_after_tick node (notes_from node 0 (length s.world.stopped) s)) else Skips)
+          (if test then Makes (state_after_tick node (marks_from node 0 (length s.world.stopped) s)) else Skips)
       by true =
           let marked = downs-within before node 0 (length s.world.stopped) s less within watchers in
-          let after = notes_from node 0 (length s.world.stopped) s in (
+          let after = marks_from node 0 (length s.world.stopped) s in (
             marked.0,
             (
               again-put n kinds after.world.stopped node after.wires.owed after.wires.bus marked.1.1

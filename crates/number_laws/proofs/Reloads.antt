@@ -9,7 +9,7 @@ use Rattle.process_semantics.specs.Process.{start_of}
 use Rattle.world_semantics.specs.Core.{Core}
 use Rattle.world_semantics.specs.Rules.{new_core, most_reloads, reloaded_by, reloaded_from}
 use Rattle.world_semantics.specs.Running.{Done}
-use Rattle.world_semantics.specs.World.{Pair, World, is_noted_by_all}
+use Rattle.world_semantics.specs.World.{Pair, World, is_marked_by_all}
 use Rattle.world_semantics.proofs.Roles.{both-true, reload-all}
 use Rattle.computed_changes.specs.Stopped.{reload_counted, reload_done, reload_if, reload_where, reloaded_world}
 use Rattle.number_laws.proofs.Boot.{boot-core}
@@ -33,17 +33,17 @@ pub reload-cases : (P : Option Done → Type 0) (site : Site) (processor : ℕ) 
 reload-cases P site processor w none some = by (slice_get w.stopped processor)
   where
     loaded : (times : ℕ) → slice_get w.reloads processor ≡ Some times → (may : Bool)
-        → (is_noted_by_all w processor && nat_lt times most_reloads) ≡ may → P (reload_if site processor times w may)
+        → (is_marked_by_all w processor && nat_lt times most_reloads) ≡ may → P (reload_if site processor times w may)
     loaded times there false may = none
     loaded times there true may =
-        let both = both-true (is_noted_by_all w processor) (nat_lt times most_reloads) may in
+        let both = both-true (is_marked_by_all w processor) (nat_lt times most_reloads) may in
         some times (record { there = there; few = ltb-true times most_reloads both.1 })
 
     counted : (times : Option ℕ) → slice_get w.reloads processor ≡ times
         → P (reload_counted site processor w times)
     counted None there = none
     counted (Some times) there =
-        loaded times there (is_noted_by_all w processor && nat_lt times most_reloads) refl
+        loaded times there (is_marked_by_all w processor && nat_lt times most_reloads) refl
 
     by : (stopped : Option Bool) → P (reload_where site processor w stopped)
     by None = none

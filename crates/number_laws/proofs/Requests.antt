@@ -24,7 +24,7 @@ use Rattle.message_wires.specs.Play.{MachineState, after_done, made_by, after_an
 use Rattle.message_wires.specs.Play.{state_after_handing, is_admitted}
 use Rattle.message_wires.specs.Play.{deliver_played, lose_played, repeat_played, stop_played}
 use Rattle.message_wires.specs.Play.{fail_played}
-use Rattle.message_wires.specs.Play.{reload_played, noted_by, notes_from, state_after_tick}
+use Rattle.message_wires.specs.Play.{reload_played, marked_by, marks_from, state_after_tick}
 use Rattle.message_wires.specs.Play.{tick_played, packet_at}
 use Rattle.message_wires.specs.Play.{play}
 use Rattle.message_wires.specs.Runs.{IsPlayed, played_none, played_more, skipped}
@@ -121,7 +121,7 @@ any-named s None names are = names
 any-named s (Some done) names are = done-named s done names are
 
 marked-named : (node processor : ℕ) (s : MachineState) (done : Option Done) → WholeNames s → AnyNames s.site done
-    → WholeNames (noted_by node processor s done)
+    → WholeNames (marked_by node processor s done)
 marked-named node processor s None names are = names
 marked-named node processor s (Some done) names are =
     posted-named s.site _ _
@@ -130,7 +130,7 @@ marked-named node processor s (Some done) names are =
     (names.0, each-filter _ _ s.wires.owed names.1)
 
 downs-named : (node processor left : ℕ) (s : MachineState) → WholeNames s
-    → WholeNames (notes_from node processor left s)
+    → WholeNames (marks_from node processor left s)
 downs-named node processor zero s names = names
 downs-named node processor (suc left) s names =
     downs-named node (processor + 1) left _
@@ -140,9 +140,9 @@ tick-named : (node : ℕ) (s : MachineState) → WholeNames s → PlayedNames (t
 tick-named node s names = by (is_running s.world.stopped node)
   where
     by : (test : Bool) → PlayedNames (if test then Makes
-        (state_after_tick node (notes_from node 0 (length s.world.stopped) s)) else Skips)
+        (state_after_tick node (marks_from node 0 (length s.world.stopped) s)) else Skips)
     by true =
-        let after = notes_from node 0 (length s.world.stopped) s in
+        let after = marks_from node 0 (length s.world.stopped) s in
         let marked = downs-named node 0 (length s.world.stopped) s names in
         (again-put after.site after.world.stopped node after.wires.owed after.wires.bus marked.1 marked.0, marked.1)
     by false = tt

@@ -25,7 +25,7 @@ use Rattle.world_semantics.specs.Records.{records_of}
 use Rattle.world_semantics.specs.Running.{Own, Stepped, copy_acted, ending_step, first_step, own_at, run_done}
 use Rattle.world_semantics.specs.Running.{run_pair, sending_step, step_of_copy}
 use Rattle.world_semantics.specs.Shares.{share_after_act, share_of}
-use Rattle.world_semantics.specs.World.{Copy, Pair, World, copy_of, has_noted, may_pass, other_of, with_copy}
+use Rattle.world_semantics.specs.World.{Copy, Pair, World, copy_of, has_marked, may_pass, other_of, with_copy}
 use Rattle.world_semantics.proofs.Lifted.{ended_done, free_at, lifted, made_if, done_at_checkpoint, own_done, own_made}
 use Rattle.world_semantics.proofs.Lifted.{passed_done, renewing_at, run_as, run_at, sent_done}
 use Rattle.world_semantics.proofs.Lists.{set-all}
@@ -301,7 +301,7 @@ module _ (n : ℕ) (kinds : ℕ → Bool) (w : World) (within : WorldWithin n ki
     sends false = tt
 
     abbrev is_alone : Bool
-    is_alone = has_noted w.downs (copy_of k pair).processor (copy_of (other_of k) pair).processor
+    is_alone = has_marked w.downs (copy_of k pair).processor (copy_of (other_of k) pair).processor
 
     renews : (stands : Point) → AnyWithin (n + 1) kinds (renewing_at number k pair w stands)
     renews point.Inner = sends (not is_alone)

@@ -5,7 +5,7 @@ use Rattle.std.proofs.Common.{List, [], ◌∷◌, ◌-◌, ◌∙◌, ◌≢◌
 use Rattle.std.proofs.Common.{sym, subst, arith, eq-eqb, eq-or-lt_of_le, suc-mul}
 use Rattle.std.proofs.lemmas.Bool.{eqb-true, eqb-false}
 use Rattle.world_semantics.specs.Rules.{most_reloads, without_downs}
-use Rattle.world_semantics.specs.World.{Down, has_noted}
+use Rattle.world_semantics.specs.World.{Down, has_marked}
 use Rattle.world_semantics.proofs.Lists.{some-same}
 
 -- a processor isn't marked by a node
@@ -16,7 +16,7 @@ open_mark false = 1
 -- of so many processors those that a node hasn't marked
 abbrev unmarked_by : List Down → ℕ → ℕ → ℕ
 unmarked_by downs node zero = 0
-unmarked_by downs node (suc processor) = open_mark (has_noted downs node processor) + unmarked_by downs node processor
+unmarked_by downs node (suc processor) = open_mark (has_marked downs node processor) + unmarked_by downs node processor
 
 -- of so many nodes, and so many processors
 abbrev unmarked : List Down → ℕ → ℕ → ℕ
@@ -31,7 +31,7 @@ by-falls : (mark : Down) (downs : List Down) (node processors : ℕ)
     → unmarked_by (mark ∷ downs) node processors ≤ unmarked_by downs node processors
 by-falls mark downs node zero = omega arith
 by-falls mark downs node (suc processor) =
-    let one = or-falls (mark.node == node && mark.down == processor) (has_noted downs node processor) in
+    let one = or-falls (mark.node == node && mark.down == processor) (has_marked downs node processor) in
     let rest = by-falls mark downs node processor in
     omega (arith, one, rest)
 
@@ -43,41 +43,41 @@ falls mark downs processors (suc node) =
     let rest = falls mark downs processors node in
     omega (arith, one, rest)
 
-now-marked : (mark : Down) (downs : List Down) → has_noted (mark ∷ downs) mark.node mark.down ≡ true
+now-marked : (mark : Down) (downs : List Down) → has_marked (mark ∷ downs) mark.node mark.down ≡ true
 now-marked mark downs = rw (eq-eqb mark.node mark.node refl, eq-eqb mark.down mark.down refl) refl
 
 by-less : (mark : Down) (downs : List Down) (processors : ℕ) → mark.down < processors
-    → has_noted downs mark.node mark.down ≡ false
+    → has_marked downs mark.node mark.down ≡ false
     → unmarked_by (mark ∷ downs) mark.node processors + 1 ≤ unmarked_by downs mark.node processors
 by-less mark downs zero low new = absurd (omega (arith, low))
 by-less mark downs (suc processor) low new = by (eq-or-lt_of_le low) (by-less mark downs processor)
   where
     by : (suc mark.down ≡ suc processor) ⊎ (suc mark.down < suc processor)
-        → (mark.down < processor → has_noted downs mark.node mark.down ≡ false
+        → (mark.down < processor → has_marked downs mark.node mark.down ≡ false
         → unmarked_by (mark ∷ downs) mark.node processor + 1 ≤ unmarked_by downs mark.node processor)
         → unmarked_by (mark ∷ downs) mark.node (suc processor) + 1 ≤ unmarked_by downs mark.node (suc processor)
     by (inl is) less =
         let same : mark.down ≡ processor = omega (arith, is) in
-        let before = ap open_mark (subst (λ p. has_noted downs mark.node p ≡ false) same new) in
-        let after = ap open_mark (subst (λ p. has_noted (mark ∷ downs) mark.node p ≡ true) same
+        let before = ap open_mark (subst (λ p. has_marked downs mark.node p ≡ false) same new) in
+        let after = ap open_mark (subst (λ p. has_marked (mark ∷ downs) mark.node p ≡ true) same
         (now-marked mark downs)) in
         let rest = by-falls mark downs mark.node processor in
         omega (arith, before, after, rest)
     by (inr is) less =
         let rest = less (omega (arith, is)) new in
-        let one = or-falls (mark.node == mark.node && mark.down == processor) (has_noted downs mark.node processor) in
+        let one = or-falls (mark.node == mark.node && mark.down == processor) (has_marked downs mark.node processor) in
         omega (arith, rest, one)
 
 -- a mark that wasn't made leaves one fewer
 downs-less : (mark : Down) (downs : List Down) (processors nodes : ℕ) → mark.node < nodes → mark.down < processors
-    → has_noted downs mark.node mark.down ≡ false
+    → has_marked downs mark.node mark.down ≡ false
     → unmarked (mark ∷ downs) processors nodes + 1 ≤ unmarked downs processors nodes
 downs-less mark downs processors zero low down new = absurd (omega (arith, low))
 downs-less mark downs processors (suc node) low down new =
     by (eq-or-lt_of_le low) (downs-less mark downs processors node)
   where
     by : (suc mark.node ≡ suc node) ⊎ (suc mark.node < suc node)
-        → (mark.node < node → mark.down < processors → has_noted downs mark.node mark.down ≡ false
+        → (mark.node < node → mark.down < processors → has_marked downs mark.node mark.down ≡ false
         → unmarked (mark ∷ downs) processors node + 1 ≤ unmarked downs processors node)
         → unmarked (mark ∷ downs) processors (suc node) + 1 ≤ unmarked downs processors (suc node)
     by (inl is) less =
@@ -94,7 +94,7 @@ downs-less mark downs processors (suc node) low down new =
 by-most : (downs : List Down) (node processors : ℕ) → unmarked_by downs node processors ≤ processors
 by-most downs node zero = omega arith
 by-most downs node (suc processor) =
-    let one = most (has_noted downs node processor) in
+    let one = most (has_marked downs node processor) in
     let rest = by-most downs node processor in
     omega (arith, one, rest)
   where
@@ -113,21 +113,21 @@ all-most downs processors (suc node) =
 -- Reloads
 
 -- a reload of a processor takes away no mark of another one
-still-noted : (x node processor : ℕ) → processor ≢ x → (downs : List Down)
-    → has_noted (without_downs x downs) node processor ≡ has_noted downs node processor
-still-noted x node processor other [] = refl
-still-noted x node processor other (mark ∷ downs) =
-    by (mark.down == x) refl (still-noted x node processor other downs)
+still-marked : (x node processor : ℕ) → processor ≢ x → (downs : List Down)
+    → has_marked (without_downs x downs) node processor ≡ has_marked downs node processor
+still-marked x node processor other [] = refl
+still-marked x node processor other (mark ∷ downs) =
+    by (mark.down == x) refl (still-marked x node processor other downs)
   where
     by : (same : Bool) → (mark.down == x) ≡ same
-        → has_noted (without_downs x downs) node processor ≡ has_noted downs node processor
-        → has_noted (cond (not same) (mark ∷ without_downs x downs) (without_downs x downs)) node processor
-        ≡ has_noted (mark ∷ downs) node processor
-    by false is rest = ap (λ noted. (mark.node == node && mark.down == processor) || noted) rest
+        → has_marked (without_downs x downs) node processor ≡ has_marked downs node processor
+        → has_marked (cond (not same) (mark ∷ without_downs x downs) (without_downs x downs)) node processor
+        ≡ has_marked (mark ∷ downs) node processor
+    by false is rest = ap (λ is_marked. (mark.node == node && mark.down == processor) || is_marked) rest
     by true is rest = rest ∙ sym (away (mark.node == node) (mark.down == processor) refl)
       where
         away : (here there : Bool) → (mark.down == processor) ≡ there
-            → ((here && there) || has_noted downs node processor) ≡ has_noted downs node processor
+            → ((here && there) || has_marked downs node processor) ≡ has_marked downs node processor
         away true false is_there = refl
         away false there is_there = refl
         away true true is_there =
@@ -142,7 +142,7 @@ by-same : (x node : ℕ) (downs : List Down) (processors : ℕ) → processors �
     → unmarked_by (without_downs x downs) node processors ≡ unmarked_by downs node processors
 by-same x node downs zero low = refl
 by-same x node downs (suc processor) low =
-    let one = ap open_mark (still-noted x node processor (λ same. absurd (omega (arith, low, same))) downs) in
+    let one = ap open_mark (still-marked x node processor (λ same. absurd (omega (arith, low, same))) downs) in
     let rest = by-same x node downs processor (omega (arith, low)) in
     omega (arith, one, rest)
 
@@ -156,11 +156,11 @@ by-reloaded x node downs (suc processor) = by (processor == x) refl (by-reloaded
         → unmarked_by (without_downs x downs) node (suc processor) ≤ unmarked_by downs node (suc processor) + 1
     by true is rest =
         let low = eqb-true processor x is in
-        let one = some-open (has_noted (without_downs x downs) node processor) in
+        let one = some-open (has_marked (without_downs x downs) node processor) in
         let below = by-same x node downs processor (omega (arith, low)) in
         omega (arith, one, below)
     by false is rest =
-        let one = ap open_mark (still-noted x node processor (eqb-false processor x is) downs) in
+        let one = ap open_mark (still-marked x node processor (eqb-false processor x is) downs) in
         omega (arith, one, rest)
 
 all-reloaded : (x : ℕ) (downs : List Down) (processors nodes : ℕ)
@@ -204,7 +204,7 @@ pub left_marks : List Down → List ℕ → ℕ
 left_marks downs reloads = unmarked downs 256 256 + 256 * reloads_left reloads
 
 pub left-less : (mark : Down) (downs : List Down) (reloads : List ℕ) → mark.node < 256 → mark.down < 256
-    → has_noted downs mark.node mark.down ≡ false
+    → has_marked downs mark.node mark.down ≡ false
     → left_marks (mark ∷ downs) reloads + 1 ≤ left_marks downs reloads
 unfolding left_marks
 left-less mark downs reloads node down new =

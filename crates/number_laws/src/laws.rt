@@ -3,7 +3,7 @@ ghost use Rattle.gd_words.specs.Members.{IsAmong};
 ghost use Rattle.gd_words.specs.declared.message.Request.{Request};
 ghost use Rattle.tal_tree.specs.declared.site.Site.{Site};
 ghost use Rattle.schedule.specs.declared.event.Event.{Event};
-ghost use Rattle.message_wires.specs.Play.{MachineState, noted_by, notes_from};
+ghost use Rattle.message_wires.specs.Play.{MachineState, marked_by, marks_from};
 ghost use Rattle.world_semantics.specs.Running.{Done};
 ghost use Rattle.message_wires.specs.Runs.{IsPlayed};
 ghost use Rattle.message_wires.specs.Wires.{Sent};
@@ -31,9 +31,9 @@ pub fn letters_have_numbers()
 /// the event.
 pub fn a_tick_only_adds_letters()
     ensures one { (node processor : ℕ) (s : MachineState) (done : Option Done)
-        → s.wires.count ≤ (noted_by node processor s done).wires.count }
+        → s.wires.count ≤ (marked_by node processor s done).wires.count }
     ensures all { (node processor left : ℕ) (s : MachineState)
-        → s.wires.count ≤ (notes_from node processor left s).wires.count }
+        → s.wires.count ≤ (marks_from node processor left s).wires.count }
 {}
 
 /// Each request on the bus names one of the openers of the process that it is for: whoever sends one is such an opener.

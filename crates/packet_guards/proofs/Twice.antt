@@ -1,12 +1,12 @@
 -- Nobody is marked twice.
 use Rattle.std.proofs.Common.{◌≡◌, ℕ, Bool, true, false, ◌&&◌, not, Option, Some, None, refl, ap, ◌∙◌}
 use Rattle.std.proofs.Common.{slice_get}
-use Rattle.world_semantics.specs.World.{has_noted, is_running}
-use Rattle.computed_changes.specs.Stopped.{marked_where, mark_where, may_note}
+use Rattle.world_semantics.specs.World.{has_marked, is_running}
+use Rattle.computed_changes.specs.Stopped.{marked_where, mark_where, may_mark}
 use Rattle.message_layout.specs.Messages.{Declaring}
 use Rattle.packet_wires.specs.Play.{Underway, handed, marked_by}
 
-pub no-mark-on-suspicion-twice : (node processor : ℕ) (s : Underway) → has_noted s.world.downs node processor ≡ true
+pub no-mark-on-suspicion-twice : (node processor : ℕ) (s : Underway) → has_marked s.world.downs node processor ≡ true
     → handed node (Declaring processor) s ≡ s
 no-mark-on-suspicion-twice node processor s marked = by (slice_get s.world.stopped processor)
   where
@@ -14,7 +14,7 @@ no-mark-on-suspicion-twice node processor s marked = by (slice_get s.world.stopp
     either true = refl
     either false = refl
 
-    never : may_note node processor s.world ≡ false
+    never : may_mark node processor s.world ≡ false
     never = ap (λ (b : Bool). is_running s.world.stopped node && not b) marked
         ∙ either (is_running s.world.stopped node)
 

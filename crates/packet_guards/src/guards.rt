@@ -17,7 +17,7 @@ ghost use Rattle.message_layout.specs.Reading.{understood};
 ghost use Rattle.letter_guards.specs.Worlds.{bank_asks, disc_tells, user_is_told};
 ghost use Rattle.packet_wires.specs.Idle.{is_idle, holds_nothing};
 ghost use Rattle.packet_wires.specs.Nodes.{Node, end_at};
-ghost use Rattle.world_semantics.specs.World.{has_noted};
+ghost use Rattle.world_semantics.specs.World.{has_marked};
 ghost use Rattle.packet_wires.specs.Play.{Underway, underway, count_on, handed, kind_at, play, sender_at};
 ghost use Rattle.packet_wires.specs.Play.{sent_by};
 ghost use Rattle.packet_wires.specs.Sights.{acknowledged, alive, end_of, last, piece, seen};
@@ -170,7 +170,7 @@ pub fn who_has_stopped_does_nothing()
 /// A node marks only what has stopped, and no processor twice.
 pub fn no_mark_on_suspicion()
     ensures runs { handed 1 (Declaring 0) (underway adder_at_boot) ≡ underway adder_at_boot }
-    ensures twice { (node processor : ℕ) (s : Underway) → has_noted s.world.downs node processor ≡ true
+    ensures twice { (node processor : ℕ) (s : Underway) → has_marked s.world.downs node processor ≡ true
         → handed node (Declaring processor) s ≡ s }
 {}
 

@@ -10,7 +10,7 @@ use Rattle.checkpoint_image.specs.declared.receive.OpenerBlock.{OpenerBlock}
 use Rattle.world_semantics.specs.declared.which.Which.{Which}
 use Rattle.world_semantics.specs.declared.which.Which.TheVariants.{First, Second}
 use Rattle.world_semantics.specs.Follows.{runs}
-use Rattle.world_semantics.specs.Messages.{Sending, Running, Entering, Handing, Stopping, NotingDown, Reloading}
+use Rattle.world_semantics.specs.Messages.{Sending, Running, Entering, Handing, Stopping, MarkingDown, Reloading}
 use Rattle.world_semantics.specs.Rules.{Change}
 use Rattle.world_semantics.specs.Running.{Done, run_done, sendings_of, world_after}
 use Rattle.world_semantics.specs.World.{Copy, Pair, World, copy_of}
@@ -22,7 +22,7 @@ use Rattle.computed_changes.proofs.Outcomes.{run-only}
 use Rattle.computed_changes.proofs.Stopped.{stop-only, mark-only, reload-only}
 use Rattle.packets_played.specs.takeover_laws.specs.Fit.{IsFit}
 use Rattle.letters.specs.Again.{sent_again}
-use Rattle.letters.specs.Posts.{Post, HasPlayed, NotesLetters, PlaysEvent, after_change, no_mark, one_mark, played_more}
+use Rattle.letters.specs.Posts.{Post, HasPlayed, MarksLetters, PlaysEvent, after_change, no_mark, one_mark, played_more}
 use Rattle.letters.specs.Posts.{played_none, plays_again, plays_drop, plays_enter, plays_fail, plays_hand, plays_loss}
 use Rattle.letters.specs.Posts.{plays_mark, plays_no_enter, plays_no_fail, plays_no_run, plays_no_tick, plays_nothing}
 use Rattle.letters.specs.Posts.{plays_repeat, plays_run, plays_tick, plays_tick_stop, post_after_down, post_at_boot}
@@ -106,7 +106,7 @@ module _ (site : Site) where
 
   mark-low : (n before node processor : ℕ) (post : Post) (next : World) (sendings : List Sending) → before < n
       → WatchersWithin before post.world.processes → IsLow n post
-      → Change site post.world (NotingDown node processor) sendings next
+      → Change site post.world (MarkingDown node processor) sendings next
       → IsLow n (post_after_down site node processor sendings next post)
   mark-low n before node processor post next sendings less watchers low change =
       letters-low n post next _ (sendings ++ sent_again site post.world next node processor) low.sent done.world
@@ -117,7 +117,7 @@ module _ (site : Site) where
           (mark-within n (kinds_of site) post.world low.world before node processor less watchers)
 
   marks-low : (n before : ℕ) {node : ℕ} {post end : Post} → before < n → WatchersWithin before post.world.processes
-      → IsLow n post → NotesLetters site node post end → IsLow n end
+      → IsLow n post → MarksLetters site node post end → IsLow n end
   marks-low n before less watchers low no_mark = low
   marks-low n before {node = node} {post = post} less watchers low
       (one_mark {sendings = sendings} {next = next} processor change more) =

@@ -27,7 +27,7 @@ use Rattle.world_semantics.specs.Core.{Core}
 use Rattle.world_semantics.specs.Kept.{own_acts}
 use Rattle.world_semantics.specs.World.{Pair, Terminal, World, copy_of, other_of, terminal_node}
 use Rattle.world_semantics.specs.Messages.{Message, Asking, Replying, Checkpointing, Taking, Sending, Cause}
-use Rattle.world_semantics.specs.Messages.{Running, Entering, NotingDown, Stopping, sent_at}
+use Rattle.world_semantics.specs.Messages.{Running, Entering, MarkingDown, Stopping, sent_at}
 use Rattle.world_semantics.specs.Passes.{taken_of}
 use Rattle.world_semantics.specs.Records.{records_of}
 use Rattle.world_semantics.specs.Rules.{Change}
@@ -194,7 +194,7 @@ module _ (site : Site) (fit : IsFit site) (small : IsSmall site) (out : IsLaidOu
         all-among done.world (done.sendings ++ sent_again site post.world done.world node processor)
         (λ sending among. elim (among-either sending done.sendings
         (sent_again site post.world done.world node processor) among) [
-          | inl new ↦ new-within (Deliver false 0) after (NotingDown node processor) done.sendings plays change sending
+          | inl new ↦ new-within (Deliver false 0) after (MarkingDown node processor) done.sendings plays change sending
               new
           | inr again ↦ let one = again-is site post.world done.world node processor sending again in
               goes-within (events ++ Deliver false 0 ∷ []) after (few-more (Deliver false 0))
@@ -203,7 +203,7 @@ module _ (site : Site) (fit : IsFit site) (small : IsSmall site) (out : IsLaidOu
               (again-new site done.world sending.message one)
         ])
       where
-        change : Change site post.world (NotingDown node processor) done.sendings done.world
+        change : Change site post.world (MarkingDown node processor) done.sendings done.world
         change = mark-may site node processor post.world done e
 
         after : Post

@@ -24,7 +24,7 @@ use Rattle.computed_changes.specs.Changed.{change_done}
 use Rattle.computed_changes.specs.Handed.{handed_done}
 use Rattle.computed_changes.proofs.Changed.{change-each}
 use Rattle.computed_changes.specs.Stopped.{stop_done, stop_if, stop_where, stopped_world, marked_where, mark_where}
-use Rattle.computed_changes.specs.Stopped.{may_note}
+use Rattle.computed_changes.specs.Stopped.{may_mark}
 use Rattle.computed_changes.specs.Stopped.{world_at_down}
 use Rattle.letters.specs.Routes.{letters_of}
 use Rattle.letters.specs.Again.{sent_again}
@@ -140,7 +140,7 @@ marks-stay node processor s = by (slice_get s.world.stopped processor)
         (marked_by node processor s (mark_where node processor s.world found))
     by None = none
     by (Some false) = none
-    by (Some true) = may (may_note node processor s.world)
+    by (Some true) = may (may_mark node processor s.world)
 
 told-stay : (node processor : ℕ) (s : Underway) → Marks node processor s (marks_and_declares node processor s)
 told-stay node processor s =

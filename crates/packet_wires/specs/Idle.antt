@@ -4,7 +4,7 @@ use Rattle.std.specs.Prelude.{ℕ, ◌&&◌, ◌||◌, Bool, true, not, List, Op
 use Rattle.std.specs.List.{list_all}
 use Rattle.link_control.specs.Ends.{End, is_empty}
 use Rattle.message_layout.specs.world_semantics.specs.World.{is_running}
-use Rattle.message_wires.specs.Idle.{none_enters, none_runs, none_awaits_taking, all_noted}
+use Rattle.message_wires.specs.Idle.{none_enters, none_runs, none_awaits_taking, all_marked}
 use Rattle.packet_wires.specs.Nodes.{Node, all_nodes, end_at}
 use Rattle.packet_wires.specs.Play.{Packeted}
 
@@ -27,4 +27,4 @@ abbrev pub is_idle : Packeted → Bool
 is_idle s =
     none_enters s.site s.world
     && (none_runs s.site s.world && (none_awaits_taking s.world.processes
-    && (all_quiet s.world.stopped s.wires.nodes && all_noted s.world)))
+    && (all_quiet s.world.stopped s.wires.nodes && all_marked s.world)))

@@ -11,7 +11,7 @@ use Rattle.packet_words.specs.declared.packet.Packet.{Packet}
 use Rattle.world_semantics.specs.Messages.{Checkpointing}
 use Rattle.world_semantics.specs.Running.{Done, run_done}
 use Rattle.world_semantics.specs.Rules.{most_reloads}
-use Rattle.world_semantics.specs.World.{boot, is_noted_by_all, is_running, is_whole}
+use Rattle.world_semantics.specs.World.{boot, is_marked_by_all, is_running, is_whole}
 use Rattle.computed_changes.specs.Entered.{enter_done}
 use Rattle.computed_changes.specs.Changed.{change_done}
 use Rattle.computed_changes.specs.Handed.{handed_done}
@@ -136,7 +136,7 @@ reload-goes processor s = by (slice_get s.world.stopped processor)
     counted : (times : Option ℕ)
         → Goes (Reload processor) s (reload_acted processor s (reload_counted s.site processor s.world times))
     counted None = skips
-    counted (Some times) = may times (is_noted_by_all s.world processor && nat_lt times most_reloads)
+    counted (Some times) = may times (is_marked_by_all s.world processor && nat_lt times most_reloads)
 
     by : (stopped : Option Bool)
         → Goes (Reload processor) s (reload_acted processor s (reload_where s.site processor s.world stopped))

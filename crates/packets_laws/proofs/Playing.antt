@@ -33,7 +33,7 @@ use Rattle.letters.specs.Routes.{Letter, letters_of}
 use Rattle.letters.specs.Posts.{Post, with_letters, played_more}
 use Rattle.letters.specs.Posts.{PlaysEvent, plays_run, plays_no_run, plays_enter, plays_no_enter, plays_nothing}
 use Rattle.letters.specs.Posts.{plays_hand, plays_drop, plays_again, plays_mark, plays_loss, plays_repeat}
-use Rattle.letters.specs.Posts.{plays_no_tick, plays_tick, plays_tick_stop, plays_fail, plays_no_fail, NotesLetters}
+use Rattle.letters.specs.Posts.{plays_no_tick, plays_tick, plays_tick_stop, plays_fail, plays_no_fail, MarksLetters}
 use Rattle.letters.specs.Posts.{plays_drive, plays_reload, plays_no_reload, without_those_of}
 use Rattle.letters.specs.Posts.{no_mark, one_mark, IsTaken}
 use Rattle.letters.proofs.Owed.{played-sent, taken-there}
@@ -450,7 +450,7 @@ module _ (events : List Event) (on : List Packet) (s : Underway) (owed sent : Li
         → slice_get w.stopped processor ≡ Some true → processor ≤ 15
         → HoldsLetters w carried.parcels carried.posted owed sent
         → Ties s.site w.stopped w.reloads on (ticked s.site.processors node s.wires) carried.parcels carried.posted
-        → ((post : Post) → NotesLetters s.site node (record { world = w; owed = owed; sent = sent }) post
+        → ((post : Post) → MarksLetters s.site node (record { world = w; owed = owed; sent = sent }) post
         → PlaysEvent s.site (Post_of owed) (Tick node) post)
         → Ticks (marks_and_declares node processor
         (record s { world = w; wires = ticked s.site.processors node s.wires }))

@@ -8,10 +8,10 @@ use Rattle.schedule.specs.declared.event.Event.{Event}
 use Rattle.packet_words.specs.declared.bus_name.BusName.{BusName}
 use Rattle.packet_words.specs.declared.packet.Packet.{Packet}
 use Rattle.channel_laws.specs.Net.{stopped_net}
-use Rattle.world_semantics.specs.World.{World, is_noted_by_all, is_running, runs_by}
+use Rattle.world_semantics.specs.World.{World, is_marked_by_all, is_running, runs_by}
 use Rattle.world_semantics.proofs.Lists.{set-there, set-other, some-same}
 use Rattle.world_semantics.proofs.Members.{among-map}
-use Rattle.world_semantics.specs.Messages.{Cause, Message, NotingDown}
+use Rattle.world_semantics.specs.Messages.{Cause, Message, MarkingDown}
 use Rattle.world_semantics.specs.Messages.{Reloading, Sending}
 use Rattle.world_semantics.specs.Rules.{Change, by_own, by_checkpoint, by_request, by_early_request, by_enter, by_print}
 use Rattle.world_semantics.specs.Rules.{by_stop, by_mark, by_reload, most_reloads}
@@ -79,7 +79,7 @@ change-counts w next cause sendings (by_enter number terminal opener there even 
 change-counts w next cause sendings (by_print number terminal reply there odd among opens same) other = refl
 change-counts w next cause sendings (by_stop processor runs whole) other = refl
 change-counts w next cause sendings (by_mark node processor gone runs new) other = refl
-change-counts w next cause sendings (by_reload processor gone noted there few) other = absurd (other processor refl)
+change-counts w next cause sendings (by_reload processor gone is_marked there few) other = absurd (other processor refl)
 
 -- a change that stops nobody and loads no processor again, and then its letters
 pub posted-on : {on : List Packet} (s : Underway) (events : List Event) (world : World) (midst : Midst)
@@ -181,7 +181,7 @@ reload-is site processor w done e = by (slice_get w.stopped processor) refl e
         → reload_counted site processor w one ≡ Some done → IsReload site processor w done
     counted gone None at e = absurd cc
     counted gone (Some times) at e =
-        can times gone at (is_noted_by_all w processor && nat_lt times most_reloads) e
+        can times gone at (is_marked_by_all w processor && nat_lt times most_reloads) e
 
     by : (one : Option Bool) → slice_get w.stopped processor ≡ one → reload_where site processor w one ≡ Some done
         → IsReload site processor w done
@@ -202,12 +202,12 @@ mark-gone node processor w done e = by (slice_get w.stopped processor) refl e
 
 -- what a mark sends, and sends again, is no checkpoint but the newest
 mark-new : (site : Site) (w : World) (node processor : ℕ) (done : Done)
-    → Change site w (NotingDown node processor) done.sendings done.world
+    → Change site w (MarkingDown node processor) done.sendings done.world
     → (sending : Sending) → IsAmong sending (done.sendings ++ sent_again site w done.world node processor)
     → IsNewestIfOne done.world sending.message
 mark-new site w node processor done change sending among =
     elim (among-either sending done.sendings (sent_again site w done.world node processor) among) [
-      | inl new ↦ change-new w done.world (NotingDown node processor) done.sendings change sending new
+      | inl new ↦ change-new w done.world (MarkingDown node processor) done.sendings change sending new
       | inr again ↦ again-new site done.world sending.message
           (again-is site w done.world node processor sending again)
     ]
@@ -226,9 +226,9 @@ marked-on {on = on} s events owed sent parcels posted node processor done fit ru
     posted-on s events done.world (cut_off node processor s.wires) (without_those_between node processor owed) sent
     (letters_of s.site done.world (done.sendings ++ sent_again s.site s.world done.world node processor))
     (net.without_those_between node processor parcels) posted fit
-    (change-stays s.world done.world (NotingDown node processor) done.sendings change)
+    (change-stays s.world done.world (MarkingDown node processor) done.sendings change)
     (subst (StopsNone s.world) e (mark-none s.site s.world node processor))
-    (change-counts s.world done.world (NotingDown node processor) done.sendings change (λ x same. cc))
+    (change-counts s.world done.world (MarkingDown node processor) done.sendings change (λ x same. cc))
     (letters-new s.site done.world (done.sendings ++ sent_again s.site s.world done.world node processor)
     (mark-new s.site s.world node processor done change))
     (record { stand = stand-without s.world node processor parcels owed held.stand; were = held.were })

@@ -14,7 +14,7 @@ use Rattle.advice_search.specs.advice.specs.Answer.{IsAnswer, IsUnmendable}
 use Rattle.statement_dues.specs.Checkpoints.{checkpoints_of}
 use Rattle.statement_dues.specs.Deeds.{deeds_of}
 use Rattle.statement_dues.specs.declared.deeds.Deed.{Deed}
-use Rattle.pair_findings.specs.Marks.{IsSince}
+use Rattle.pair_findings.specs.Notes.{IsSince}
 use Rattle.pair_findings.specs.declared.finding.Finding.{Finding}
 use Rattle.pair_findings.specs.declared.finding.Finding.TheVariants as found
 use Rattle.pair_findings.specs.declared.finding.PairFinding.{PairFinding}

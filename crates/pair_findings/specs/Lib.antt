@@ -1,5 +1,5 @@
 pub mod Findings
-pub mod Marks
+pub mod Notes
 pub use Rattle.advice_search.specs.advice
 pub use Rattle.statement_dues
 pub use Rattle.verdicts

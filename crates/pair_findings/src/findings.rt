@@ -4,7 +4,7 @@ ghost use Rattle.pair_findings.specs.Findings.{AreFindings, IsFinding, IsFinding
 ghost use Rattle.pair_findings.specs.Findings.{path_of};
 
 use crate::finding::{Finding, PairFinding, Remedy};
-use crate::marks::since_checkpoint;
+use crate::notes::since_checkpoint;
 use advice_search::{AdviseFault, advise};
 use gd_words::{List, NoMemory};
 use path_semantics::RefusalFault;

@@ -8,10 +8,10 @@
 
 pub mod finding;
 pub mod findings;
-pub mod marks;
+pub mod notes;
 
 pub use advice_search::{Advice, Advised};
 pub use finding::{Finding, PairFinding, Remedy};
 pub use findings::findings_of;
-pub use marks::{is_marked, since_checkpoint};
+pub use notes::{has_note, since_checkpoint};
 pub use statement_dues::NamedCheckpoint;

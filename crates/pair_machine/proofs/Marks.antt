@@ -5,7 +5,7 @@ use Rattle.world_semantics.specs.Messages.{Sending}
 use Rattle.world_semantics.specs.Running.{Done}
 use Rattle.message_wires.specs.computed_changes.specs.Stopped.{down_done}
 use Rattle.message_wires.specs.letters.specs.Again.{sent_again}
-use Rattle.message_wires.specs.Play.{MachineState, after_noted, noted_by, notes_from}
+use Rattle.message_wires.specs.Play.{MachineState, after_marked, marked_by, marks_from}
 use Rattle.message_wires.specs.Wires.{paid_between}
 use Rattle.pair_machine.specs.Told.{sent_all}
 
@@ -13,7 +13,7 @@ pub marked-steps : (s marked paid after : MachineState) (node processor : ℕ) (
     → marked ≡ record s { world = done.world }
     → sendings ≡ done.sendings ++ sent_again s.site s.world done.world node processor
     → paid ≡ record marked { wires = paid_between node processor marked.wires } → after ≡ sent_all sendings paid
-    → after ≡ after_noted node processor s done
+    → after ≡ after_marked node processor s done
 marked-steps s marked paid after node processor sendings done downs tells pays posts =
     posts
     ∙ ap₂ sent_all tells
@@ -24,8 +24,8 @@ left-more place count within = omega arith
 
 -- after the mark of one processor what is left to be marked leads to the same
 pub downs-step : (node place count : ℕ) (s after : MachineState) → place < count
-    → after ≡ noted_by node place s (down_done node place s.world)
-    → notes_from node (place + 1) (count - (place + 1)) after ≡ notes_from node place (count - place) s
+    → after ≡ marked_by node place s (down_done node place s.world)
+    → marks_from node (place + 1) (count - (place + 1)) after ≡ marks_from node place (count - place) s
 downs-step node place count s after within downs =
-    ap (λ next. notes_from node (place + 1) (count - (place + 1)) next) downs
-    ∙ ap (λ more. notes_from node place more s) (sym (left-more place count within))
+    ap (λ next. marks_from node (place + 1) (count - (place + 1)) next) downs
+    ∙ ap (λ more. marks_from node place more s) (sym (left-more place count within))

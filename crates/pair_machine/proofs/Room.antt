@@ -8,10 +8,10 @@ use Rattle.schedule.specs.declared.event.Event.{Event}
 use Rattle.world_semantics.specs.Messages.{Sending}
 use Rattle.world_semantics.specs.Running.{Done}
 use Rattle.world_semantics.proofs.Lists.{some-same}
-use Rattle.message_wires.specs.computed_changes.specs.Stopped.{mark_where, down_done, marked_where, may_note}
+use Rattle.message_wires.specs.computed_changes.specs.Stopped.{mark_where, down_done, marked_where, may_mark}
 use Rattle.message_wires.specs.letters.specs.Routes.{Letter, letter_of, letters_of, receiver_of}
 use Rattle.machine_states.specs.States.{Played, Makes, Skips, Would}
-use Rattle.message_wires.specs.Play.{MachineState, made_by, noted_by, notes_from, play}
+use Rattle.message_wires.specs.Play.{MachineState, made_by, marked_by, marks_from, play}
 use Rattle.message_wires.specs.Wires.{Wires, wires_after_posts, wires_after_post}
 use Rattle.number_laws.proofs.Counts.{downs-grow}
 use Rattle.gd_words.specs.Ranges.{HasNextLong}
@@ -29,19 +29,19 @@ watchers-room s room number pair there k watches = room.processes number pair th
 
 -- a mark of a tick leaves room to those that still watch
 pub mark-room : (node processor : ℕ) (s : MachineState) → AllWatchersHaveRoom s.world.processes
-    → AllWatchersHaveRoom (noted_by node processor s (down_done node processor s.world)).world.processes
+    → AllWatchersHaveRoom (marked_by node processor s (down_done node processor s.world)).world.processes
 mark-room node processor s room = by (slice_get s.world.stopped processor)
   where
     where_may : (test : Bool) → AllWatchersHaveRoom
-        (noted_by node processor s (marked_where node processor s.world test)).world.processes
+        (marked_by node processor s (marked_where node processor s.world test)).world.processes
     where_may true = all-marked-room node processor s.world.processes room
     where_may false = room
 
     by : (stopped : Option Bool) → AllWatchersHaveRoom
-        (noted_by node processor s (mark_where node processor s.world stopped)).world.processes
+        (marked_by node processor s (mark_where node processor s.world stopped)).world.processes
     by None = room
     by (Some false) = room
-    by (Some true) = where_may (may_note node processor s.world)
+    by (Some true) = where_may (may_mark node processor s.world)
 
 -- Letters
 
@@ -89,14 +89,14 @@ posted_next sending receiver s found counted =
 
 -- one mark of a tick has its letters counted where all have
 pub mark-counted : (node place count : ℕ) (s all : MachineState) → place < count
-    → notes_from node place (count - place) s ≡ all → AreCounted all
-    → AreCounted (noted_by node place s (down_done node place s.world))
+    → marks_from node place (count - place) s ≡ all → AreCounted all
+    → AreCounted (marked_by node place s (down_done node place s.world))
 mark-counted node place count s all within same counted =
-    let next = noted_by node place s (down_done node place s.world) in
+    let next = marked_by node place s (down_done node place s.world) in
     let more : count - place ≡ suc (count - (place + 1)) = omega arith in
-    fewer next (notes_from node (place + 1) (count - (place + 1)) next)
+    fewer next (marks_from node (place + 1) (count - (place + 1)) next)
     (downs-grow node (place + 1) (count - (place + 1)) next)
-    (subst AreCounted (sym same ∙ ap (λ left. notes_from node place left s) more) counted)
+    (subst AreCounted (sym same ∙ ap (λ left. marks_from node place left s) more) counted)
 
 -- whatever event comes, its letters are counted
 pub played-counted : (s : MachineState) → HasRoomForLetters s → (event : Event) → AreCountedAfter (play s event)

@@ -3,7 +3,7 @@ ghost use Rattle.machine_states.specs.States.{Settles};
 ghost use Rattle.message_wires.specs.computed_changes.specs.Stopped.{down_done, world_at_down};
 ghost use Rattle.message_wires.specs.letters.specs.Again.{sent_again};
 ghost use Rattle.number_laws.specs.message_wires.specs.HasRoom.{HasRoom};
-ghost use Rattle.message_wires.specs.Play.{after_noted, noted_by, notes_from, tick_played};
+ghost use Rattle.message_wires.specs.Play.{after_marked, marked_by, marks_from, tick_played};
 ghost use Rattle.message_wires.specs.Wires.{paid_between, wires_again};
 ghost use Rattle.world_copies.specs.Room.{AllWatchersHaveRoom};
 ghost use Rattle.pair_machine.specs.Room.{AreCounted, AreCountedAfter};
@@ -41,8 +41,8 @@ impl MachineParts {
     /// A node marks each processor that has stopped and isn't marked yet. For most of a run none has.
     fn mark_stopped(&mut self, node: u8) -> Result<(), NoMemory>
         requires watching { AllWatchersHaveRoom self.old.world.processes }
-        requires letters { AreCounted (notes_from node 0 (length self.old.world.stopped) self.old) }
-        ensures { OnOk result (self.new ≡ notes_from node 0 (length self.old.world.stopped) self.old) }
+        requires letters { AreCounted (marks_from node 0 (length self.old.world.stopped) self.old) }
+        ensures { OnOk result (self.new ≡ marks_from node 0 (length self.old.world.stopped) self.old) }
     {
         if self.world.some_has_stopped() {
             self.mark_each(node)?;
@@ -53,8 +53,8 @@ impl MachineParts {
     /// A node looks at each processor, whether it is to be marked.
     fn mark_each(&mut self, node: u8) -> Result<(), NoMemory>
         requires watching { AllWatchersHaveRoom self.old.world.processes }
-        requires letters { AreCounted (notes_from node 0 (length self.old.world.stopped) self.old) }
-        ensures { OnOk result (self.new ≡ notes_from node 0 (length self.old.world.stopped) self.old) }
+        requires letters { AreCounted (marks_from node 0 (length self.old.world.stopped) self.old) }
+        ensures { OnOk result (self.new ≡ marks_from node 0 (length self.old.world.stopped) self.old) }
     {
         for processor in 0..self.world.processors() {
             self.mark(node, processor)?;
@@ -64,8 +64,8 @@ impl MachineParts {
 
     fn mark(&mut self, node: u8, processor: u8) -> Result<(), NoMemory>
         requires watching { AllWatchersHaveRoom self.old.world.processes }
-        requires letters { AreCounted (noted_by node processor self.old (down_done node processor self.old.world)) }
-        ensures { OnOk result (self.new ≡ noted_by node processor self.old (down_done node processor self.old.world)) }
+        requires letters { AreCounted (marked_by node processor self.old (down_done node processor self.old.world)) }
+        ensures { OnOk result (self.new ≡ marked_by node processor self.old (down_done node processor self.old.world)) }
     {
         if self.world.is_to_mark(node, processor) {
             self.mark_down(node, processor)?;
@@ -77,9 +77,9 @@ impl MachineParts {
     /// posted.
     fn mark_down(&mut self, node: u8, processor: u8) -> Result<(), NoMemory>
         requires watching { AllWatchersHaveRoom self.old.world.processes }
-        requires letters { AreCounted (after_noted node processor self.old
+        requires letters { AreCounted (after_marked node processor self.old
             (world_at_down node processor self.old.world)) }
-        ensures { OnOk result (self.new ≡ after_noted node processor self.old
+        ensures { OnOk result (self.new ≡ after_marked node processor self.old
             (world_at_down node processor self.old.world)) }
     {
         let sendings = self.mark_world(node, processor)?;

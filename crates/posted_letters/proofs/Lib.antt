@@ -1,4 +1,4 @@
-pub mod Marks
 pub mod Numbers
+pub mod OnBus
 pub mod Places
 pub mod Rising

@@ -100,23 +100,23 @@ impl Bus {
     }
 
     /// For each of these letters whether a packet of it is on the bus.
-    fn marks(&self, owed: &[Sent]) -> Result<Vec<bool>, NoMemory>
+    fn on_bus(&self, owed: &[Sent]) -> Result<Vec<bool>, NoMemory>
         requires { Rises owed.now }
-        ensures { IfOk result (λ marks. marks.items ≡ map (λ one. is_on self.now one.number) owed.now) }
+        ensures { IfOk result (λ on_bus. on_bus.items ≡ map (λ one. is_on self.now one.number) owed.now) }
     {
-        let mut marks = vec![in *self.packets.allocator(); false; owed.len()]?;
+        let mut on_bus = vec![in *self.packets.allocator(); false; owed.len()]?;
         for k in 0..self.len() {
             if let Some(packet) = self.get(k) {
                 if let Some(place) = place_of(owed, packet.number()) {
-                    marks[place] = true;
+                    on_bus[place] = true;
                 }
             }
         }
-        Ok(marks)
+        Ok(on_bus)
     }
 
     /// Puts a letter at the end once more, if it is due: whether a packet of it is there is told.
-    fn put_marked(
+    fn put_due_once(
         &mut self,
         stopped: &[bool],
         node: u8,
@@ -139,9 +139,9 @@ impl Bus {
         requires { Rises owed.now }
         ensures { OnOk result (self.new ≡ put_again stopped.now node owed.now self.old) }
     {
-        let marks = self.marks(owed)?;
+        let on_bus = self.on_bus(owed)?;
         for k in 0..owed.len() {
-            self.put_marked(stopped, node, &owed[k], marks[k])?;
+            self.put_due_once(stopped, node, &owed[k], on_bus[k])?;
         }
         Ok(())
     }

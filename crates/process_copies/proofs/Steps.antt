@@ -8,7 +8,7 @@ use Rattle.disc_device.specs.mirror.specs.declared.state.DriveState.{DriveState}
 use Rattle.world_semantics.specs.declared.which.Which.{Which}
 use Rattle.world_semantics.specs.declared.which.Which.TheVariants.{First, Second}
 use Rattle.world_semantics.specs.Messages.{Sending}
-use Rattle.world_semantics.specs.World.{Down, Pair, copy_of, has_noted, other_of}
+use Rattle.world_semantics.specs.World.{Down, Pair, copy_of, has_marked, other_of}
 use Rattle.node_copies.specs.Acting.{HasActed, Scene, own_in}
 use Rattle.world_semantics.specs.Records.{Records}
 use Rattle.node_copies.specs.Seen.{CopyAndDepths, step_sendings}
@@ -69,7 +69,7 @@ at-other site number k pair downs records point.Ended other = refl
 -- whether a copy's node hasn't marked the other copy's processor
 abbrev pub is_heard : Which → Pair → List Down → Bool
 is_heard k pair downs =
-    not (has_noted downs (copy_of k pair).processor (copy_of (other_of k) pair).processor)
+    not (has_marked downs (copy_of k pair).processor (copy_of (other_of k) pair).processor)
 
 pub renews-other : (number : ℕ) (k : Which) (pair : Pair) (downs : List Down) (records : Records) (stands : Point)
     → stands ≢ point.Await

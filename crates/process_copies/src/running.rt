@@ -1,6 +1,6 @@
 ghost use Rattle.std.specs.Prelude.{◌≡◌, List, Some, false, length, not, true, IfOk, OnOk};
 ghost use Rattle.process_semantics.specs.Process.{point};
-ghost use Rattle.world_semantics.specs.World.{Down, copy_of, has_noted, may_pass, other_of};
+ghost use Rattle.world_semantics.specs.World.{Down, copy_of, has_marked, may_pass, other_of};
 ghost use Rattle.gd_words.specs.Ranges.{HasNext};
 ghost use Rattle.node_copies.specs.message_wires.specs.HasRoom.{CopyHasRoom, PairHasRoom};
 ghost use Rattle.world_semantics.specs.Records as happened;
@@ -133,7 +133,7 @@ impl ProcessCopies {
             return Ok(self.end_where(which, free));
         }
         if renewal {
-            let is_heard = !self.has_noted_other(which, downs);
+            let is_heard = !self.has_marked_other(which, downs);
             let step = self.send_all(alloc, which, stands, is_heard)?;
             return Ok(step);
         }
@@ -167,7 +167,7 @@ impl ProcessCopies {
         requires renewal { (copy_of which self.old.pair).renewal ≡ true }
         requires room { CopyHasRoom (copy_of which self.old.pair) }
         ensures stepped { (downs : List Down) (records : happened.Records)
-            → is_heard ≡ not (has_noted downs (copy_of which self.old.pair).processor
+            → is_heard ≡ not (has_marked downs (copy_of which self.old.pair).processor
             (copy_of (other_of which) self.old.pair).processor)
             → IfOk result (λ step. HasStepped
             (renewing_step self.old.number which self.old.pair downs records stands) step self.old self.new records

@@ -1,5 +1,5 @@
 ghost use Rattle.std.specs.Prelude.{◌≡◌, ℕ, is_some};
-ghost use Rattle.world_semantics.specs.World.{Pair, copy_of, has_noted, may_pass, other_of};
+ghost use Rattle.world_semantics.specs.World.{Pair, copy_of, has_marked, may_pass, other_of};
 ghost use Rattle.world_semantics.specs.Records as happened;
 ghost use Rattle.world_semantics.specs.Running.{Stepped, free_step, step_at_checkpoint, own_of, renewing_step};
 ghost use Rattle.world_semantics.specs.Running.{step_as, step_at};
@@ -27,8 +27,8 @@ impl ProcessCopies {
     }
 
     /// Whether a copy's node has marked the other copy's processor.
-    pub(crate) fn has_noted_other(&self, which: Which, downs: &Downs) -> bool
-        ensures { result ≡ has_noted downs.now (copy_of which self.now.pair).processor
+    pub(crate) fn has_marked_other(&self, which: Which, downs: &Downs) -> bool
+        ensures { result ≡ has_marked downs.now (copy_of which self.now.pair).processor
             (copy_of (other_of which) self.now.pair).processor }
     {
         downs.has(self.processor(which), self.processor(other_of(which)))
@@ -38,7 +38,7 @@ impl ProcessCopies {
     pub(crate) fn may_pass(&self, which: Which, downs: &Downs) -> bool
         ensures { result ≡ may_pass downs.now which self.now.pair }
     {
-        self.copies.of(which).acknowledged() || self.has_noted_other(which, downs)
+        self.copies.of(which).acknowledged() || self.has_marked_other(which, downs)
     }
 }
 
@@ -114,7 +114,7 @@ impl ProcessCopies {
         match stands {
             Point::Await => false,
             _ => {
-                let is_heard = !self.has_noted_other(which, downs);
+                let is_heard = !self.has_marked_other(which, downs);
                 is_step(is_heard)
             }
         }

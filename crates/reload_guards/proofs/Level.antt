@@ -432,7 +432,7 @@ change-level w next cause sendings (by_mark node x gone runs new) ok none =
     map-all (AreLevel w.kept) (pair_at_down node x) w.processes
     (λ n p there. mark-level w.stopped w.kept n node x gone p (taker node x p) refl (ok.kept.roles n p there)
     (ok.level none n p there))
-change-level w next cause sendings (by_reload {times = times} x gone noted there few) ok none =
+change-level w next cause sendings (by_reload {times = times} x gone is_marked there few) ok none =
     absurd (none-reloaded w.reloads x times there none)
 
 run-all : {site : Site} {events : List Event} {w : World} → IsPlaced site → IsRun site events w → AllOf site w

@@ -23,7 +23,7 @@ use Rattle.world_semantics.specs.Core.{Advances, Core, Deed, gets}
 use Rattle.world_semantics.specs.Follows.{IsRun}
 use Rattle.world_semantics.specs.Kept.{Enters, begins, holds_on, keeps, repeats}
 use Rattle.world_semantics.specs.Laws.{IsPlaced}
-use Rattle.world_semantics.specs.Messages.{Cause, Entering, Handing, Message, NotingDown, Reloading, Running, Sending}
+use Rattle.world_semantics.specs.Messages.{Cause, Entering, Handing, Message, MarkingDown, Reloading, Running, Sending}
 use Rattle.world_semantics.specs.Messages.{Stopping}
 use Rattle.world_semantics.specs.Own.{Around, Causes, by_answer, by_ask, by_device, by_inner, by_reply, by_take}
 use Rattle.world_semantics.specs.Own.{by_write}
@@ -309,7 +309,7 @@ change-plain w next cause sendings (by_mark node x gone runs new) ok none =
     map-all (λ n p. PlainPair w.stopped p) (pair_at_down node x) w.processes
     (λ n p there. ended-plain w.stopped node x (pair_after_down (taker node x p) p)
     (taken-plain w.stopped x gone (taker node x p) p (ok none n p there)))
-change-plain w next cause sendings (by_reload {times = times} x gone noted there few) ok none =
+change-plain w next cause sendings (by_reload {times = times} x gone is_marked there few) ok none =
     absurd (none-reloaded w.reloads x times there none)
 
 pub begins-plain : (site : Site) → AllPlain (boot site)
@@ -348,7 +348,7 @@ module _ {site : Site} {events : List Event} {w : World} (run : IsRun site event
   free-away k (Entering terminal) away = tt
   free-away k (Handing node message) away = tt
   free-away k (Stopping processor) away = tt
-  free-away k (NotingDown node processor) away = tt
+  free-away k (MarkingDown node processor) away = tt
   free-away k (Reloading processor) away = tt
 
   -- what is applied next was sent where the other copy stands

@@ -3,7 +3,7 @@ ghost use Rattle.std.specs.Option.{is_some, option_map};
 ghost use Rattle.world_semantics.specs.Core.{Core};
 ghost use Rattle.world_semantics.specs.Examples.{disc_site};
 ghost use Rattle.world_semantics.specs.Rules.{blank_copy, reloaded_by, renewals_ended, renewed, taker, without_downs};
-ghost use Rattle.world_semantics.specs.World.{Copy, Pair, is_noted_by_all, is_pair_of, is_whole};
+ghost use Rattle.world_semantics.specs.World.{Copy, Pair, is_marked_by_all, is_pair_of, is_whole};
 ghost use Rattle.world_semantics.specs.declared.role.Role.TheVariants.{Acting, Blank, Gone, Watching};
 ghost use Rattle.world_semantics.specs.declared.which.Which.TheVariants.{First, Second};
 ghost use Rattle.computed_changes.specs.Stopped.{reload_counted, reload_done, stop_done, stopped_world, world_at_down};
@@ -40,7 +40,7 @@ pub fn a_processor_is_loaded_after_all_have_marked_it()
     ensures running { reload_done disc_site 0 begun ≡ None }
     ensures unmarked { reload_done disc_site 0 stopped ≡ None }
     ensures once { reload_done disc_site 0 marked_once ≡ None }
-    ensures noted { is_noted_by_all marked 0 ≡ true }
+    ensures by_all { is_marked_by_all marked 0 ≡ true }
     ensures all { reload_done disc_site 0 marked ≡ Some (record { world = loaded; sendings = [] }) }
     ensures other { reload_done disc_site 1 marked ≡ None }
     ensures again { reload_done disc_site 0 loaded ≡ None }

@@ -49,8 +49,8 @@ pub fn a_report_is_in_order()
         ++ act_lines site acts ++ closing_line site closing }
     ensures plain { (all : List Shown) (sectors : List SectorWords) (stopped : List ℕ) (acts : List Act) (end : End)
         → run_text site all sectors [] stopped acts (Ended end) ≡ report_text site all sectors stopped acts end }
-    ensures mirror { (mark : ℕ) → mirror_line site (record { process = 0; first = Reviving mark; second = Working })
-        ≡ codes "M $DATA reviving " ++ decimal mark ++ codes " " ++ codes "working" ++ 10 ∷ [] }
+    ensures mirror { (next : ℕ) → mirror_line site (record { process = 0; first = Reviving next; second = Working })
+        ≡ codes "M $DATA reviving " ++ decimal next ++ codes " " ++ codes "working" ++ 10 ∷ [] }
     ensures failed { mirror_lines site (record { process = 0; first = Working; second = Failed } ∷ [])
         ≡ codes "M $DATA working failed" ++ 10 ∷ [] }
     ensures lost { closing_line site (Lost 0) ≡ codes "END lost $DATA" ++ 10 ∷ [] }

@@ -22,8 +22,8 @@ use Rattle.pair_machine.specs.message_wires.specs.Wires.{paid_between, without_p
 use Rattle.pair_machine.specs.message_wires.specs.Play.{MachineState, after_done, made_by, after_any}
 use Rattle.pair_machine.specs.message_wires.specs.Play.{state_after_handing, is_admitted}
 use Rattle.pair_machine.specs.message_wires.specs.Play.{deliver_played, lose_played, repeat_played, stop_played}
-use Rattle.pair_machine.specs.message_wires.specs.Play.{fail_played, noted_by}
-use Rattle.pair_machine.specs.message_wires.specs.Play.{notes_from, state_after_tick, tick_played, packet_at, play}
+use Rattle.pair_machine.specs.message_wires.specs.Play.{fail_played, marked_by}
+use Rattle.pair_machine.specs.message_wires.specs.Play.{marks_from, state_after_tick, tick_played, packet_at, play}
 use Rattle.pair_machine.specs.message_wires.specs.Play.{reload_played}
 use Rattle.pair_machine.specs.message_wires.specs.Runs.{IsPlayed, played_none, played_more, skipped}
 use Rattle.schedule_runs.specs.Runs.{IsPlay}
@@ -98,14 +98,14 @@ repeat-few s None few = tt
 repeat-few s (Some packet) few = put-few packet s.wires.bus few
 
 marked-few : (node processor : ℕ) (s : MachineState) (done : Option Done) → IsFew s.wires.bus
-    → IsFew (noted_by node processor s done).wires.bus
+    → IsFew (marked_by node processor s done).wires.bus
 marked-few node processor s None few = few
 marked-few node processor s (Some done) few =
     posted-few (letters_of s.site done.world (done.sendings ++ sent_again s.site s.world done.world node processor))
     (paid_between node processor s.wires) few
 
 marks-few : (node processor left : ℕ) (s : MachineState) → IsFew s.wires.bus
-    → IsFew (notes_from node processor left s).wires.bus
+    → IsFew (marks_from node processor left s).wires.bus
 marks-few node processor zero s few = few
 marks-few node processor (suc left) s few =
     marks-few node (processor + 1) left _ (marked-few node processor s (down_done node processor s.world) few)
@@ -114,9 +114,9 @@ tick-few : (node : ℕ) (s : MachineState) → IsFew s.wires.bus → IsFewPlayed
 tick-few node s few = by (is_running s.world.stopped node)
   where
     by : (test : Bool) → IsFewPlayed (if test then Makes
-        (state_after_tick node (notes_from node 0 (length s.world.stopped) s)) else Skips)
+        (state_after_tick node (marks_from node 0 (length s.world.stopped) s)) else Skips)
     by true =
-        let after = notes_from node 0 (length s.world.stopped) s in
+        let after = marks_from node 0 (length s.world.stopped) s in
         again-few after.world.stopped node after.wires.owed after.wires.bus
         (marks-few node 0 (length s.world.stopped) s few)
     by false = tt

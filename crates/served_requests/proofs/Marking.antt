@@ -14,10 +14,10 @@ use Rattle.checkpoint_image.specs.declared.receive.RequestStanding.TheVariants.{
 use Rattle.checkpoint_image.specs.Receive.{standing_at}
 use Rattle.world_semantics.specs.declared.role.Role.TheVariants.{Acting}
 use Rattle.world_semantics.specs.declared.which.Which.{Which}
-use Rattle.world_semantics.specs.Messages.{Message, Asking, Replying, Sending, Cause, NotingDown}
+use Rattle.world_semantics.specs.Messages.{Message, Asking, Replying, Sending, Cause, MarkingDown}
 use Rattle.world_semantics.specs.Rules.{Change, by_own, by_checkpoint, by_request, by_early_request, by_enter, by_print}
 use Rattle.world_semantics.specs.Rules.{by_stop, by_mark, by_reload}
-use Rattle.world_semantics.specs.World.{Pair, World, has_noted, copy_of}
+use Rattle.world_semantics.specs.World.{Pair, World, has_marked, copy_of}
 use Rattle.world_semantics.proofs.Roles.{both-true}
 use Rattle.letter_laws.specs.plain_histories.proofs.Openers.{opener-is}
 use Rattle.letter_laws.specs.takeover_laws.specs.Fit.{IsFit}
@@ -45,18 +45,18 @@ use Rattle.served_requests.proofs.Turned.{Turned, change-turned}
 -- what a mark is of, and what it leaves
 record IsMark (w next : World) (node processor : ℕ) : Type 0 where
   down : slice_get w.stopped processor ≡ Some true
-  unmarked : has_noted w.downs node processor ≡ false
+  unmarked : has_marked w.downs node processor ≡ false
   downs : next.downs ≡ record { node = node; down = processor } ∷ w.downs
   stopped : next.stopped ≡ w.stopped
   terminals : next.terminals ≡ w.terminals
 
-same-mark : {node at processor other : ℕ} → NotingDown node processor ≡ NotingDown at other
+same-mark : {node at processor other : ℕ} → MarkingDown node processor ≡ MarkingDown at other
     → (node ≡ at) × (processor ≡ other)
 same-mark same = (cc, cc)
 
 mark-is : {site : Site} {w next : World} {cause : Cause} {sendings : List Sending} → Change site w cause sendings next
     → (node processor : ℕ)
-    → cause ≡ NotingDown node processor
+    → cause ≡ MarkingDown node processor
     → IsMark w next node processor
 mark-is {w = w} (by_mark at other stopped runs new) node processor same =
     let is = same-mark same in
@@ -82,7 +82,7 @@ module _ (site : Site) (fit : IsFit site) (out : IsLaidOut site) (events later :
     (good : IsGood site events post.world) (seated : AreSeated site post.world)
     (known : IsKnown site post) (served : AreServed site post) (node processor : ℕ) (sendings : List Sending)
     (next : World)
-    (change : Change site post.world (NotingDown node processor) sendings next) (after : IsGood site later next) where
+    (change : Change site post.world (MarkingDown node processor) sendings next) (after : IsGood site later next) where
   abbrev Sent : List Sending
   Sent = sendings ++ sent_again site post.world next node processor
 
@@ -93,7 +93,7 @@ module _ (site : Site) (fit : IsFit site) (out : IsLaidOut site) (events later :
   is = mark-is change node processor refl
 
   turned : (number : ℕ) (now : Pair) → slice_get next.processes number ≡ Some now
-      → Turned site post.world (NotingDown node processor) sendings number now
+      → Turned site post.world (MarkingDown node processor) sendings number now
   turned = change-turned site fit events post.world good known.honest.calm change tt
 
   -- Letters
@@ -140,8 +140,8 @@ module _ (site : Site) (fit : IsFit site) (out : IsLaidOut site) (events later :
       → processor ≡ led_at before
       → is_rerouted post.world node processor number ≡ true
   rerouted number before there same =
-      let new : has_noted post.world.downs node (led_at before) ≡ false =
-      subst (λ p. has_noted post.world.downs node p ≡ false) same is.unmarked in
+      let new : has_marked post.world.downs node (led_at before) ≡ false =
+      subst (λ p. has_marked post.world.downs node p ≡ false) same is.unmarked in
       rw (there, new, eq-eqb (led_at before) processor (sym same)) refl
 
   -- another node finds an opener where it did, and so does this one, unless the opener is found elsewhere
@@ -224,7 +224,8 @@ module _ (site : Site) (fit : IsFit site) (out : IsLaidOut site) (events later :
     leaves : (pair now : Pair) (k : Which) → slice_get post.world.processes opener.server ≡ Some pair
         → slice_get next.processes opener.server ≡ Some now
         → (copy_of k now).processor ≡ (copy_of k pair).processor
-        → LeavesTold post After asker one opener n (NotingDown node processor) sendings (copy_of k pair) (copy_of k now)
+        → LeavesTold post After asker one opener n (MarkingDown node processor) sendings (copy_of k pair)
+        (copy_of k now)
     leaves pair now k there there_now seat = record {
       carried = λ words acted acts kept was. carried pair now k words there there_now seat acted acts kept was;
       told = λ words among. told (copy_of k pair).processor words
@@ -271,7 +272,7 @@ module _ (site : Site) (fit : IsFit site) (out : IsLaidOut site) (events later :
   mark-served asker one n opener now opens there awaited =
       by (awaited-before site fit events post.world good known.honest.calm change tt awaited)
     where
-      was : Turned site post.world (NotingDown node processor) sendings opener.server now
+      was : Turned site post.world (MarkingDown node processor) sendings opener.server now
       was = turned opener.server now there
 
       route : (node == asker && processor == led_at was.before) ≡ false
@@ -291,7 +292,7 @@ module _ (site : Site) (fit : IsFit site) (out : IsLaidOut site) (events later :
       ]
       still old other (is_seen k at has) =
           is_seen k ((was.goes k).0 ∙ at ∙ sym (route other))
-          (turn-seen site post After asker one opener n (NotingDown node processor) sendings (copy_of k was.before)
+          (turn-seen site post After asker one opener n (MarkingDown node processor) sendings (copy_of k was.before)
           (copy_of k now) (was.goes k).0
           (leaves asker one n opener opens old was.before now k was.there there (was.goes k).0) (was.goes k).1 has)
 

@@ -4,14 +4,14 @@ use Rattle.std.proofs.Common.{slice_set, refl, ap, sym, subst, arith}
 use Rattle.tal_tree.specs.declared.site.Site.{Site}
 use Rattle.tal_tree.specs.declared.site.Who.{Who}
 use Rattle.schedule.specs.declared.event.Event.{Event}
-use Rattle.world_semantics.specs.Messages.{Message, Sending, Cause, Handing, Stopping, NotingDown, Reloading}
+use Rattle.world_semantics.specs.Messages.{Message, Sending, Cause, Handing, Stopping, MarkingDown, Reloading}
 use Rattle.world_semantics.specs.Rules.{Change, by_own, by_checkpoint, by_request, by_early_request, by_enter, by_print}
 use Rattle.world_semantics.specs.Rules.{by_stop, by_mark, by_reload, most_reloads, reloaded_from, without_downs}
-use Rattle.world_semantics.specs.World.{World, boot, has_noted, is_running}
+use Rattle.world_semantics.specs.World.{World, boot, has_marked, is_running}
 use Rattle.letter_laws.specs.takeover_laws.specs.Fit.{IsFit}
 use Rattle.letter_laws.specs.takeover_laws.proofs.Changing.{acts_by, causes-one, passes-one}
 use Rattle.letter_laws.specs.takeover_laws.proofs.Kept.{IsGood, change-good}
-use Rattle.letters.specs.Posts.{Post, post_at_boot, after_change, post_after_down, NotesLetters, no_mark, one_mark}
+use Rattle.letters.specs.Posts.{Post, post_at_boot, after_change, post_after_down, MarksLetters, no_mark, one_mark}
 use Rattle.letters.specs.Posts.{PlaysEvent, plays_run, plays_no_run, plays_enter, plays_no_enter, plays_nothing}
 use Rattle.letters.specs.Posts.{plays_hand, plays_drop, plays_again, plays_mark, plays_loss, plays_repeat, plays_drive}
 use Rattle.letters.specs.Posts.{plays_no_tick, plays_tick, plays_tick_stop, plays_fail, plays_no_fail, plays_reload}
@@ -38,7 +38,7 @@ same-letter same = (cc, cc)
 record IsReload (site : Site) (w next : World) (processor : ℕ) : Type 0 where
   times : ℕ
   down : slice_get w.stopped processor ≡ Some true
-  all : (node : ℕ) → is_running w.stopped node ≡ true → has_noted w.downs node processor ≡ true
+  all : (node : ℕ) → is_running w.stopped node ≡ true → has_marked w.downs node processor ≡ true
   counted : slice_get w.reloads processor ≡ Some times
   less : times < most_reloads
   left : next ≡ record w {
@@ -103,11 +103,11 @@ module _ (site : Site) (fit : IsFit site) (out : IsLaidOut site) where
 
   downs-served : (node events : ℕ) (post next : Post) → events < 4294967295 → IsGood site events post.world
       → IsKnown site post
-      → AreServed site post → NotesLetters site node post next → AreServed site next
+      → AreServed site post → MarksLetters site node post next → AreServed site next
   downs-served node events post next few good known served no_mark = served
   downs-served node events post next few good known served
       (one_mark {sendings = sendings} {next = w} processor change more) =
-      let after = change-good site fit events post.world w (NotingDown node processor) sendings few good change in
+      let after = change-good site fit events post.world w (MarkingDown node processor) sendings few good change in
       downs-served node (events + 0) (post_after_down site node processor sendings w post) next (omega (arith, few))
       after
       (known-mark site fit events (events + 0) post w node processor sendings good after known change)
@@ -146,7 +146,7 @@ module _ (site : Site) (fit : IsFit site) (out : IsLaidOut site) where
       of (plays_mark {sendings = sendings} {next = w} node processor change) =
           mark-served site fit out events (events + 0) post good (seats post known) known served node processor
           sendings w change
-          (change-good site fit events post.world w (NotingDown node processor) sendings few good change)
+          (change-good site fit events post.world w (MarkingDown node processor) sendings few good change)
       of plays_loss = served
       of plays_repeat = served
       of plays_drive = served

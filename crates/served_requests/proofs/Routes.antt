@@ -7,10 +7,10 @@ use Rattle.tal_tree.specs.declared.site.Who.{Who}
 use Rattle.tal_tree.specs.declared.site.Who.TheVariants as who
 use Rattle.world_semantics.specs.declared.which.Which.{Which}
 use Rattle.world_semantics.specs.declared.which.Which.TheVariants.{First, Second}
-use Rattle.world_semantics.specs.Messages.{Sending, Cause, Running, Entering, Handing, Stopping, NotingDown, Reloading}
+use Rattle.world_semantics.specs.Messages.{Sending, Cause, Running, Entering, Handing, Stopping, MarkingDown, Reloading}
 use Rattle.world_semantics.specs.Rules.{Change, by_own, by_checkpoint, by_request, by_early_request, by_enter, by_print}
 use Rattle.world_semantics.specs.Rules.{by_stop, by_mark, by_reload}
-use Rattle.world_semantics.specs.World.{Pair, Down, World, is_running, has_noted, copy_of, other_of}
+use Rattle.world_semantics.specs.World.{Pair, Down, World, is_running, has_marked, copy_of, other_of}
 use Rattle.world_semantics.proofs.Growing.{stop-stays}
 use Rattle.letters.specs.Routes.{route_of, route_to, home_of}
 use Rattle.letter_laws.specs.awaited_requests.specs.Seats.{IsSeated}
@@ -22,11 +22,11 @@ IsNoReload (Running number) = Unit {0}
 IsNoReload (Entering terminal) = Unit {0}
 IsNoReload (Handing node message) = Unit {0}
 IsNoReload (Stopping processor) = Unit {0}
-IsNoReload (NotingDown node processor) = Unit {0}
+IsNoReload (MarkingDown node processor) = Unit {0}
 
 -- a change is neither a mark nor a reload: the routes of all nodes stay
 abbrev pub KeepsRoutes : Cause → Type 0
-KeepsRoutes (NotingDown node processor) = ⊥
+KeepsRoutes (MarkingDown node processor) = ⊥
 KeepsRoutes (Reloading processor) = ⊥
 KeepsRoutes (Running number) = Unit {0}
 KeepsRoutes (Entering terminal) = Unit {0}
@@ -34,7 +34,7 @@ KeepsRoutes (Handing node message) = Unit {0}
 KeepsRoutes (Stopping processor) = Unit {0}
 
 pub routes-no-reload : (cause : Cause) → KeepsRoutes cause → IsNoReload cause
-routes-no-reload (NotingDown node processor) keeps = tt
+routes-no-reload (MarkingDown node processor) keeps = tt
 routes-no-reload (Reloading processor) keeps = keeps
 routes-no-reload (Running number) keeps = tt
 routes-no-reload (Entering terminal) keeps = tt
@@ -52,7 +52,7 @@ led_at pair = (copy_of pair.led pair).processor
 -- the route to a process of which this copy leads
 abbrev led_by : List Down → ℕ → Pair → Which → ℕ
 led_by downs node pair k =
-    if has_noted downs node (copy_of k pair).processor then (copy_of (other_of k) pair).processor
+    if has_marked downs node (copy_of k pair).processor then (copy_of (other_of k) pair).processor
     else (copy_of k pair).processor
 
 -- where the same copy leads in both, the routes are the same
@@ -66,7 +66,7 @@ route-same downs node before now same led = ap (led_by downs node now) led ∙ s
 -- a route leads to one of the two copies
 pub route-where : (downs : List Down) (node : ℕ) (pair : Pair)
     → (k : Which) × ((copy_of k pair).processor ≡ route_of downs node pair)
-route-where downs node pair = by (has_noted downs node (copy_of pair.led pair).processor)
+route-where downs node pair = by (has_marked downs node (copy_of pair.led pair).processor)
   where
     by : (marked : Bool) → (k : Which) × ((copy_of k pair).processor
         ≡ (if marked then (copy_of (other_of pair.led) pair).processor else (copy_of pair.led pair).processor))

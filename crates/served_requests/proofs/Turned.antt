@@ -13,7 +13,7 @@ use Rattle.world_semantics.specs.declared.role.Role.TheVariants.{Acting}
 use Rattle.world_semantics.specs.declared.which.Which.{Which}
 use Rattle.world_semantics.specs.declared.which.Which.TheVariants.{First, Second}
 use Rattle.world_semantics.specs.World.{Copy, Pair, World, copy_of, other_of, with_copy, receives, Down}
-use Rattle.world_semantics.specs.Messages.{Replying, Sending, sent_at, Cause, NotingDown}
+use Rattle.world_semantics.specs.Messages.{Replying, Sending, sent_at, Cause, MarkingDown}
 use Rattle.world_semantics.specs.Passes.{Passes, by_send, by_pass_again, by_pass, by_end, by_apply_behind, by_apply}
 use Rattle.world_semantics.specs.Passes.{by_acknowledge}
 use Rattle.world_semantics.specs.Rules.{Change, by_own, by_checkpoint, by_request, by_early_request, by_enter, by_print}
@@ -132,12 +132,12 @@ module _ (site : Site) (fit : IsFit site) (events : ℕ) (w : World) (good : IsG
       by (Some Second) = refl
 
   mark-goes : (node processor number : ℕ) (pair : Pair) → slice_get w.processes number ≡ Some pair → (k : Which)
-      → Goes site number (NotingDown node processor) (flat_map (told_at_down node processor) w.processes) pair k
+      → Goes site number (MarkingDown node processor) (flat_map (told_at_down node processor) w.processes) pair k
       (copy_of k (pair_at_down node processor pair))
   mark-goes node processor number pair there k = ended k (by (taker node processor pair) refl k)
     where
       Here : Which → Copy → Type 0
-      Here = Goes site number (NotingDown node processor) (flat_map (told_at_down node processor) w.processes) pair
+      Here = Goes site number (MarkingDown node processor) (flat_map (told_at_down node processor) w.processes) pair
 
       after : Pair
       after = pair_after_down (taker node processor pair) pair

@@ -8,7 +8,7 @@ use Rattle.std.proofs.lemmas.Bool.{ltb-true}
 use Rattle.tal_tree.specs.declared.site.Site.{Site}
 use Rattle.node.specs.world_semantics.specs.Rules.{most_reloads}
 use Rattle.node.specs.world_semantics.specs.Running.{Done}
-use Rattle.node.specs.world_semantics.specs.World.{World, is_noted_by_all, is_whole}
+use Rattle.node.specs.world_semantics.specs.World.{World, is_marked_by_all, is_whole}
 use Rattle.node.specs.computed_changes.specs.Stopped.{reload_counted, reload_done, reload_if, reload_where, stop_done}
 use Rattle.node.specs.computed_changes.specs.Stopped.{stop_if}
 use Rattle.node.specs.computed_changes.specs.Stopped.{stop_where, stopped_world}
@@ -61,9 +61,9 @@ reloads-done processor s mid after (Some done) some world wires = (
 )
 
 -- a processor that is loaded again was loaded again fewer than 127 times
-free-loads : (times : ℕ) (site : Site) (processor : ℕ) (w : World) (noted less : Bool)
+free-loads : (times : ℕ) (site : Site) (processor : ℕ) (w : World) (is_marked less : Bool)
     → nat_lt times most_reloads ≡ less
-    → is_some (reload_if site processor times w (noted && less)) ≡ true → times < most_reloads
+    → is_some (reload_if site processor times w (is_marked && less)) ≡ true → times < most_reloads
 free-loads times site processor w true true is some = ltb-true times most_reloads is
 free-loads times site processor w true false is some = absurd (cc)
 free-loads times site processor w false less is some = absurd (cc)
@@ -72,7 +72,7 @@ counted-loads : (site : Site) (processor : ℕ) (w : World) (times : Option ℕ)
     → is_some (reload_counted site processor w times) ≡ true → unwrap_or times 0 < most_reloads
 counted-loads site processor w None some = absurd (cc)
 counted-loads site processor w (Some times) some =
-    free-loads times site processor w (is_noted_by_all w processor) (nat_lt times most_reloads) refl some
+    free-loads times site processor w (is_marked_by_all w processor) (nat_lt times most_reloads) refl some
 
 loads-few : (site : Site) (processor : ℕ) (w : World) (stopped : Option Bool)
     → is_some (reload_where site processor w stopped) ≡ true → times_loaded w.reloads processor < most_reloads

@@ -5,13 +5,13 @@ use Rattle.std.specs.Fmt.{decimal}
 use Rattle.std.specs.Prelude.{IsTrue, IsFalse}
 use Rattle.svg_text.specs.Escapes.{escaped_text, worded}
 use Rattle.svg_text.specs.Looks.{all_looks, look_name, look_style, rule_text, style_text}
-use Rattle.svg_text.specs.Marks.{bare_element, bar_attributes, circle_attributes, group_text, line_attributes}
-use Rattle.svg_text.specs.Marks.{look_attribute, mark_text, title_text, words_attributes}
+use Rattle.svg_text.specs.Shapes.{bare_element, bar_attributes, circle_attributes, group_text, line_attributes}
+use Rattle.svg_text.specs.Shapes.{look_attribute, shape_text, title_text, words_attributes}
 use Rattle.svg_text.specs.Xml.{AreAttributes, IsContent, end_tag, in_element, in_empty, in_turn, in_words}
 use Rattle.svg_text.specs.Xml.{is_name, is_one_of, no_attributes, one_more, start_of_tag}
 use Rattle.svg_text.specs.declared.drawing.Group.{Group}
-use Rattle.svg_text.specs.declared.drawing.Mark.{Mark}
-use Rattle.svg_text.specs.declared.drawing.Mark.TheVariants.{Line, Bar, Circle, Words}
+use Rattle.svg_text.specs.declared.drawing.Shape.{Shape}
+use Rattle.svg_text.specs.declared.drawing.Shape.TheVariants.{Line, Bar, Circle, Words}
 use Rattle.svg_text.specs.declared.drawing.Spot.{Spot}
 use Rattle.svg_text.specs.declared.looks.Look.{Look}
 use Rattle.svg_text.proofs.Words.{escaped_words}
@@ -50,12 +50,12 @@ more names before name words given is new =
 pub first : (name words : List ℕ) → IsTrue (is_name name) → AreAttributes (name ∷ []) (worded name words)
 first name words is = more [] [] name words no_attributes is refl
 
--- Marks
+-- Shapes
 
 look_is : (look : Look) → AreAttributes (codes "class" ∷ []) (look_attribute look)
 look_is look = first (codes "class") (look_name look) refl
 
-line_is : (look : Look) (from to : Spot) → IsContent (mark_text (Line look from to))
+line_is : (look : Look) (from to : Spot) → IsContent (shape_text (Line look from to))
 line_is look from to =
     in_empty {attributes = line_attributes look from to} (codes "line") refl
     (more _ _ (codes "y2") (decimal to.y)
@@ -63,7 +63,7 @@ line_is look from to =
     (more _ _ (codes "y1") (decimal from.y)
     (more _ _ (codes "x1") (decimal from.x) (look_is look) refl refl) refl refl) refl refl) refl refl)
 
-bar_is : (look : Look) (at : Spot) (width height : ℕ) → IsContent (mark_text (Bar look at width height))
+bar_is : (look : Look) (at : Spot) (width height : ℕ) → IsContent (shape_text (Bar look at width height))
 bar_is look at width height =
     in_empty {attributes = bar_attributes look at width height} (codes "rect") refl
     (more _ _ (codes "height") (decimal height)
@@ -71,24 +71,24 @@ bar_is look at width height =
     (more _ _ (codes "y") (decimal at.y)
     (more _ _ (codes "x") (decimal at.x) (look_is look) refl refl) refl refl) refl refl) refl refl)
 
-circle_is : (look : Look) (at : Spot) (radius : ℕ) → IsContent (mark_text (Circle look at radius))
+circle_is : (look : Look) (at : Spot) (radius : ℕ) → IsContent (shape_text (Circle look at radius))
 circle_is look at radius =
     in_empty {attributes = circle_attributes look at radius} (codes "circle") refl
     (more _ _ (codes "r") (decimal radius)
     (more _ _ (codes "cy") (decimal at.y)
     (more _ _ (codes "cx") (decimal at.x) (look_is look) refl refl) refl refl) refl refl)
 
-words_are : (look : Look) (at : Spot) (words : List ℕ) → IsContent (mark_text (Words look at words))
+words_are : (look : Look) (at : Spot) (words : List ℕ) → IsContent (shape_text (Words look at words))
 words_are look at words =
     in_element {attributes = words_attributes look at} {inside = escaped_text words} (codes "text") refl
     (more _ _ (codes "y") (decimal at.y) (more _ _ (codes "x") (decimal at.x) (look_is look) refl refl) refl refl)
     (words_content words)
 
-mark_content : (mark : Mark) → IsContent (mark_text mark)
-mark_content (Line look from to) = line_is look from to
-mark_content (Bar look at width height) = bar_is look at width height
-mark_content (Circle look at radius) = circle_is look at radius
-mark_content (Words look at words) = words_are look at words
+shape_content : (shape : Shape) → IsContent (shape_text shape)
+shape_content (Line look from to) = line_is look from to
+shape_content (Bar look at width height) = bar_is look at width height
+shape_content (Circle look at radius) = circle_is look at radius
+shape_content (Words look at words) = words_are look at words
 
 -- Groups
 
@@ -101,8 +101,8 @@ pub group_content : (group : Group) → IsContent (group_text group)
 group_content group =
     turn _ (codes "\n")
     (bare_content (codes "g") _ refl
-    (turn (title_text group.title) (flat_map mark_text group.marks) (title_content group.title)
-    (all_content mark_text mark_content group.marks)))
+    (turn (title_text group.title) (flat_map shape_text group.shapes) (title_content group.title)
+    (all_content shape_text shape_content group.shapes)))
     line_end
 
 -- The style sheet

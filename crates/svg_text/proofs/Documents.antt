@@ -2,7 +2,7 @@
 use Rattle.std.proofs.Common.{ℕ, List, [], ◌∷◌, codes, flat_map, refl}
 use Rattle.std.specs.Fmt.{decimal}
 use Rattle.svg_text.specs.Looks.{style_text}
-use Rattle.svg_text.specs.Marks.{group_text}
+use Rattle.svg_text.specs.Shapes.{group_text}
 use Rattle.svg_text.specs.Sheets.{drawing_text, head_text, marker_attributes, path_text, root_attributes, sheet_text}
 use Rattle.svg_text.specs.Sheets.{style_sheet, view_box}
 use Rattle.svg_text.specs.Xml.{AreAttributes, IsContent, IsDocument, in_element, in_empty}

@@ -1,5 +1,5 @@
 pub mod Escapes
 pub mod Looks
-pub mod Marks
+pub mod Shapes
 pub mod Sheets
 pub mod Xml

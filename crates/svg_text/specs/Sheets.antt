@@ -3,7 +3,7 @@ use Rattle.std.specs.Prelude.{ℕ, List, ◌++◌, codes, flat_map}
 use Rattle.std.specs.Fmt.{decimal}
 use Rattle.svg_text.specs.Escapes.{numbered, worded}
 use Rattle.svg_text.specs.Looks.{style_text}
-use Rattle.svg_text.specs.Marks.{bare_element, group_text}
+use Rattle.svg_text.specs.Shapes.{bare_element, group_text}
 use Rattle.svg_text.specs.Xml.{element, empty_element}
 use Rattle.svg_text.specs.declared.drawing.Drawing.{Drawing}
 

@@ -10,7 +10,7 @@ pub struct Spot {
 
 /// One thing that is drawn.
 #[derive(Drop)]
-pub enum Mark {
+pub enum Shape {
     Line {
         look: Look,
         from: Spot,
@@ -35,11 +35,11 @@ pub enum Mark {
     },
 }
 
-/// Marks that have a title in common, which a viewer shows who points at one. An empty title is none.
+/// Shapes that have a title in common, which a viewer shows who points at one. An empty title is none.
 #[derive(Drop)]
 pub struct Group {
     pub title: List<u8>,
-    pub marks: List<Mark>,
+    pub shapes: List<Shape>,
 }
 
 /// A drawing of a size. A group is drawn over the one that is under all others and over those before it.

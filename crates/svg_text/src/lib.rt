@@ -10,10 +10,10 @@ pub mod drawing;
 mod elements;
 pub mod laws;
 pub mod looks;
-mod marks;
+mod shapes;
 mod sheets;
 
-pub use drawing::{Drawing, Group, Mark, Spot};
+pub use drawing::{Drawing, Group, Shape, Spot};
 pub use laws::a_drawing_is_well_formed;
 pub use looks::Look;
 pub use sheets::put_drawing;

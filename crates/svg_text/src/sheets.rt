@@ -1,14 +1,14 @@
 ghost use Rattle.std.specs.Prelude.{◌≡◌, ◌++◌, codes, flat_map, IfOk, OnOk};
 ghost use Rattle.svg_text.specs.Escapes.{worded};
 ghost use Rattle.svg_text.specs.Looks.{rule_text, style_text};
-ghost use Rattle.svg_text.specs.Marks.{group_text};
+ghost use Rattle.svg_text.specs.Shapes.{group_text};
 ghost use Rattle.svg_text.specs.Sheets.{drawing_text, root_attributes, root_text, sheet_text, style_sheet, view_box};
 
 use crate::arrows::put_head;
 use crate::drawing::{Drawing, Group};
 use crate::elements::{put_attribute, put_escaped, put_number};
 use crate::looks::{Look, look_name, look_style};
-use crate::marks::put_group;
+use crate::shapes::put_group;
 use gd_words::{List, NoMemory};
 use std::alloc::Global;
 use text_pieces::{put, put_number as put_digits};

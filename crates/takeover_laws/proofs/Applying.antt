@@ -37,7 +37,8 @@ use Rattle.takeover_laws.specs.Invariant.{Level, is_level, is_applied, is_behind
 use Rattle.takeover_laws.specs.Invariant.{is_lost, is_due, is_even, has_applied, FirstLeads, with_other}
 use Rattle.takeover_laws.specs.Invariant.{AreRepeatable, Behind, IsBlank}
 use Rattle.takeover_laws.specs.Invariant.{IsDated, has_renewed, is_blank}
-use Rattle.takeover_laws.proofs.Repeating.{unmarked-join, short-join, repeatable-unmarked, held-unmarked, held-idle}
+use Rattle.takeover_laws.proofs.Repeating.{uncheckpointed-join, short-join, repeatable-uncheckpointed}
+use Rattle.takeover_laws.proofs.Repeating.{held-uncheckpointed, held-idle}
 use Rattle.takeover_laws.proofs.Repeating.{held-length, held-short, repeatable-join}
 use Rattle.takeover_laws.proofs.Settled.{IsSettled, settled-held}
 use Rattle.takeover_laws.proofs.Checkpoints.{away-imaged, checkpoint-imaged}
@@ -286,7 +287,8 @@ module _ (site : Site) (regular : AreRegular site) (kept : List Act) (shown : Li
       let restored : put_in pair.second.core (carried pair.first.core) ≡ Some (after_passing pair.first.core) =
       disciplined.resume (more ++ w.since) w.before pair.first.core pair.second.core
       (subst (λ g. HasDone site number spec g pair.first.core) (sym whole) done)
-      (unmarked-join more w.since (held-unmarked holds) (repeatable-unmarked w.since w.repeatable)) bounded at w.done in
+      (uncheckpointed-join more w.since (held-uncheckpointed holds) (repeatable-uncheckpointed w.since w.repeatable))
+      bounded at w.done in
       level-applied pair message applied held more (record {
         role = role;
         unsent = w.unsent;

@@ -103,19 +103,19 @@ same-deed (acts {call = one} {found = found} at is) (acts {call = other} {found 
     let all : found ≡ old = did one found old refl (ap (λ c. Acted c old) (sym call)) in cc
 same-deed advances moves again got did = let at = stands-there advances in let here = stands-there moves in absurd (cc)
 
-marked-only : (deed : Deed) → point_of deed ≡ point.AtCheckpoint → deed ≡ Checkpointed
-marked-only Checkpointed at = refl
-marked-only Went at = absurd (cc)
-marked-only (Took place words) at = absurd (cc)
-marked-only (Asked file words) at = absurd (cc)
-marked-only (Got file words) at = absurd (cc)
-marked-only (Answered place words) at = absurd (cc)
-marked-only (Acted call found) at = absurd (cc)
+checkpoint-only : (deed : Deed) → point_of deed ≡ point.AtCheckpoint → deed ≡ Checkpointed
+checkpoint-only Checkpointed at = refl
+checkpoint-only Went at = absurd (cc)
+checkpoint-only (Took place words) at = absurd (cc)
+checkpoint-only (Asked file words) at = absurd (cc)
+checkpoint-only (Got file words) at = absurd (cc)
+checkpoint-only (Answered place words) at = absurd (cc)
+checkpoint-only (Acted call found) at = absurd (cc)
 
 -- a deed that is no checkpoint isn't done at a checkpoint
-pub not-at-mark : {openers : List OpenerSpec} {core next : Core} {deed : Deed} → Advances openers core deed next
+pub not-at-checkpoint : {openers : List OpenerSpec} {core next : Core} {deed : Deed} → Advances openers core deed next
     → deed ≢ Checkpointed → process.point core.state ≡ point.AtCheckpoint → ⊥
-not-at-mark {deed = deed} advances other at = other (marked-only deed (sym (stands-there advances) ∙ at))
+not-at-checkpoint {deed = deed} advances other at = other (checkpoint-only deed (sym (stands-there advances) ∙ at))
 
 -- The device
 

@@ -36,7 +36,7 @@ AllAnswered ledger replies = (reply : Reply) → IsAmong reply replies → IsAns
 pub record IsCaused (site : Site) (ledger : Ledger) (number : ℕ) (spec : ProcessSpec) (core : Core)
     (before after : Around) (deed : Deed) (act : Act) : Type 0 where
   pub act_is : act ≡ act_of number deed
-  pub no_mark : deed ≢ Checkpointed
+  pub no_checkpoint : deed ≢ Checkpointed
   pub backed : IsBacked site ledger number spec core deed
   pub waiting : (request : Request) → IsAmong request after.waiting → IsAmong request before.waiting
   pub requests : (more : Ledger) → Keeps ledger more → IsSentBy site more number core deed
@@ -87,7 +87,7 @@ module _ (site : Site) (ledger : Ledger) (number node : ℕ) (spec : ProcessSpec
       → IsCaused site ledger number spec core before after deed act
   caused by_inner = record {
     act_is = refl;
-    no_mark = λ e. absurd (cc);
+    no_checkpoint = λ e. absurd (cc);
     backed = tt;
     waiting = λ r among. among;
     requests = λ m stay s. old-requests m stay;
@@ -100,7 +100,7 @@ module _ (site : Site) (ledger : Ledger) (number node : ℕ) (spec : ProcessSpec
       let was = waits found.request one.waited in
       record {
         act_is = refl;
-        no_mark = λ e. absurd (cc);
+        no_checkpoint = λ e. absurd (cc);
         backed = (
           was.1.0,
           one.block,
@@ -117,7 +117,7 @@ module _ (site : Site) (ledger : Ledger) (number node : ℕ) (spec : ProcessSpec
       }
   caused (by_ask {file = file} {words = words}) = record {
     act_is = refl;
-    no_mark = λ e. absurd (cc);
+    no_checkpoint = λ e. absurd (cc);
     backed = tt;
     waiting = λ r among. among;
     requests = λ m stay s. new-requests m file words (opener_of site (who.File number file)) refl stay s;
@@ -127,7 +127,7 @@ module _ (site : Site) (ledger : Ledger) (number node : ℕ) (spec : ProcessSpec
   }
   caused (by_answer {place = place} {words = words} {block = block} there) = record {
     act_is = refl;
-    no_mark = λ e. absurd (cc);
+    no_checkpoint = λ e. absurd (cc);
     backed = tt;
     waiting = λ r among. among;
     requests = λ m stay s. old-requests m stay;
@@ -138,7 +138,7 @@ module _ (site : Site) (ledger : Ledger) (number node : ℕ) (spec : ProcessSpec
   }
   caused (by_device {call = c} stood) = record {
     act_is = refl;
-    no_mark = λ e. absurd (cc);
+    no_checkpoint = λ e. absurd (cc);
     backed = ap (λ s. found_on s c) sectors;
     waiting = λ r among. among;
     requests = λ m stay s. old-requests m stay;
@@ -148,7 +148,7 @@ module _ (site : Site) (ledger : Ledger) (number node : ℕ) (spec : ProcessSpec
   }
   caused (by_write {sector = sector} {words = words} {write = write} is_new) = record {
     act_is = refl;
-    no_mark = λ e. absurd (cc);
+    no_checkpoint = λ e. absurd (cc);
     backed = ap (λ s. found_on s (call.Write sector words write)) sectors;
     waiting = λ r among. among;
     requests = λ m stay s. old-requests m stay;
@@ -158,7 +158,7 @@ module _ (site : Site) (ledger : Ledger) (number node : ℕ) (spec : ProcessSpec
   }
   caused (by_reply {file = file} {words = words} {reply = reply} among is number_is said) = record {
     act_is = refl;
-    no_mark = λ e. absurd (cc);
+    no_checkpoint = λ e. absurd (cc);
     backed = (
       record { server = reply.process; place = reply.opener },
       reply.number,

@@ -8,7 +8,7 @@ use Rattle.tal_tree.specs.declared.act.Act.TheVariants.{Step}
 use Rattle.tal_tree.specs.declared.site.Site.{Site}
 use Rattle.world_semantics.specs.Core.{Core, Deed}
 use Rattle.world_semantics.specs.Kept.{is_own, own_acts}
-use Rattle.world_semantics.specs.Messages.{Message, Sending, Cause, Stopping, NotingDown, Reloading}
+use Rattle.world_semantics.specs.Messages.{Message, Sending, Cause, Stopping, MarkingDown, Reloading}
 use Rattle.world_semantics.specs.Own.{Around, Causes, by_inner, by_take, by_ask, by_answer, by_device, by_write}
 use Rattle.world_semantics.specs.Own.{by_reply}
 use Rattle.world_semantics.specs.Passes.{Passes, by_send, by_pass_again, by_pass, by_apply, by_acknowledge}
@@ -26,7 +26,7 @@ use Rattle.process_semantics.specs.declared.point.Point.TheVariants as point
 -- how many acts a change adds at most
 abbrev pub acts_by : Cause → ℕ
 acts_by (Stopping processor) = 0
-acts_by (NotingDown node processor) = 0
+acts_by (MarkingDown node processor) = 0
 acts_by (Reloading processor) = 0
 acts_by _ = 1
 

@@ -38,14 +38,14 @@ other-rests (is_even stage w next unsent told renewal) acting = let role = w.rol
 other-rests (has_applied w next sent told) acting = let role = w.role in absurd (cc)
 other-rests (has_renewed stage away w next sent told) acting = let role = w.role in absurd (cc)
 
-pub no-mark-again : (deed : Deed) → IsRepeatable deed → point_of deed ≡ point.AtCheckpoint → ⊥
-no-mark-again Checkpointed again at = again
-no-mark-again Went again at = cc
-no-mark-again (Took place words) again at = cc
-no-mark-again (Asked file words) again at = cc
-no-mark-again (Got file words) again at = cc
-no-mark-again (Answered place words) again at = cc
-no-mark-again (Acted call found) again at = cc
+pub no-checkpoint-again : (deed : Deed) → IsRepeatable deed → point_of deed ≡ point.AtCheckpoint → ⊥
+no-checkpoint-again Checkpointed again at = again
+no-checkpoint-again Went again at = cc
+no-checkpoint-again (Took place words) again at = cc
+no-checkpoint-again (Asked file words) again at = cc
+no-checkpoint-again (Got file words) again at = cc
+no-checkpoint-again (Answered place words) again at = cc
+no-checkpoint-again (Acted call found) again at = cc
 
 -- Numbers of messages
 

@@ -5,7 +5,7 @@ use Rattle.schedule.specs.declared.event.Event.{Event}
 use Rattle.world_semantics.specs.plain_semantics.specs.Machine.{IsPossible, shown_by}
 use Rattle.world_semantics.specs.Follows.{Follows, runs, cannot_run, enters, cannot_enter, delivers_none, delivers}
 use Rattle.world_semantics.specs.Follows.{delivers_mark, loses, doubles, ticks_none, ticks, ticks_stop, fails}
-use Rattle.world_semantics.specs.Follows.{turns_drive, cannot_fail, NotesDowns, marks_none, marks_one, Leads, stays}
+use Rattle.world_semantics.specs.Follows.{turns_drive, cannot_fail, MarksDowns, marks_none, marks_one, Leads, stays}
 use Rattle.world_semantics.specs.Follows.{goes_on, IsRun, cannot_reload, reloads}
 use Rattle.world_semantics.specs.Kept.{acts_of}
 use Rattle.world_semantics.specs.Messages.{Sending, Cause}
@@ -73,7 +73,7 @@ module _ (site : Site) (fit : IsFit site) where
   }
 
   downs-good : (events : ℕ) {node : ℕ} {w end : World} {sendings : List Sending} → events < 4294967295
-      → IsGood site events w → NotesDowns site node w sendings end → IsGood site events end
+      → IsGood site events w → MarksDowns site node w sendings end → IsGood site events end
   downs-good events few good marks_none = good
   downs-good events few good (marks_one {w = w} {next = next} processor change more) =
       downs-good events few (more-good events (omega arith) (change-good events w next _ _ few good change)) more

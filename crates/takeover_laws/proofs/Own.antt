@@ -22,9 +22,10 @@ use Rattle.plain_histories.proofs.Counted.{booked-count}
 use Rattle.plain_histories.proofs.Possible.{booked-ran}
 use Rattle.takeover_laws.specs.Invariant.{IsRepeatable, Stage, Level, Applied, Behind, IsLead, is_level, is_applied}
 use Rattle.takeover_laws.specs.Invariant.{is_behind}
-use Rattle.takeover_laws.proofs.Backed.{IsBacked, IsSentBy, IsOld, IsNew, same-deed, not-at-mark, sent-by, new-call}
+use Rattle.takeover_laws.proofs.Backed.{IsBacked, IsSentBy, IsOld, IsNew, same-deed, not-at-checkpoint, sent-by}
+use Rattle.takeover_laws.proofs.Backed.{new-call}
 use Rattle.takeover_laws.proofs.Backed.{old-call, allowed-by, got-same, call-same}
-use Rattle.takeover_laws.proofs.Repeating.{no-mark, repeatable-unmarked}
+use Rattle.takeover_laws.proofs.Repeating.{no-checkpoint, repeatable-uncheckpointed}
 use Rattle.takeover_laws.proofs.Stops.{lead-from}
 use Rattle.process_semantics.specs.Process as process
 use Rattle.process_semantics.specs.declared.point.Point.TheVariants as point
@@ -124,7 +125,7 @@ module _ (site : Site) (regular : AreRegular site) (number : ℕ) (spec : Proces
   held-shape (take_held {place = place} {words = words} awaits) some = ([], place, words, refl, tt)
   held-shape (step_held held) some =
       let rest = held-shape held (λ e. absurd (cc)) in
-      (Went ∷ rest.0, rest.1, rest.2, ap (λ all. Went ∷ all) rest.3, ((λ mark. mark), rest.4))
+      (Went ∷ rest.0, rest.1, rest.2, ap (λ all. Went ∷ all) rest.3, ((λ is. is), rest.4))
 
   -- so what comes after them is a step inside
   pub quiet-held : {acts : List Act} {deeds : List Deed} (deed : Deed) {core : Core}
@@ -136,7 +137,7 @@ module _ (site : Site) (regular : AreRegular site) (number : ℕ) (spec : Proces
       ∙ ap (λ all. deed ∷ all) (append_assoc shape.0 (Took shape.1 shape.2 ∷ []) (ledger.deeds number)) in
       inner-first deed shape.0 (disciplined.quiet (deed ∷ shape.0) (ledger.deeds number) shape.1 shape.2 core
       (subst (λ all. HasDone site number spec all core) is done)
-      (no-mark deed other, shape.4))
+      (no-checkpoint deed other, shape.4))
 
   level-held : (after : List Act) (deed : Deed) (copy entered : Copy) (next : Core) (held : List Act)
       (more : List Deed) → copy.held ≡ held → held ≢ []
@@ -185,7 +186,7 @@ module _ (site : Site) (regular : AreRegular site) (number : ℕ) (spec : Proces
       (λ s. sent s (free s)) advances other enters
   lead-own after deed copy entered next (is_applied before is split pos done) free advances other back enters =
       let stands = ((booked-ran regular booked).agrees.processes number spec there).2 in
-      absurd (not-at-mark advances other (stands-there
+      absurd (not-at-checkpoint advances other (stands-there
       (done-last done (subst (λ all. HasDone site number spec all stands.core) split stands.done))))
   lead-own after deed copy entered next (is_behind since then before is split one all pos done unsent) free advances
       other back enters =
@@ -209,7 +210,7 @@ module _ (site : Site) (regular : AreRegular site) (number : ℕ) (spec : Proces
       idle : (core : Core) → HasDone site number spec (ledger.deeds number) core → (call : DeviceCall) (found : List ℤ)
           → ledger.deeds number ≡ since ++ Acted call found ∷ before → AreIdle since
       idle core whole call found at = disciplined.once since before call found core
-          (subst (λ g. HasDone site number spec g core) at whole) (repeatable-unmarked since all)
+          (subst (λ g. HasDone site number spec g core) at whole) (repeatable-uncheckpointed since all)
 
       by : (core : Core) → HasDone site number spec (ledger.deeds number) core
           → ledger.deeds number ≡ since ++ deed ∷ before → {entered : Copy} {after : List Act}

@@ -174,10 +174,11 @@ module _ (site : Site) (number : ℕ) (spec : ProcessSpec) where
         → Enters number (act_of number deed) kept pair.first entered after
         → Outcome site kept ledger number spec deed pair.first.core
         (λ l deeds. FirstLeads site l number spec deeds (record pair { first = record entered { core = core } })) after
-    leads-own after deed pair entered core (with_other {stage = stage} role lead other dated) free advances not_mark
+    leads-own after deed pair entered core (with_other {stage = stage} role lead other dated) free advances
+        not_checkpoint
         back enters =
         by (lead-own site regular number spec disciplined there ledger booked after deed pair.first entered core lead
-        free advances not_mark back enters)
+        free advances not_checkpoint back enters)
       where
         copy : Copy
         copy = record entered { core = core }

@@ -23,7 +23,7 @@ use Rattle.plain_histories.proofs.Possible.{booked-ran}
 use Rattle.takeover_laws.specs.Invariant.{FirstLeads}
 use Rattle.takeover_laws.specs.Invariant.{IsRepeatable}
 use Rattle.takeover_laws.proofs.Settled.{IsSettled, settled-none, settled-more, settled-held}
-use Rattle.takeover_laws.proofs.Checkpoints.{no-mark-again}
+use Rattle.takeover_laws.proofs.Checkpoints.{no-checkpoint-again}
 
 -- what becomes of a process: so many deeds more are kept, none of which calls the device
 pub record HasPassed (site : Site) (kept : List Act) (shown : List Shown) (ledger : Ledger) (number : ℕ)
@@ -71,4 +71,4 @@ module _ (site : Site) (regular : AreRegular site) (kept : List Act) (shown : Li
       let stands = ((booked-ran regular booked).agrees.processes number spec there).2 in
       let then = done-before since (next ∷ before)
       (subst (λ g. HasDone site number spec g stands.core) split stands.done) in
-      no-mark-again next one (sym (stands-there (done-last done then.1)) ∙ at)
+      no-checkpoint-again next one (sym (stands-there (done-last done then.1)) ∙ at)

@@ -12,7 +12,7 @@ use Rattle.world_semantics.specs.checkpoint_image.specs.declared.message.TakenMe
 use Rattle.world_semantics.specs.declared.role.Role.TheVariants.{Acting, Watching, Gone}
 use Rattle.world_semantics.specs.Core.{Deed, Checkpointed, checkpoints, after_passing, carried_by}
 use Rattle.world_semantics.specs.declared.which.Which.TheVariants.{First, Second}
-use Rattle.world_semantics.specs.World.{Copy, Pair, Down, has_noted, may_pass, receives}
+use Rattle.world_semantics.specs.World.{Copy, Pair, Down, has_marked, may_pass, receives}
 use Rattle.world_semantics.specs.Kept.{own_acts}
 use Rattle.world_semantics.specs.Messages.{Sending, Cause}
 use Rattle.world_semantics.specs.Passes.{Passes, by_send, by_pass_again, by_pass, by_apply, by_acknowledge}
@@ -71,9 +71,9 @@ module _ (site : Site) (regular : AreRegular site) (stopped : List Bool) (marked
       → pair.second.role ≡ Watching → pair.first.acknowledged ≡ false
       → may_pass marked First pair ≡ true → ⊥
   no-pass pair gone watching told may =
-      by (either pair.first.acknowledged (has_noted marked pair.first.processor pair.second.processor) may)
+      by (either pair.first.acknowledged (has_marked marked pair.first.processor pair.second.processor) may)
     where
-      by : (pair.first.acknowledged ≡ true) ⊎ (has_noted marked pair.first.processor pair.second.processor ≡ true) → ⊥
+      by : (pair.first.acknowledged ≡ true) ⊎ (has_marked marked pair.first.processor pair.second.processor ≡ true) → ⊥
       by (inl acknowledged) = cc
       by (inr made) =
           let lost = gone (marked-down stopped marked pair.first.processor pair.second.processor down made) in cc
@@ -82,9 +82,9 @@ module _ (site : Site) (regular : AreRegular site) (stopped : List Bool) (marked
   no-pass-blank : (pair : Pair) → (slice_get stopped pair.second.processor ≡ Some true → pair.second.role ≡ Gone)
       → IsBlank site number spec pair → may_pass marked First pair ≡ true → ⊥
   no-pass-blank pair gone b may =
-      by (either pair.first.acknowledged (has_noted marked pair.first.processor pair.second.processor) may)
+      by (either pair.first.acknowledged (has_marked marked pair.first.processor pair.second.processor) may)
     where
-      by : (pair.first.acknowledged ≡ true) ⊎ (has_noted marked pair.first.processor pair.second.processor ≡ true) → ⊥
+      by : (pair.first.acknowledged ≡ true) ⊎ (has_marked marked pair.first.processor pair.second.processor ≡ true) → ⊥
       by (inl acknowledged) = let told = b.told in cc
       by (inr made) = let lost = gone (marked-down stopped marked pair.first.processor pair.second.processor down
           made) in let blank = b.role in cc
@@ -188,8 +188,8 @@ module _ (site : Site) (regular : AreRegular site) (stopped : List Bool) (marked
           → FirstLeads site ledger number spec (ledger.deeds number) next
       on lead other = with_other role (sent-lead away lead) other (dated-sent pair dated)
 
-      at-mark : pair.first.renewal ≡ false → process.point pair.first.core.state ≡ point.AtCheckpoint
-      at-mark renewal = which may
+      at-checkpoint : pair.first.renewal ≡ false → process.point pair.first.core.state ≡ point.AtCheckpoint
+      at-checkpoint renewal = which may
         where
           which : MaySend pair.first → process.point pair.first.core.state ≡ point.AtCheckpoint
           which (inl at) = at
@@ -217,13 +217,13 @@ module _ (site : Site) (regular : AreRegular site) (stopped : List Bool) (marked
       by lead (is_due w sent told ahead at body) = absurd (cc)
       by (is_level is held pos done sent) (is_even stage w even before told renewal) =
           on (is_level is held pos done sent) (is_due (watches-sent pair w) refl refl (omega (arith, even))
-          (at-mark renewal)
+          (at-checkpoint renewal)
           (λ m among era is. sent-image pair.checkpoints refl w.checkpoints m among era is
           ∙ ap (λ r. carried_by r pair.first.core) renewal))
       by (is_applied before is split pos done) (is_even stage w even un told renewal) = absurd (stage refl)
       by (is_behind since next before is split one all pos done sent) (is_even stage w even un told renewal) =
           absurd (behind-at site regular kept shown ledger number spec there booked since next before split one done
-          (at-mark renewal))
+          (at-checkpoint renewal))
       by lead (has_applied w even sent told) = absurd (cc)
       by lead (has_renewed stage away w even sent told) = absurd (cc)
 

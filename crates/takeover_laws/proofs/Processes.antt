@@ -162,7 +162,7 @@ module _ (site : Site) (fit : IsFit site) where
         subst (λ a. Enters number a w.kept (copy_of k pair) entered kept) c.act_is enters in
         by was.0 was.1 was.2 c e (led-own site number was.0 fit.regular (fit.disciplined number was.0 was.1) was.1
         inv.ledger inv.booked kept deed k pair entered core
-        was.2.led role (free-by (copy_of k pair) causes advances free) advances c.no_mark c.backed e)
+        was.2.led role (free-by (copy_of k pair) causes advances free) advances c.no_checkpoint c.backed e)
       where
         by : (spec : ProcessSpec) → slice_get site.processes number ≡ Some spec
             → IsSound site inv.ledger events number spec pair

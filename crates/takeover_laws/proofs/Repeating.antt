@@ -14,10 +14,10 @@ use Rattle.takeover_laws.specs.Invariant.{IsRepeatable, AreRepeatable}
 
 -- Lists of deeds
 
-pub unmarked-join : (more deeds : List Deed) → AreUncheckpointed more → AreUncheckpointed deeds
+pub uncheckpointed-join : (more deeds : List Deed) → AreUncheckpointed more → AreUncheckpointed deeds
     → AreUncheckpointed (more ++ deeds)
-unmarked-join [] deeds first last = last
-unmarked-join (deed ∷ more) deeds first last = (first.0, unmarked-join more deeds first.1 last)
+uncheckpointed-join [] deeds first last = last
+uncheckpointed-join (deed ∷ more) deeds first last = (first.0, uncheckpointed-join more deeds first.1 last)
 
 pub short-join : (more deeds : List Deed) → AreShort more → AreShort deeds → AreShort (more ++ deeds)
 short-join [] deeds first last = last
@@ -32,27 +32,27 @@ repeatable-split : (more deeds : List Deed) → AreRepeatable (more ++ deeds) �
 repeatable-split [] deeds all = (tt, all)
 repeatable-split (deed ∷ more) deeds all = let rest = repeatable-split more deeds all.1 in ((all.0, rest.0), rest.1)
 
-one-unmarked : (deed : Deed) → IsRepeatable deed → IsCheckpoint deed → ⊥
-one-unmarked Checkpointed again mark = again
-one-unmarked Went again mark = mark
-one-unmarked (Took place words) again mark = mark
-one-unmarked (Asked file words) again mark = mark
-one-unmarked (Got file words) again mark = mark
-one-unmarked (Answered place words) again mark = mark
-one-unmarked (Acted call found) again mark = mark
+one-uncheckpointed : (deed : Deed) → IsRepeatable deed → IsCheckpoint deed → ⊥
+one-uncheckpointed Checkpointed again is = again
+one-uncheckpointed Went again is = is
+one-uncheckpointed (Took place words) again is = is
+one-uncheckpointed (Asked file words) again is = is
+one-uncheckpointed (Got file words) again is = is
+one-uncheckpointed (Answered place words) again is = is
+one-uncheckpointed (Acted call found) again is = is
 
-pub repeatable-unmarked : (deeds : List Deed) → AreRepeatable deeds → AreUncheckpointed deeds
-repeatable-unmarked [] all = tt
-repeatable-unmarked (deed ∷ deeds) all = (one-unmarked deed all.0, repeatable-unmarked deeds all.1)
+pub repeatable-uncheckpointed : (deeds : List Deed) → AreRepeatable deeds → AreUncheckpointed deeds
+repeatable-uncheckpointed [] all = tt
+repeatable-uncheckpointed (deed ∷ deeds) all = (one-uncheckpointed deed all.0, repeatable-uncheckpointed deeds all.1)
 
-pub no-mark : (deed : Deed) → deed ≢ Checkpointed → IsCheckpoint deed → ⊥
-no-mark Checkpointed other mark = other refl
-no-mark Went other mark = mark
-no-mark (Took place words) other mark = mark
-no-mark (Asked file words) other mark = mark
-no-mark (Got file words) other mark = mark
-no-mark (Answered place words) other mark = mark
-no-mark (Acted call found) other mark = mark
+pub no-checkpoint : (deed : Deed) → deed ≢ Checkpointed → IsCheckpoint deed → ⊥
+no-checkpoint Checkpointed other is = other refl
+no-checkpoint Went other is = is
+no-checkpoint (Took place words) other is = is
+no-checkpoint (Asked file words) other is = is
+no-checkpoint (Got file words) other is = is
+no-checkpoint (Answered place words) other is = is
+no-checkpoint (Acted call found) other is = is
 
 -- the oldest of some deeds
 pub unsnoc : (some : List Deed) → (some ≡ []) ⊎ ((rest : List Deed) × (last : Deed) × (some ≡ rest ++ last ∷ []))
@@ -71,11 +71,11 @@ repeatable-last since before rest last is all =
 -- Held deeds
 
 module _ {site : Site} {ledger : Ledger} {number : ℕ} where
-  pub held-unmarked : {acts : List Act} {deeds : List Deed} → AreHeld site ledger number acts deeds
+  pub held-uncheckpointed : {acts : List Act} {deeds : List Deed} → AreHeld site ledger number acts deeds
       → AreUncheckpointed deeds
-  held-unmarked none_held = tt
-  held-unmarked (take_held awaits) = (λ mark. mark, tt)
-  held-unmarked (step_held held) = (λ mark. mark, held-unmarked held)
+  held-uncheckpointed none_held = tt
+  held-uncheckpointed (take_held awaits) = (λ is. is, tt)
+  held-uncheckpointed (step_held held) = (λ is. is, held-uncheckpointed held)
 
   pub held-idle : {acts : List Act} {deeds : List Deed} → AreHeld site ledger number acts deeds → AreIdle deeds
   held-idle none_held = tt

@@ -8,7 +8,7 @@ use Rattle.tal_recogniser.specs.declared.symbol.Symbol.TheVariants as sym
 use Rattle.tal_recogniser.specs.ExpressionTable.{Stack, expr_on}
 use Rattle.tal_recogniser.specs.StatementTable.{further_step, arguments_step, values_step, answer_step}
 use Rattle.tal_recogniser.specs.Machine.{open_levels, over, trace}
-use Rattle.tal_recogniser.proofs.Steps.{Leaves, QuitsExpr, QuitsRight, gives_way, unmarked}
+use Rattle.tal_recogniser.proofs.Steps.{Leaves, QuitsExpr, QuitsRight, gives_way, level-ends}
 use Rattle.tal_recogniser.proofs.CompleteExpressions.{complete-expr}
 
 argument-begins : (e : g.Expr) (ss : Stack) (ks : List Token)
@@ -106,7 +106,7 @@ complete-arguments (g.listed start first more close) ss ks q =
     (g.of_further more (tok.Close close ∷ ks)) (quits-further more (tok.Close close ∷ ks) shut)
     ∙ ap (over (nest_argument m first)) (complete-further more (sym.WantClose ∷ sym.LevelEnd ∷ ss)
     (tok.Close close ∷ ks) shut refl))
-    ∙ ap (over (λ ls. m ∷ nest_argument m first (nest_further m more (m ∷ ls)))) (unmarked arguments_step ss ks q)
+    ∙ ap (over (λ ls. m ∷ nest_argument m first (nest_further m more (m ∷ ls)))) (level-ends arguments_step ss ks q)
 
 pub quits-values : (vs : g.Values) (ks : List Token) → QuitsExpr ks → QuitsExpr (g.of_values vs ks)
 quits-values g.no_values ks q = q

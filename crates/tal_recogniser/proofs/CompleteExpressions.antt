@@ -9,7 +9,7 @@ use Rattle.tal_recogniser.specs.declared.symbol.Symbol.TheVariants as sym
 use Rattle.tal_recogniser.specs.ExpressionTable.{Stack, index_step, times_step, term_step, rel_step}
 use Rattle.tal_recogniser.specs.Machine.{open_levels, over, trace}
 use Rattle.tal_recogniser.proofs.Steps.{QuitsFactor, QuitsProduct, QuitsSum, QuitsNeg, QuitsBoth, QuitsExpr, gives_way}
-use Rattle.tal_recogniser.proofs.Steps.{unmarked, taken}
+use Rattle.tal_recogniser.proofs.Steps.{level-ends, taken}
 
 rel-step : (r : g.Rel) → rel_step (g.of_rel r) ≡ Some (sym.Factor ∷ sym.TimesTail ∷ sym.TermTail ∷ [])
 rel-step (g.equal at) = refl
@@ -106,7 +106,7 @@ mutual
       → trace (sym.Neg ∷ ss) (g.of_neg n ks) ≡ over (nest_neg (open_levels ss) n) (trace ss ks)
   complete-neg (g.negated at n) ss ks q =
       ap (over (λ ls. suc (open_levels ss) ∷ ls)) (complete-neg n (sym.LevelEnd ∷ ss) ks q)
-      ∙ ap (over (nest_neg (open_levels ss) (g.negated at n))) (unmarked rel_step ss ks q.1)
+      ∙ ap (over (nest_neg (open_levels ss) (g.negated at n))) (level-ends rel_step ss ks q.1)
   complete-neg (g.relation s c) ss ks q =
       begins s ss (g.of_compared c ks)
       ∙ complete-sum s (sym.RelTail ∷ ss) (g.of_compared c ks) (quits-compared c ks q)
@@ -157,7 +157,7 @@ mutual
       → trace (sym.Factor ∷ ss) (g.of_factor f ks) ≡ over (nest_factor (open_levels ss) f) (trace ss ks)
   complete-factor (g.minus at f) ss ks q =
       ap (over (λ ls. suc (open_levels ss) ∷ ls)) (complete-factor f (sym.LevelEnd ∷ ss) ks q)
-      ∙ ap (over (nest_factor (open_levels ss) (g.minus at f))) (unmarked index_step ss ks q)
+      ∙ ap (over (nest_factor (open_levels ss) (g.minus at f))) (level-ends index_step ss ks q)
   complete-factor (g.number at n) ss ks q = refl
   complete-factor (g.read (g.spot at name i)) ss ks q = ap (over (λ ls. open_levels ss ∷ ls)) (complete-index i ss ks q)
   complete-factor (g.parens start e close) ss ks q =
@@ -165,7 +165,7 @@ mutual
       (complete-expr e (sym.WantClose ∷ sym.LevelEnd ∷ ss) (tok.Close close ∷ ks)
       (((((refl, refl), refl), refl), refl), refl))
       ∙ ap (over (λ ls. suc (open_levels ss) ∷ nest_expr (suc (open_levels ss)) e (suc (open_levels ss) ∷ ls)))
-      (unmarked index_step ss ks q)
+      (level-ends index_step ss ks q)
 
   pub complete-index : (i : g.Index) (ss : Stack) (ks : List Token) → QuitsFactor ks
       → trace (sym.IndexTail ∷ ss) (g.of_index i ks) ≡ over (nest_index (open_levels ss) i) (trace ss ks)
@@ -175,4 +175,4 @@ mutual
       (complete-expr e (sym.WantCloseIndex ∷ sym.LevelEnd ∷ ss) (tok.CloseIndex close ∷ ks)
       (((((refl, refl), refl), refl), refl), refl))
       ∙ ap (over (λ ls. suc (open_levels ss) ∷ nest_expr (suc (open_levels ss)) e (suc (open_levels ss) ∷ ls)))
-      (unmarked index_step ss ks q)
+      (level-ends index_step ss ks q)

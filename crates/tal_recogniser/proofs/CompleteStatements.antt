@@ -1,5 +1,5 @@
--- The machine takes the tokens of each statement in which an ELSE belongs to the nearest IF, and its marks are their
--- levels.
+-- The machine takes the tokens of each statement in which an ELSE belongs to the nearest IF, and its open levels are
+-- their levels.
 use Rattle.std.proofs.Common.{◌≡◌, ℕ, suc, Bool, true, false, List, ◌∷◌, refl, ap, ◌∙◌}
 use Rattle.tal_tokens.specs.declared.token.At.{At}
 use Rattle.tal_tokens.specs.declared.token.Token.{Token}
@@ -11,7 +11,7 @@ use Rattle.tal_recogniser.specs.declared.symbol.Symbol.TheVariants as sym
 use Rattle.tal_recogniser.specs.ExpressionTable.{Stack}
 use Rattle.tal_recogniser.specs.StatementTable.{statement_step, else_step, step_step}
 use Rattle.tal_recogniser.specs.Machine.{open_levels, over, trace}
-use Rattle.tal_recogniser.proofs.Steps.{Leaves, LeavesOpen, QuitsExpr, QuitsStatement, QuitsRow, gives_way, unmarked}
+use Rattle.tal_recogniser.proofs.Steps.{Leaves, LeavesOpen, QuitsExpr, QuitsStatement, QuitsRow, gives_way, level-ends}
 use Rattle.tal_recogniser.proofs.CompleteDeclarations.{complete-constant}
 use Rattle.tal_recogniser.proofs.CompleteExpressions.{complete-expr, complete-index}
 use Rattle.tal_recogniser.proofs.CompleteArguments.{complete-right, complete-answer, complete-arguments}
@@ -66,7 +66,7 @@ opened-else s (g.otherwise at t) ks n q = rw n.0 tt
 
 twice : (ss : Stack) (ks : List Token) → Leaves statement_step ks
     → trace (sym.LevelEnd ∷ sym.LevelEnd ∷ ss) ks ≡ trace ss ks
-twice ss ks q = unmarked statement_step (sym.LevelEnd ∷ ss) ks q ∙ unmarked statement_step ss ks q
+twice ss ks q = level-ends statement_step (sym.LevelEnd ∷ ss) ks q ∙ level-ends statement_step ss ks q
 
 mutual
   pub complete-statement : (s : g.Statement) (ss : Stack) (ks : List Token) → g.IsNearest s → QuitsStatement ks
@@ -81,7 +81,7 @@ mutual
       (opened-row (g.is_open first) more (tok.End end ∷ ks) (quits-end end ks))
       ∙ ap (over (nest_statement m first)) (complete-row more (sym.WantEnd ∷ sym.LevelEnd ∷ ss) (tok.End end ∷ ks) n.1
       (quits-end end ks)))
-      ∙ ap (over (λ ls. m ∷ nest_statement m first (nest_row m more (m ∷ ls)))) (unmarked statement_step ss ks q.0.1)
+      ∙ ap (over (λ ls. m ∷ nest_statement m first (nest_row m more (m ∷ ls)))) (level-ends statement_step ss ks q.0.1)
   complete-statement (g.if_then head test then_at s e) ss ks n q o =
       let m : ℕ = suc (open_levels ss) in
       ap (over (λ ls. m ∷ ls))
@@ -92,14 +92,14 @@ mutual
       (opened-else s e ks n.1 o)
       ∙ ap (over (nest_statement m s)) (complete-otherwise s e (sym.LevelEnd ∷ ss) ks n.1 q o)))
       ∙ ap (over (λ ls. m ∷ nest_expr m test (m ∷ nest_statement m s (nest_otherwise m e ls))))
-      (unmarked statement_step ss ks q.0.1)
+      (level-ends statement_step ss ks q.0.1)
   complete-statement (g.while_do head test do_at s) ss ks n q o =
       let m : ℕ = suc (open_levels ss) in
       ap (over (λ ls. m ∷ ls))
       (complete-expr test (sym.WantDo ∷ sym.Statement ∷ sym.LevelEnd ∷ ss) (tok.Do do_at ∷ g.of_statement s ks)
       (((((refl, refl), refl), refl), refl), refl)
       ∙ ap (over (λ ls. nest_expr m test (m ∷ ls))) (complete-statement s (sym.LevelEnd ∷ ss) ks n q o))
-      ∙ ap (over (λ ls. m ∷ nest_expr m test (m ∷ nest_statement m s ls))) (unmarked statement_step ss ks q.0.1)
+      ∙ ap (over (λ ls. m ∷ nest_expr m test (m ∷ nest_statement m s ls))) (level-ends statement_step ss ks q.0.1)
   complete-statement (g.for_do head at name set_at from direction to step do_at s) ss ks n q o =
       let m : ℕ = suc (open_levels ss) in
       let body : List Token = tok.Do do_at ∷ g.of_statement s ks in
@@ -114,7 +114,7 @@ mutual
       ∙ ap (over (nest_expr m to)) (complete-step step last body refl
       ∙ ap (over (λ ls. nest_step m step (m ∷ ls))) (complete-statement s (sym.LevelEnd ∷ ss) ks n q o)))))
       ∙ ap (over (λ ls. m ∷ m ∷ m ∷ nest_expr m from
-      (m ∷ nest_expr m to (nest_step m step (m ∷ nest_statement m s ls))))) (unmarked statement_step ss ks q.0.1)
+      (m ∷ nest_expr m to (nest_step m step (m ∷ nest_statement m s ls))))) (level-ends statement_step ss ks q.0.1)
   complete-statement (g.do_until head s at test) ss ks n q o =
       let m : ℕ = suc (open_levels ss) in
       ap (over (λ ls. m ∷ ls))
@@ -122,21 +122,21 @@ mutual
       (tok.Until at ∷ g.of_expr test ks) n (quits-until at (g.of_expr test ks))
       (opened (g.is_open s) (tok.Until at ∷ g.of_expr test ks) refl)
       ∙ ap (over (λ ls. nest_statement m s (m ∷ ls))) (complete-expr test (sym.LevelEnd ∷ ss) ks q.0.0.0))
-      ∙ ap (over (λ ls. m ∷ nest_statement m s (m ∷ nest_expr m test ls))) (unmarked statement_step ss ks q.0.1)
+      ∙ ap (over (λ ls. m ∷ nest_statement m s (m ∷ nest_expr m test ls))) (level-ends statement_step ss ks q.0.1)
   complete-statement (g.call head at name a) ss ks n q o =
       let m : ℕ = suc (open_levels ss) in
       ap (over (λ ls. m ∷ m ∷ ls)) (complete-arguments a (sym.LevelEnd ∷ ss) ks q.1.0)
-      ∙ ap (over (λ ls. m ∷ m ∷ nest_arguments m a ls)) (unmarked statement_step ss ks q.0.1)
+      ∙ ap (over (λ ls. m ∷ m ∷ nest_arguments m a ls)) (level-ends statement_step ss ks q.0.1)
   complete-statement (g.return head a) ss ks n q o =
       let m : ℕ = suc (open_levels ss) in
       ap (over (λ ls. m ∷ ls)) (complete-answer a (sym.LevelEnd ∷ ss) ks q.0.0.0 q.1.1)
-      ∙ ap (over (λ ls. m ∷ nest_answer m a ls)) (unmarked statement_step ss ks q.0.1)
+      ∙ ap (over (λ ls. m ∷ nest_answer m a ls)) (level-ends statement_step ss ks q.0.1)
   complete-statement (g.assign (g.spot at name i) set_at e) ss ks n q o =
       let m : ℕ = suc (open_levels ss) in
       ap (over (λ ls. m ∷ ls))
       (complete-index i (sym.WantAssign ∷ sym.Right ∷ sym.LevelEnd ∷ ss) (tok.Assign set_at ∷ g.of_expr e ks) refl
       ∙ ap (over (λ ls. nest_index m i (m ∷ ls))) (complete-right e (sym.LevelEnd ∷ ss) ks q.0.0))
-      ∙ ap (over (λ ls. m ∷ nest_index m i (m ∷ nest_expr m e ls))) (unmarked statement_step ss ks q.0.1)
+      ∙ ap (over (λ ls. m ∷ nest_index m i (m ∷ nest_expr m e ls))) (level-ends statement_step ss ks q.0.1)
   complete-statement (g.assign_call (g.spot at name i) set_at name_at callee start first more close) ss ks n q o =
       let m : ℕ = suc (open_levels ss) in
       let shut : QuitsExpr (tok.Close close ∷ ks) = (((((refl, refl), refl), refl), refl), refl) in

@@ -209,8 +209,8 @@ assigned : (at : _) (name : _) (ss : Stack)
     (x : Things (sym.IndexTail ∷ sym.WantAssign ∷ sym.Right ∷ sym.LevelEnd ∷ ss))
     → Made (sym.Statement ∷ ss) (tok.Name at name
     ∷ of_things (sym.IndexTail ∷ sym.WantAssign ∷ sym.Right ∷ sym.LevelEnd ∷ ss) x)
-assigned at name ss (i, (set_at, (shown e, (mark, rest)))) = (((g.assign (g.spot at name i) set_at e, tt), rest), refl)
-assigned at name ss (i, (set_at, (called name_at callee start first more close, (mark, rest)))) =
+assigned at name ss (i, (set_at, (shown e, (plain, rest)))) = (((g.assign (g.spot at name i) set_at e, tt), rest), refl)
+assigned at name ss (i, (set_at, (called name_at callee start first more close, (plain, rest)))) =
     (((g.assign_call (g.spot at name i) set_at name_at callee start first more close, tt), rest), refl)
 
 pub sound-statement : (k : Token) (ss : Stack) → Steps sym.Statement k ss (statement_step k)

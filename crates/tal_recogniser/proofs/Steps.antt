@@ -40,10 +40,10 @@ gives_way s ss (k ∷ ks) q v =
     ∙ ap (λ b. noted (fed_by None b ss (feed k ss)) (λ ts. trace ts ks)) v
 
 -- the end of a level
-pub unmarked : (row : Token → Option Stack) (ss : Stack) (ks : List Token) → Leaves row ks
+pub level-ends : (row : Token → Option Stack) (ss : Stack) (ks : List Token) → Leaves row ks
     → trace (sym.LevelEnd ∷ ss) ks ≡ trace ss ks
-unmarked row ss [] q = absurd q
-unmarked row ss (k ∷ ks) q = refl
+level-ends row ss [] q = absurd q
+level-ends row ss (k ∷ ks) q = refl
 
 -- a token that is taken
 pub taken : (s : Symbol) (k : Token) (ts ss : Stack) (ks : List Token) → step s k ≡ Some ts

@@ -1,5 +1,5 @@
-/// What is still to come of a text. `LevelEnd` stands where a level ends; the others are parts of the grammar, what is left
-/// of a part after its first token, and single tokens that are wanted.
+/// What is still to come of a text. `LevelEnd` stands where a level ends; the others are parts of the grammar, what is
+/// left of a part after its first token, and single tokens that are wanted.
 #[derive(Clone, Copy, PartialEq, Eq)]
 pub enum Symbol {
     LevelEnd,

@@ -116,8 +116,8 @@ pub fn messages_are_named_so()
 pub fn drives_are_told_so()
     ensures works { found_text adder_site places (finding.Drive Working) ≡ codes "the drive works" }
     ensures failed { found_text adder_site places (finding.Drive Failed) ≡ codes "the drive has failed" }
-    ensures reviving { (mark : ℕ) → found_text adder_site places (finding.Drive (Reviving mark))
-        ≡ codes "the drive is being revived, next sector " ++ decimal mark ++ [] }
+    ensures reviving { (next : ℕ) → found_text adder_site places (finding.Drive (Reviving next))
+        ≡ codes "the drive is being revived, next sector " ++ decimal next ++ [] }
     ensures lost { found_text adder_site places (finding.WouldLoseDisc 0)
         ≡ codes "the last drive of $ADD would fail: the run ends here" }
 {}

@@ -248,10 +248,10 @@ fn put_drive(text: &mut List<u8>, state: DriveState) -> Result<(), NoMemory>
     match state {
         DriveState::Working => put(text, b"the drive works"),
         DriveState::Failed => put(text, b"the drive has failed"),
-        DriveState::Reviving(mark) => put_numbered(
+        DriveState::Reviving(next) => put_numbered(
             text,
             b"the drive is being revived, next sector ",
-            u64::from(mark),
+            u64::from(next),
             b"",
         ),
     }

@@ -11,7 +11,7 @@ use Rattle.trace_print.specs.declared.mirrors.MirrorDrives.{MirrorDrives}
 abbrev pub state_text : DriveState → List ℕ
 state_text Working = codes "working"
 state_text Failed = codes "failed"
-state_text (Reviving mark) = codes "reviving " ++ decimal mark
+state_text (Reviving next) = codes "reviving " ++ decimal next
 
 -- `M NAME state state`
 abbrev pub mirror_line : Site → MirrorDrives → List ℕ

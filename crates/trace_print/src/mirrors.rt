@@ -65,9 +65,9 @@ fn push_state(line: &mut Line, state: DriveState)
     match state {
         DriveState::Working => line.push(b"working"),
         DriveState::Failed => line.push(b"failed"),
-        DriveState::Reviving(mark) => {
+        DriveState::Reviving(next) => {
             line.push(b"reviving ");
-            line.number(i64::from(mark));
+            line.number(i64::from(next));
         }
     }
 }

@@ -3,7 +3,7 @@ ghost use Rattle.std.specs.Option.{option_copied};
 ghost use Rattle.process_copies.specs.computed_changes.specs.Changed.{checkpoint_before};
 ghost use Rattle.process_copies.specs.node_copies.specs.ShownCounts.{replies_in, writes_in};
 ghost use Rattle.world_semantics.specs.Kept.{acts_of};
-ghost use Rattle.world_semantics.specs.World.{has_noted, is_running};
+ghost use Rattle.world_semantics.specs.World.{has_marked, is_running};
 ghost use Rattle.world_copies.specs.Seen.{ArePlaced, drives_in, pairs_in};
 
 use crate::counts::ReloadCounts;
@@ -117,7 +117,7 @@ impl WorldCopies {
 
     /// Whether a node has marked a processor.
     pub fn has_marked(&self, node: u8, processor: u8) -> bool
-        ensures { result ≡ has_noted self.now.world.downs node processor }
+        ensures { result ≡ has_marked self.now.world.downs node processor }
     {
         self.downs.has(node, processor)
     }

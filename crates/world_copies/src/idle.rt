@@ -2,7 +2,7 @@ ghost use Rattle.std.specs.Prelude.{◌≡◌, ◌==◌, length, slice_get, is_s
 ghost use Rattle.world_semantics.specs.World.{is_running};
 ghost use Rattle.world_semantics.specs.Running.{run_done};
 ghost use Rattle.process_copies.specs.computed_changes.specs.Entered.{enter_done, enter_where};
-ghost use Rattle.process_copies.specs.message_wires.specs.Idle.{all_from, all_noted, has_marked_all, has_marked_if};
+ghost use Rattle.process_copies.specs.message_wires.specs.Idle.{all_from, all_marked, has_marked_all, has_marked_if};
 ghost use Rattle.process_copies.specs.message_wires.specs.Idle.{none_enters, none_runs};
 ghost use Rattle.process_copies.specs.message_wires.specs.Idle.{none_awaits_taking};
 ghost use Rattle.world_copies.specs.Seen.{pairs_in};
@@ -81,7 +81,7 @@ impl WorldCopies {
 
     /// Whether each node that runs has marked each processor that has stopped.
     pub fn all_marked(&self) -> bool
-        ensures { result ≡ all_noted self.now.world }
+        ensures { result ≡ all_marked self.now.world }
     {
         self.processors_marked() && self.has_marked_all(usize::from(TERMINAL_NODE))
     }

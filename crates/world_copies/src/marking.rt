@@ -1,7 +1,7 @@
 ghost use Rattle.std.specs.Prelude.{◌≡◌, ◌∷◌, ◌++◌, if◌then◌else◌, IfOk, OnOk, Some, None, map};
 ghost use Rattle.std.specs.List.{flat_map};
 ghost use Rattle.tal_tree.specs.declared.site.Site.{Site};
-ghost use Rattle.process_copies.specs.computed_changes.specs.Stopped.{down_done, world_at_down, may_note};
+ghost use Rattle.process_copies.specs.computed_changes.specs.Stopped.{down_done, world_at_down, may_mark};
 ghost use Rattle.process_copies.specs.letters.specs.Again.{sent_again};
 ghost use Rattle.world_semantics.specs.Rules.{pair_at_down, told_at_down};
 ghost use Rattle.world_copies.specs.Changes.{changed};
@@ -29,7 +29,7 @@ impl WorldCopies {
     }
 
     fn may_mark(&self, node: u8, processor: u8) -> bool
-        ensures { result ≡ may_note node processor self.now.world }
+        ensures { result ≡ may_mark node processor self.now.world }
     {
         self.is_running(node) && !self.downs.has(node, processor)
     }
@@ -47,7 +47,7 @@ impl WorldCopies {
         let mut sendings = List::new(self.alloc);
         self.mark_processes(node, processor, &mut sendings)?;
         self.send_again(node, processor, &mut sendings)?;
-        self.note_mark(node, processor)?;
+        self.add_mark(node, processor)?;
         Ok(sendings)
     }
 
@@ -72,7 +72,7 @@ impl WorldCopies {
         Ok(())
     }
 
-    fn note_mark(&mut self, node: u8, processor: u8) -> Result<(), NoMemory>
+    fn add_mark(&mut self, node: u8, processor: u8) -> Result<(), NoMemory>
         ensures { OnOk result (self.new ≡ record self.old {
           world = record self.old.world { downs = record { node = node; down = processor } ∷ self.old.world.downs };
         }) }

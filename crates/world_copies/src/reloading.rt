@@ -6,7 +6,7 @@ ghost use Rattle.process_copies.specs.message_wires.specs.HasRoom.{WorldHasRoom}
 ghost use Rattle.process_copies.specs.Reloading.{blanks_of, placed_reloaded};
 ghost use Rattle.process_copies.specs.Starting.{IsStartable};
 ghost use Rattle.world_semantics.specs.Rules.{most_reloads, reloaded_from, without_downs};
-ghost use Rattle.world_semantics.specs.World.{is_noted_by_all, noted_from};
+ghost use Rattle.world_semantics.specs.World.{is_marked_by_all, marked_from};
 ghost use Rattle.world_copies.specs.Room.{AllHaveRoom};
 ghost use Rattle.world_copies.specs.Seen.{ArePlaced, pairs_in};
 ghost use Rattle.world_copies.specs.SiteWorld.{changed_by};
@@ -57,7 +57,7 @@ impl WorldCopies {
         match times {
             None => Ok(false),
             Some(times) => {
-                let free = self.is_noted_by_all(processor) && times < MOST_RELOADS;
+                let free = self.is_marked_by_all(processor) && times < MOST_RELOADS;
                 let done = self.reload_if(processor, times, free)?;
                 Ok(done)
             }
@@ -126,17 +126,17 @@ impl WorldCopies {
     }
 
     /// Whether each node that runs has marked a processor.
-    fn is_noted_by_all(&self, processor: u8) -> bool
-        ensures { result ≡ is_noted_by_all self.now.world processor }
+    fn is_marked_by_all(&self, processor: u8) -> bool
+        ensures { result ≡ is_marked_by_all self.now.world processor }
     {
-        have_noted(&self.downs, processor, self.stopped.as_slice())
+        have_marked(&self.downs, processor, self.stopped.as_slice())
             && (!self.is_running(TERMINAL_NODE) || self.downs.has(TERMINAL_NODE, processor))
     }
 }
 
 /// Whether each of these processors that runs has marked a processor.
-fn have_noted(downs: &Downs, processor: u8, stopped: &[bool]) -> bool
-    ensures { result ≡ noted_from downs.now processor 0 stopped.now }
+fn have_marked(downs: &Downs, processor: u8, stopped: &[bool]) -> bool
+    ensures { result ≡ marked_from downs.now processor 0 stopped.now }
 {
     let down = usize::from(processor);
     for (node, has_stopped) in stopped.iter().enumerate() {

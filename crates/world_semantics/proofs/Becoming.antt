@@ -17,7 +17,7 @@ use Rattle.world_semantics.specs.World.{Copy, Pair, World, Which, First, Second,
 use Rattle.world_semantics.specs.World.{receives}
 use Rattle.world_semantics.specs.Kept.{Enters, holds_on, repeats, begins, keeps}
 use Rattle.world_semantics.specs.Messages.{Message, Asking, Checkpointing, Taking, Sending, Cause, Running, Handing}
-use Rattle.world_semantics.specs.Messages.{Stopping, NotingDown, Reloading}
+use Rattle.world_semantics.specs.Messages.{Stopping, MarkingDown, Reloading}
 use Rattle.world_semantics.specs.Own.{Around, around, Causes}
 use Rattle.world_semantics.specs.Passes.{Passes, MaySend, by_send, by_pass_again, by_pass, by_end, by_apply}
 use Rattle.world_semantics.specs.Passes.{by_apply_behind, by_acknowledge, checkpoint_of, after_sending, after_sent}
@@ -77,7 +77,7 @@ pub data Becomes (site : Site) (w : World) (number : ℕ) (pair : Pair) (sent : 
   stops : (processor : ℕ) → Becomes site w number pair sent k (Stopping processor)
       (stopped_copy processor (copy_of k pair))
   takes_over : {renewal : Bool} (node processor : ℕ) → Takes node processor k pair
-      → Becomes site w number pair sent k (NotingDown node processor)
+      → Becomes site w number pair sent k (MarkingDown node processor)
       (record (taken_over pair.base (copy_of k pair)) { renewal = renewal })
   is_blank : {era : ℕ} (processor : ℕ) → (copy_of k pair).processor ≡ processor
       → ((copy_of (other_of k) pair).processor ≢ processor → era ≡ (copy_of (other_of k) pair).era + 1)
@@ -196,7 +196,7 @@ stop-copies processor pair Second = stops processor
 
 mark-copies : {site : Site} {w : World} {number : ℕ} (node processor : ℕ) (pair : Pair) (k : Option Which)
     → taker node processor pair ≡ k
-    → BothBecome site w number pair (NotingDown node processor)
+    → BothBecome site w number pair (MarkingDown node processor)
     (renewals_ended node processor (pair_after_down k pair))
 mark-copies node processor pair None e First = needs_less
 mark-copies node processor pair None e Second = needs_less

@@ -13,7 +13,7 @@ use Rattle.checkpoint_image.specs.declared.message.TakenMessage.{TakenMessage}
 use Rattle.world_semantics.specs.declared.role.Role.{Role}
 use Rattle.world_semantics.specs.declared.role.Role.TheVariants.{Watching, Gone, Acting}
 use Rattle.world_semantics.specs.Core.{Core}
-use Rattle.world_semantics.specs.World.{Copy, Pair, Down, World, has_noted, copy_of, with_copy, may_pass, pair_at_boot}
+use Rattle.world_semantics.specs.World.{Copy, Pair, Down, World, has_marked, copy_of, with_copy, may_pass, pair_at_boot}
 use Rattle.world_semantics.specs.World.{receives}
 use Rattle.world_semantics.specs.Kept.{Enters, holds_on, repeats, begins, keeps}
 use Rattle.world_semantics.specs.Messages.{Sending, Cause, Reloading}
@@ -74,7 +74,7 @@ told-to-pass : (downs : List Down) (stopped : List Bool) (pair : Pair)
 told-to-pass downs stopped pair are roles watches may = by-test pair.first.acknowledged refl may
   where
     by-test : (told : Bool) → pair.first.acknowledged ≡ told
-        → (told || has_noted downs pair.first.processor pair.second.processor) ≡ true → told ≡ true
+        → (told || has_marked downs pair.first.processor pair.second.processor) ≡ true → told ≡ true
     by-test true t m = refl
     by-test false t m = let gone = roles.second_gone
         (marked-down stopped downs pair.first.processor pair.second.processor are m) in absurd (cc)

@@ -21,7 +21,7 @@ use Rattle.world_semantics.specs.Core.{Core, Deed, Advances, gets}
 use Rattle.world_semantics.specs.World.{Copy, Pair, Down, Terminal, World, Which, copy_of, other_of, terminal_node}
 use Rattle.world_semantics.specs.World.{receives}
 use Rattle.world_semantics.specs.Messages.{Message, Asking, Replying, Checkpointing, Taking, Sending, sent_at, Cause}
-use Rattle.world_semantics.specs.Messages.{Handing, NotingDown, Reloading}
+use Rattle.world_semantics.specs.Messages.{Handing, MarkingDown, Reloading}
 use Rattle.world_semantics.specs.Own.{Around, Causes, by_inner, by_take, by_ask, by_answer, by_device, by_write}
 use Rattle.world_semantics.specs.Own.{by_reply}
 use Rattle.world_semantics.specs.Passes.{Passes, by_send, by_pass_again, by_pass, by_end, by_apply_behind}
@@ -131,7 +131,7 @@ only-told (becoming.renews processor there) was now = absurd (cc)
 -- a copy takes over for one whose processor its node marks
 abbrev pub TakesOver : Pair → Which → Cause → Copy → Type 0
 TakesOver pair k cause after =
-    (cause ≡ NotingDown (copy_of k pair).processor (copy_of (other_of k) pair).processor)
+    (cause ≡ MarkingDown (copy_of k pair).processor (copy_of (other_of k) pair).processor)
     × HasTakenOver pair.base (copy_of k pair) after
 
 pub only-taken-over : {site : Site} {w : World} {number : ℕ} {pair : Pair} {sent : List ImageMessage} {k : Which}

@@ -23,8 +23,8 @@ use Rattle.checkpoint_image.specs.declared.message.TakenMessage.{TakenMessage}
 use Rattle.world_semantics.specs.declared.role.Role.{Role}
 use Rattle.world_semantics.specs.declared.role.Role.TheVariants.{Acting, Watching, Gone, Blank}
 use Rattle.world_semantics.specs.Core.{put_in, next_on, gets}
-use Rattle.world_semantics.specs.World.{Pair, World, is_running, has_noted, Which, copy_of, Down, is_whole, other_of}
-use Rattle.world_semantics.specs.World.{receives, runs_by, terminal_node, noted_from, is_noted_by_all}
+use Rattle.world_semantics.specs.World.{Pair, World, is_running, has_marked, Which, copy_of, Down, is_whole, other_of}
+use Rattle.world_semantics.specs.World.{receives, runs_by, terminal_node, marked_from, is_marked_by_all}
 use Rattle.world_semantics.specs.Messages.{Sending}
 use Rattle.world_semantics.specs.Passes.{by_apply, by_acknowledge, by_apply_behind}
 use Rattle.world_semantics.specs.Own.{by_reply}
@@ -271,7 +271,7 @@ abbrev tick_as : (site : Site) (w : World) (node processor : ℕ) (stopped : Opt
     → slice_get w.stopped processor ≡ stopped → Perhaps site w (event.Tick node)
 tick_as site w node processor (Some true) e =
     where_true (is_running w.stopped node) (λ runs.
-    where_false (has_noted w.downs node processor) (λ new.
+    where_false (has_marked w.downs node processor) (λ new.
     Some (record {
       world = _;
       sendings = _;
@@ -279,87 +279,87 @@ tick_as site w node processor (Some true) e =
     })))
 tick_as site w node processor _ e = None
 
-pub all-marked : (downs : List Down) (x from : ℕ) (stopped : List Bool) → noted_from downs x from stopped ≡ true
+pub all-marked : (downs : List Down) (x from : ℕ) (stopped : List Bool) → marked_from downs x from stopped ≡ true
     → (k : ℕ) → slice_get stopped k ≡ Some false
-    → has_noted downs (from + k) x ≡ true
+    → has_marked downs (from + k) x ≡ true
 all-marked downs x from [] e k at = absurd (cc)
 all-marked downs x from (true ∷ stopped) e zero at = absurd (cc)
 all-marked downs x from (true ∷ stopped) e (suc k) at =
     let more : (from + 1) + k ≡ from + suc k =
-    omega arith in subst (λ n. has_noted downs n x ≡ true) more (all-marked downs x (from + 1) stopped e k at)
+    omega arith in subst (λ n. has_marked downs n x ≡ true) more (all-marked downs x (from + 1) stopped e k at)
 all-marked downs x from (false ∷ stopped) e zero at =
-    let more : from ≡ from + 0 = omega arith in subst (λ n. has_noted downs n x ≡ true) more (both-true _ _ e).0
+    let more : from ≡ from + 0 = omega arith in subst (λ n. has_marked downs n x ≡ true) more (both-true _ _ e).0
 all-marked downs x from (false ∷ stopped) e (suc k) at =
     let more : (from + 1) + k ≡ from + suc k = omega arith in
-    subst (λ n. has_noted downs n x ≡ true) more (all-marked downs x (from + 1) stopped (both-true _ _ e).1 k at)
+    subst (λ n. has_marked downs n x ≡ true) more (all-marked downs x (from + 1) stopped (both-true _ _ e).1 k at)
 
 -- each node that runs has marked a processor which all are said to have marked
-marked-all : (downs : List Down) (x : ℕ) (stopped : List Bool) → noted_from downs x 0 stopped ≡ true
-    → (is_running stopped terminal_node ≡ true → has_noted downs terminal_node x ≡ true)
-    → (node : ℕ) → is_running stopped node ≡ true → has_noted downs node x ≡ true
+marked-all : (downs : List Down) (x : ℕ) (stopped : List Bool) → marked_from downs x 0 stopped ≡ true
+    → (is_running stopped terminal_node ≡ true → has_marked downs terminal_node x ≡ true)
+    → (node : ℕ) → is_running stopped node ≡ true → has_marked downs node x ≡ true
 marked-all downs x stopped e there node on = by (slice_get stopped node) refl on
   where
-    by : (o : Option Bool) → slice_get stopped node ≡ o → runs_by node o ≡ true → has_noted downs node x ≡ true
+    by : (o : Option Bool) → slice_get stopped node ≡ o → runs_by node o ≡ true → has_marked downs node x ≡ true
     by None at r = let same = eqb-true node terminal_node r in
-        subst (λ n. has_noted downs n x ≡ true) (sym same)
+        subst (λ n. has_marked downs n x ≡ true) (sym same)
         (there (subst (λ n. is_running stopped n ≡ true) same on))
     by (Some true) at r = absurd (cc)
     by (Some false) at r = let zeros : 0 + node ≡ node = omega arith in
-        subst (λ n. has_noted downs n x ≡ true) zeros (all-marked downs x 0 stopped e node at)
+        subst (λ n. has_marked downs n x ≡ true) zeros (all-marked downs x 0 stopped e node at)
 
-if-runs : (runs noted : Bool) → (not runs || noted) ≡ true → runs ≡ true → noted ≡ true
-if-runs true noted e r = e
-if-runs false noted e r = absurd (cc)
+if-runs : (runs is_marked : Bool) → (not runs || is_marked) ≡ true → runs ≡ true → is_marked ≡ true
+if-runs true is_marked e r = e
+if-runs false is_marked e r = absurd (cc)
 
-pub noted-by-all : (w : World) (processor : ℕ) → is_noted_by_all w processor ≡ true
-    → (node : ℕ) → is_running w.stopped node ≡ true → has_noted w.downs node processor ≡ true
-noted-by-all w processor e =
-    let both = both-true (noted_from w.downs processor 0 w.stopped) _ e in
+pub marked-by-all : (w : World) (processor : ℕ) → is_marked_by_all w processor ≡ true
+    → (node : ℕ) → is_running w.stopped node ≡ true → has_marked w.downs node processor ≡ true
+marked-by-all w processor e =
+    let both = both-true (marked_from w.downs processor 0 w.stopped) _ e in
     marked-all w.downs processor w.stopped both.0 (if-runs (is_running w.stopped terminal_node) _ both.1)
 
 all-back : (downs : List Down) (x from : ℕ) (stopped : List Bool)
-    → ((k : ℕ) → slice_get stopped k ≡ Some false → has_noted downs (from + k) x ≡ true)
-    → noted_from downs x from stopped ≡ true
+    → ((k : ℕ) → slice_get stopped k ≡ Some false → has_marked downs (from + k) x ≡ true)
+    → marked_from downs x from stopped ≡ true
 all-back downs x from [] each = refl
 all-back downs x from (true ∷ stopped) each =
     all-back downs x (from + 1) stopped (λ k at.
     (let more : from + suc k ≡ (from + 1) + k = omega arith in
-    subst (λ n. has_noted downs n x ≡ true) more (each (suc k) at)))
+    subst (λ n. has_marked downs n x ≡ true) more (each (suc k) at)))
 all-back downs x from (false ∷ stopped) each =
     let zeros : from + 0 ≡ from = omega arith in
-    both_true (subst (λ n. has_noted downs n x ≡ true) zeros (each 0 refl))
+    both_true (subst (λ n. has_marked downs n x ≡ true) zeros (each 0 refl))
     (all-back downs x (from + 1) stopped (λ k at.
     (let more : from + suc k ≡ (from + 1) + k = omega arith in
-    subst (λ n. has_noted downs n x ≡ true) more (each (suc k) at))))
+    subst (λ n. has_marked downs n x ≡ true) more (each (suc k) at))))
 
 running-there : (stopped : List Bool) (node : ℕ) → slice_get stopped node ≡ Some false
     → is_running stopped node ≡ true
 running-there stopped node e = rw e refl
 
-runs-if : (runs noted : Bool) → (runs ≡ true → noted ≡ true) → (not runs || noted) ≡ true
-runs-if true noted can = can refl
-runs-if false noted can = refl
+runs-if : (runs is_marked : Bool) → (runs ≡ true → is_marked ≡ true) → (not runs || is_marked) ≡ true
+runs-if true is_marked can = can refl
+runs-if false is_marked can = refl
 
-pub by-all-noted : (w : World) (processor : ℕ)
-    → ((node : ℕ) → is_running w.stopped node ≡ true → has_noted w.downs node processor ≡ true)
-    → is_noted_by_all w processor ≡ true
-by-all-noted w processor each =
+pub by-all-marked : (w : World) (processor : ℕ)
+    → ((node : ℕ) → is_running w.stopped node ≡ true → has_marked w.downs node processor ≡ true)
+    → is_marked_by_all w processor ≡ true
+by-all-marked w processor each =
     both_true
     (all-back w.downs processor 0 w.stopped (λ k at.
     (let zeros : k ≡ 0 + k = omega arith in
-    subst (λ n. has_noted w.downs n processor ≡ true) zeros (each k (running-there w.stopped k at)))))
-    (runs-if (is_running w.stopped terminal_node) (has_noted w.downs terminal_node processor) (each terminal_node))
+    subst (λ n. has_marked w.downs n processor ≡ true) zeros (each k (running-there w.stopped k at)))))
+    (runs-if (is_running w.stopped terminal_node) (has_marked w.downs terminal_node processor) (each terminal_node))
 
 abbrev reload_as : (site : Site) (w : World) (processor : ℕ) (stopped : Option Bool)
     → slice_get w.stopped processor ≡ stopped → Perhaps site w (event.Reload processor)
 reload_as site w processor (Some true) e =
-    where_true (is_noted_by_all w processor) (λ all.
+    where_true (is_marked_by_all w processor) (λ all.
     with_reason (slice_get w.reloads processor) (λ times is.
     where_true (nat_lt times most_reloads) (λ less.
     Some (record {
       world = _;
       sendings = _;
-      follows = reloads (by_reload processor e (noted-by-all w processor all) is
+      follows = reloads (by_reload processor e (marked-by-all w processor all) is
           (ltb-true _ _ less));
     }))))
 reload_as site w processor _ e = None

@@ -94,9 +94,9 @@ mark-more : (number : ℕ) (copy : Copy) (kept : List Act)
     → own_acts number (copy.held ++ kept) ≤ own_acts number (kept_at_checkpoint number copy kept)
 mark-more number copy kept = own-grown number (grown-one (Step number) (copy.held ++ kept))
 
-at-mark : (number : ℕ) (copy : Copy) (kept : List Act)
+at-checkpoint : (number : ℕ) (copy : Copy) (kept : List Act)
     → own_acts number kept ≤ own_acts number (kept_at_checkpoint number copy kept)
-at-mark number copy kept = own-grown number (grown-more (Step number) copy.held kept)
+at-checkpoint number copy kept = own-grown number (grown-more (Step number) copy.held kept)
 
 step-more : (number : ℕ) (copy : Copy) (kept : List Act)
     → own_acts number (copy.held ++ kept) ≤ own_acts number (kept_at number copy kept)
@@ -128,10 +128,10 @@ passes-bounds (by_send Second r p s m) ok = record { first = ok.first; second = 
 passes-bounds (by_pass_again First r p m l) ok = record { first = omega (arith, l); second = ok.second; base = ok.base }
 passes-bounds (by_pass_again Second r p m l) ok = record { first = ok.first; second = omega (arith, l); base = ok.base }
 passes-bounds {number = n} {kept = kept} {pair = pair} (by_pass First r p m l) ok =
-    let b = bounds-more ok (at-mark n pair.first kept) in
+    let b = bounds-more ok (at-checkpoint n pair.first kept) in
     record { first = same-count _; second = b.second; base = b.base }
 passes-bounds {number = n} {kept = kept} {pair = pair} (by_pass Second r p m l) ok =
-    let b = bounds-more ok (at-mark n pair.second kept) in
+    let b = bounds-more ok (at-checkpoint n pair.second kept) in
     record { first = b.first; second = same-count _; base = b.base }
 passes-bounds (by_end First r s p m) ok = record { first = ok.first; second = ok.second; base = ok.base }
 passes-bounds (by_end Second r s p m) ok = record { first = ok.first; second = ok.second; base = ok.base }

@@ -10,7 +10,7 @@ use Rattle.plain_semantics.specs.process_semantics.specs.Process as process
 use Rattle.world_semantics.specs.declared.role.Role.{Role}
 use Rattle.world_semantics.specs.declared.role.Role.TheVariants.{Acting, Watching, Gone, Blank}
 use Rattle.world_semantics.specs.World.{Copy, Pair, Down, World, Which, First, Second, copy_of, other_of, may_pass}
-use Rattle.world_semantics.specs.World.{has_noted, with_copy}
+use Rattle.world_semantics.specs.World.{has_marked, with_copy}
 use Rattle.world_semantics.specs.Kept.{own_acts}
 use Rattle.world_semantics.specs.Core.{Core, Deed}
 use Rattle.world_semantics.specs.Messages.{Message, Sending, sent_at, Cause, Running, Checkpointing}
@@ -92,11 +92,11 @@ send-may : (site : Site) (number : ℕ) (k : Which) (pair : Pair) (w : World) �
     → (copy_of k pair).role ≡ Acting
     → (copy_of k pair).sent ≡ false → (copy_of k pair).renewal ≡ true
     → (process.point (copy_of k pair).core.state ≡ point.Await → ⊥)
-    → (done : Done) → made_if number w (not (has_noted w.downs (copy_of k pair).processor
+    → (done : Done) → made_if number w (not (has_marked w.downs (copy_of k pair).processor
     (copy_of (other_of k) pair).processor)) (sending_step number k pair (records_of w)) ≡ Some done
     → MayRun site number w done
 send-may site number k pair w there role s r away done e =
-    let is = made-if number w (not (has_noted w.downs (copy_of k pair).processor
+    let is = made-if number w (not (has_marked w.downs (copy_of k pair).processor
     (copy_of (other_of k) pair).processor)) (sending_step number k pair (records_of w)) done e in
     subst (MayRun site number w) is.1 (by_checkpoint number pair there
     (by_send k role (inr (r, away)) s (not-true _ is.0)))
@@ -228,7 +228,7 @@ not-none : {A : Type 0} {o : Option A} {x : A} → o ≡ Some x → o ≡ None �
 not-none e n = cc
 
 free-or : (downs : List Down) (k : Which) (pair : Pair) → IsSettled (copy_of k pair) → (copy_of k pair).sent ≡ false
-    → has_noted downs (copy_of k pair).processor (copy_of (other_of k) pair).processor ≡ false
+    → has_marked downs (copy_of k pair).processor (copy_of (other_of k) pair).processor ≡ false
     → may_pass downs k pair ≡ false
 free-or downs k pair settled s m = rw (settled s, m) refl
 
@@ -273,8 +273,8 @@ pass-ran site number w pair there r (by_send k role (inr both) s m) =
           sent_at (copy_of k pair).processor (Checkpointing (checkpoint_of number (copy_of k pair)) ∷ []);
     }
 
-    at-mark : process.point (copy_of k pair).core.state ≡ point.AtCheckpoint → Ran site number w done
-    at-mark p = record {
+    at-checkpoint : process.point (copy_of k pair).core.state ≡ point.AtCheckpoint → Ran site number w done
+    at-checkpoint p = record {
       pair = pair;
       k = k;
       there = there;
@@ -291,7 +291,7 @@ pass-ran site number w pair there r (by_send k role (inr both) s m) =
     elsewhere e = record { pair = pair; k = k; there = there; role = role; exact = λ _. e; some = not-none e }
 
     which : (p : Point) → process.point (copy_of k pair).core.state ≡ p → Ran site number w done
-    which point.AtCheckpoint p = at-mark p
+    which point.AtCheckpoint p = at-checkpoint p
     which point.Await p = absurd (both.1 p)
     which point.Inner p = elsewhere (ap (run_at site number k pair w) p
         ∙ ap (λ t. free_at site number k pair w point.Inner t (copy_of k pair).renewal) s

@@ -6,7 +6,7 @@ use Rattle.checkpoint_image.specs.tal_tree.specs.declared.site.Site.{Site}
 use Rattle.checkpoint_image.specs.tal_tree.specs.declared.act.Act.{Act}
 use Rattle.schedule.specs.declared.event.Event.{Event}
 use Rattle.world_semantics.specs.declared.role.Role.TheVariants.{Acting, Gone}
-use Rattle.world_semantics.specs.World.{Pair, Terminal, World, Which, First, Second, copy_of, Down, has_noted}
+use Rattle.world_semantics.specs.World.{Pair, Terminal, World, Which, First, Second, copy_of, Down, has_marked}
 use Rattle.world_semantics.specs.World.{is_running}
 use Rattle.world_semantics.specs.World.{other_of, receives}
 use Rattle.world_semantics.specs.Follows.{Leads, IsRun}
@@ -106,7 +106,7 @@ passes-not (by_acknowledge k taken r s i era n) e = cc
 -- what a reload needs
 pub record Reloads (w : World) (x : ℕ) : Type 0 where
   pub down : slice_get w.stopped x ≡ Some true
-  pub all : (node : ℕ) → is_running w.stopped node ≡ true → has_noted w.downs node x ≡ true
+  pub all : (node : ℕ) → is_running w.stopped node ≡ true → has_marked w.downs node x ≡ true
 
 same-reload : {x y : ℕ} → Reloading x ≡ Reloading y → x ≡ y
 same-reload e = cc

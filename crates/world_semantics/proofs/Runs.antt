@@ -5,7 +5,7 @@ use Rattle.schedule.specs.declared.event.Event.{Event}
 use Rattle.world_semantics.specs.World.{World}
 use Rattle.world_semantics.specs.Messages.{Sending, Cause}
 use Rattle.world_semantics.specs.Rules.{Change}
-use Rattle.world_semantics.specs.Follows.{NotesDowns, marks_none, marks_one, Follows, runs, cannot_run, enters}
+use Rattle.world_semantics.specs.Follows.{MarksDowns, marks_none, marks_one, Follows, runs, cannot_run, enters}
 use Rattle.world_semantics.specs.Follows.{cannot_enter, delivers_none, delivers, delivers_mark, loses, doubles}
 use Rattle.world_semantics.specs.Follows.{turns_drive, ticks_none, ticks, ticks_stop, fails, cannot_fail, Leads, stays}
 use Rattle.world_semantics.specs.Follows.{goes_on, cannot_reload, reloads}
@@ -17,7 +17,7 @@ pub record IsKept (site : Site) (R : World → World → Type 0) : Type 0 where
   pub change : (w next : World) (cause : Cause) (sendings : List Sending) → Change site w cause sendings next → R w next
 
 downs-keep : {site : Site} {R : World → World → Type 0} → IsKept site R
-    → {node : _} {w end : World} {sendings : List Sending} → NotesDowns site node w sendings end → R w end
+    → {node : _} {w end : World} {sendings : List Sending} → MarksDowns site node w sendings end → R w end
 downs-keep k (marks_none {w = w}) = k.same w
 downs-keep k (marks_one {w = w} {next = next} {end = end} processor c m) =
     k.both w next end (k.change w next _ _ c) (downs-keep k m)

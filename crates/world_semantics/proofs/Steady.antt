@@ -23,7 +23,7 @@ use Rattle.world_semantics.specs.Rules.{Change, new_core, by_checkpoint, by_earl
 use Rattle.world_semantics.specs.Rules.{by_print, by_reload, by_request, by_stop, pair_after_down, pair_at_down}
 use Rattle.world_semantics.specs.Rules.{reloaded_at, reloaded_by, stopped_pair, taker, takes_over}
 use Rattle.world_semantics.specs.Rules.{without_downs}
-use Rattle.world_semantics.specs.World.{Copy, Down, First, Pair, Second, Which, World, boot, copy_of, has_noted}
+use Rattle.world_semantics.specs.World.{Copy, Down, First, Pair, Second, Which, World, boot, copy_of, has_marked}
 use Rattle.world_semantics.specs.World.{is_pair_of, is_running, is_watching, is_whole, other_of, pairs_at_boot}
 use Rattle.world_semantics.specs.World.{receives, runs_by, with_copy}
 use Rattle.world_semantics.specs.declared.role.Role.{Role}
@@ -40,7 +40,7 @@ OneStopped stopped = (x y : ℕ) → slice_get stopped x ≡ Some true → slice
 -- one's processor
 pub record Waits (stopped : List Bool) (downs : List Down) (role : Role) (here there : ℕ) : Type 0 where
   pub blank : role ≡ Blank → AreNoneStopped stopped
-  pub unmarked : role ≡ Watching → has_noted downs here there ≡ true → ⊥
+  pub unmarked : role ≡ Watching → has_marked downs here there ≡ true → ⊥
 
 pub record PairWaits (stopped : List Bool) (downs : List Down) (one : ℕ) (lead : Role) (two : ℕ) (other : Role) :
     Type 0 where
@@ -67,15 +67,15 @@ steady-begins site = record {
 -- a mark that was made is of a processor that has stopped
 pub marked-down : (stopped : List Bool) (downs : List Down) (node processor : ℕ)
     → ((mark : Down) → IsAmong mark downs → slice_get stopped mark.down ≡ Some true)
-    → has_noted downs node processor ≡ true → slice_get stopped processor ≡ Some true
+    → has_marked downs node processor ≡ true → slice_get stopped processor ≡ Some true
 marked-down stopped [] node processor down e = absurd (cc)
 marked-down stopped (mark ∷ rest) node processor down e =
     by ((mark.node == node) && (mark.down == processor)) refl e
     (marked-down stopped rest node processor (λ m among. down m (inr among)))
   where
     by : (here : Bool) → ((mark.node == node) && (mark.down == processor)) ≡ here
-        → (here || has_noted rest node processor) ≡ true
-        → (has_noted rest node processor ≡ true → slice_get stopped processor ≡ Some true)
+        → (here || has_marked rest node processor) ≡ true
+        → (has_marked rest node processor ≡ true → slice_get stopped processor ≡ Some true)
         → slice_get stopped processor ≡ Some true
     by true is e later =
         let both = both-true (mark.node == node) (mark.down == processor) is in
@@ -202,18 +202,18 @@ second-not-blank one Gone e b = cc
 -- Marks
 
 not-here : (node processor here there : ℕ) (rest : List Down) → ((here ≡ node) → (there ≡ processor) → ⊥)
-    → has_noted (record { node = node; down = processor } ∷ rest) here there ≡ true
-    → has_noted rest here there ≡ true
+    → has_marked (record { node = node; down = processor } ∷ rest) here there ≡ true
+    → has_marked rest here there ≡ true
 not-here node processor here there rest other e = by (node == here) (processor == there) refl refl e
   where
-    by : (a b : Bool) → (node == here) ≡ a → (processor == there) ≡ b → ((a && b) || has_noted rest here there) ≡ true
-        → has_noted rest here there ≡ true
+    by : (a b : Bool) → (node == here) ≡ a → (processor == there) ≡ b → ((a && b) || has_marked rest here there) ≡ true
+        → has_marked rest here there ≡ true
     by true true is same e = absurd (other (sym (eqb-true node here is)) (sym (eqb-true processor there same)))
     by true false is same e = e
     by false b is same e = e
 
 blank-stays : {stopped : List Bool} {downs more : List Down} {here there : ℕ} {role : Role}
-    → (role ≡ Watching → has_noted more here there ≡ true → has_noted downs here there ≡ true)
+    → (role ≡ Watching → has_marked more here there ≡ true → has_marked downs here there ≡ true)
     → Waits stopped downs role here there → Waits stopped more role here there
 blank-stays up ok = record { blank = ok.blank; unmarked = λ w m. ok.unmarked w (up w m) }
 
@@ -275,16 +275,16 @@ mark-waits stopped downs node x s r pair ok =
 
 -- Reloads
 
-left-marked : (x : ℕ) (downs : List Down) (here there : ℕ) → has_noted (without_downs x downs) here there ≡ true
-    → has_noted downs here there ≡ true
+left-marked : (x : ℕ) (downs : List Down) (here there : ℕ) → has_marked (without_downs x downs) here there ≡ true
+    → has_marked downs here there ≡ true
 left-marked x [] here there e = e
 left-marked x (mark ∷ downs) here there e =
     by ((mark.node == here) && (mark.down == there)) (not (mark.down == x)) (left-marked x downs here there) refl e
   where
-    by : (a b : Bool) → (has_noted (without_downs x downs) here there ≡ true → has_noted downs here there ≡ true)
+    by : (a b : Bool) → (has_marked (without_downs x downs) here there ≡ true → has_marked downs here there ≡ true)
         → ((mark.node == here) && (mark.down == there)) ≡ a
-        → has_noted (if b then mark ∷ without_downs x downs else without_downs x downs) here there ≡ true
-        → (a || has_noted downs here there) ≡ true
+        → has_marked (if b then mark ∷ without_downs x downs else without_downs x downs) here there ≡ true
+        → (a || has_marked downs here there) ≡ true
     by true b rest is e = refl
     by false true rest is e = rest (rw is at e)
     by false false rest is e = rest e
@@ -536,7 +536,7 @@ there-is (x ∷ xs) (suc k) less = there-is xs k (omega (arith, less))
 -- where all that run have marked a processor, the other copy of a process that was there acts
 pub survivor : (stopped : List Bool) (downs : List Down) (x y : ℕ) (role : Role) → slice_get stopped x ≡ Some true
     → OneStopped stopped → (y ≡ x → ⊥) → y < length stopped
-    → ((node : ℕ) → is_running stopped node ≡ true → has_noted downs node x ≡ true) → Waits stopped downs role y x
+    → ((node : ℕ) → is_running stopped node ≡ true → has_marked downs node x ≡ true) → Waits stopped downs role y x
     → (role ≡ Gone → slice_get stopped y ≡ Some true) → role ≡ Acting
 survivor stopped downs x y Acting s one apart less all waits lost = refl
 survivor stopped downs x y Gone s one apart less all waits lost = absurd (apart (one y x (lost refl) s))

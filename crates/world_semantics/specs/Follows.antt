@@ -6,7 +6,7 @@ use Rattle.schedule.specs.declared.event.Event.{Event}
 use Rattle.schedule.specs.declared.event.Event.TheVariants.{Run, Enter, Deliver, Lose, Repeat, Tick, Fail, Drive}
 use Rattle.schedule.specs.declared.event.Event.TheVariants.{Reload}
 use Rattle.world_semantics.specs.World.{World, boot, is_running}
-use Rattle.world_semantics.specs.Messages.{Message, Sending, Cause, Running, Entering, Handing, Stopping, NotingDown}
+use Rattle.world_semantics.specs.Messages.{Message, Sending, Cause, Running, Entering, Handing, Stopping, MarkingDown}
 use Rattle.world_semantics.specs.Messages.{Reloading}
 use Rattle.world_semantics.specs.Rules.{Change}
 
@@ -15,11 +15,11 @@ abbrev pub IsIdleFor : Site → World → Cause → Type 0
 IsIdleFor site w cause = (sendings : List Sending) (next : World) → Change site w cause sendings next → ⊥
 
 -- any number of marks that a node makes, one after the other
-pub data NotesDowns (site : Site) (node : ℕ) : World → List Sending → World → Type 0 where
-  marks_none : {w : World} → NotesDowns site node w [] w
+pub data MarksDowns (site : Site) (node : ℕ) : World → List Sending → World → Type 0 where
+  marks_none : {w : World} → MarksDowns site node w [] w
   marks_one : {w next end : World} {sendings more : List Sending} → (processor : ℕ)
-      → Change site w (NotingDown node processor) sendings next
-      → NotesDowns site node next more end → NotesDowns site node w (sendings ++ more) end
+      → Change site w (MarkingDown node processor) sendings next
+      → MarksDowns site node next more end → MarksDowns site node w (sendings ++ more) end
 
 -- what an event permits: `Run` makes the change for which its process can run, `Enter` that of its terminal, and
 -- `Reload` loads its processor, each where it is possible, and else nothing; `Fail` stops its processor if it hasn't
@@ -37,17 +37,17 @@ pub data Follows (site : Site) (w : World) : Event → List Sending → World �
   delivers : {y : Bool} {k : ℕ} {sendings : List Sending} {next : World} → (node : ℕ) (message : Message)
       → Change site w (Handing node message) sendings next → Follows site w (Deliver y k) sendings next
   delivers_mark : {y : Bool} {k : ℕ} {sendings : List Sending} {next : World} → (node processor : ℕ)
-      → Change site w (NotingDown node processor) sendings next
+      → Change site w (MarkingDown node processor) sendings next
       → Follows site w (Deliver y k) sendings next
   loses : {y : Bool} {k : ℕ} → Follows site w (Lose y k) [] w
   doubles : {y : Bool} {k : ℕ} → Follows site w (Repeat y k) [] w
   ticks_none : {node : ℕ} → Follows site w (Tick node) [] w
   ticks : {node : ℕ} {sendings : List Sending} {next : World} → is_running w.stopped node ≡ true
-      → NotesDowns site node w sendings next
+      → MarksDowns site node w sendings next
       → Follows site w (Tick node) sendings next
   ticks_stop : {node : ℕ} {sendings : List Sending} {between next : World} → (processor : ℕ)
       → is_running w.stopped node ≡ true → processor ≢ node
-      → Change site w (Stopping processor) [] between → NotesDowns site node between sendings next
+      → Change site w (Stopping processor) [] between → MarksDowns site node between sendings next
       → Follows site w (Tick node) sendings next
   fails : {processor : ℕ} {next : World} → Change site w (Stopping processor) [] next
       → Follows site w (Fail processor) [] next

@@ -27,5 +27,5 @@ pub data Cause : Type 0 where
   Entering : (terminal : ℕ) → Cause
   Handing : (node : ℕ) → (message : Message) → Cause
   Stopping : (processor : ℕ) → Cause
-  NotingDown : (node : ℕ) → (processor : ℕ) → Cause
+  MarkingDown : (node : ℕ) → (processor : ℕ) → Cause
   Reloading : (processor : ℕ) → Cause

@@ -10,7 +10,7 @@ use Rattle.checkpoint_image.specs.declared.message.ImageMessage.{ImageMessage}
 use Rattle.checkpoint_image.specs.declared.message.TakenMessage.{TakenMessage}
 use Rattle.world_semantics.specs.declared.role.Role.TheVariants.{Acting, Watching}
 use Rattle.world_semantics.specs.Core.{Core, after_passing, put_in, carried_by}
-use Rattle.world_semantics.specs.World.{Copy, Pair, Down, has_noted, Which, other_of, copy_of, with_copy, may_pass}
+use Rattle.world_semantics.specs.World.{Copy, Pair, Down, has_marked, Which, other_of, copy_of, with_copy, may_pass}
 use Rattle.world_semantics.specs.World.{receives}
 use Rattle.world_semantics.specs.Kept.{own_acts}
 use Rattle.world_semantics.specs.Shares.{kept_with_checkpoint, share_of, with_share, kept_up_to, covering_where}
@@ -111,7 +111,7 @@ after_applying number k message applied kept pair =
 pub data Passes (number : ℕ) (downs : List Down) (kept : List Act) (pair : Pair) : Cause → List Sending → Pair
     → List Act → Type 0 where
   by_send : (k : Which) → (copy_of k pair).role ≡ Acting → MaySend (copy_of k pair) → (copy_of k pair).sent ≡ false
-      → has_noted downs (copy_of k pair).processor (copy_of (other_of k) pair).processor ≡ false
+      → has_marked downs (copy_of k pair).processor (copy_of (other_of k) pair).processor ≡ false
       → Passes number downs kept pair (Running number)
       (sent_at (copy_of k pair).processor (Checkpointing (checkpoint_of number (copy_of k pair)) ∷ []))
       (with_copy k (after_sending (copy_of k pair))

@@ -20,12 +20,13 @@ use Rattle.plain_semantics.specs.Machine.{next_request}
 use Rattle.world_semantics.specs.declared.role.Role.TheVariants.{Acting, Gone, Blank}
 use Rattle.checkpoint_image.specs.Receive.{waits, came, repeated, still_waiting, all_repeated}
 use Rattle.world_semantics.specs.Core.{Core, Deed, Advances, core_at_boot}
-use Rattle.world_semantics.specs.World.{Copy, Pair, Terminal, World, terminal_node, is_running, has_noted, Which, First}
+use Rattle.world_semantics.specs.World.{Copy, Pair, Terminal, World, terminal_node, is_running, has_marked, Which}
+use Rattle.world_semantics.specs.World.{First}
 use Rattle.world_semantics.specs.World.{Second, other_of, copy_of, with_copy, with_pair, Down, copy_at_boot}
 use Rattle.world_semantics.specs.World.{is_watching, is_whole, receives}
 use Rattle.world_semantics.specs.Kept.{Enters}
 use Rattle.world_semantics.specs.Messages.{Message, Asking, Replying, Sending, sent_at, Cause, Entering, Handing}
-use Rattle.world_semantics.specs.Messages.{Stopping, NotingDown, Reloading, Running}
+use Rattle.world_semantics.specs.Messages.{Stopping, MarkingDown, Reloading, Running}
 use Rattle.world_semantics.specs.Own.{Around, around, Causes}
 use Rattle.world_semantics.specs.Passes.{Passes}
 use Rattle.world_semantics.specs.Shares.{without_held}
@@ -174,7 +175,7 @@ IsFreeFor (Running number) copy = (copy.sent ≡ false) × (copy.renewal ≡ fal
 IsFreeFor (Entering terminal) copy = Unit {0}
 IsFreeFor (Handing node message) copy = Unit {0}
 IsFreeFor (Stopping processor) copy = Unit {0}
-IsFreeFor (NotingDown node processor) copy = Unit {0}
+IsFreeFor (MarkingDown node processor) copy = Unit {0}
 IsFreeFor (Reloading processor) copy = Unit {0}
 
 -- the world after an act of a copy
@@ -256,14 +257,14 @@ pub data Change (site : Site) (w : World) : Cause → List Sending → World →
       → Change site w (Stopping processor) []
       (record w { stopped = slice_set w.stopped processor true; processes = map (stopped_pair processor) w.processes })
   by_mark : (node processor : ℕ) → slice_get w.stopped processor ≡ Some true → is_running w.stopped node ≡ true
-      → has_noted w.downs node processor ≡ false
-      → Change site w (NotingDown node processor) (flat_map (told_at_down node processor) w.processes)
+      → has_marked w.downs node processor ≡ false
+      → Change site w (MarkingDown node processor) (flat_map (told_at_down node processor) w.processes)
       (record w {
         downs = record { node = node; down = processor } ∷ w.downs;
         processes = map (pair_at_down node processor) w.processes;
       })
   by_reload : {times : ℕ} (processor : ℕ) → slice_get w.stopped processor ≡ Some true
-      → ((node : ℕ) → is_running w.stopped node ≡ true → has_noted w.downs node processor ≡ true)
+      → ((node : ℕ) → is_running w.stopped node ≡ true → has_marked w.downs node processor ≡ true)
       → slice_get w.reloads processor ≡ Some times → times < most_reloads
       → Change site w (Reloading processor) []
       (record w {

@@ -21,7 +21,7 @@ use Rattle.world_semantics.specs.declared.role.Role.TheVariants.{Acting, Watchin
 use Rattle.checkpoint_image.specs.Receive.{Chosen, chosen}
 use Rattle.world_semantics.specs.Core.{Core, core_acting, core_asked, core_going, core_replied, core_taken}
 use Rattle.world_semantics.specs.World.{Copy, Down, Pair, World, Which, First, Second, copy_of, with_copy, may_pass}
-use Rattle.world_semantics.specs.World.{with_pair, has_noted, other_of}
+use Rattle.world_semantics.specs.World.{with_pair, has_marked, other_of}
 use Rattle.world_semantics.specs.Messages.{Message, Asking, Replying, Checkpointing, Sending, sent_at}
 use Rattle.world_semantics.specs.Own.{Around, around_with, asked_on, is_new_write, found_on}
 use Rattle.world_semantics.specs.Passes.{checkpoint_of, after_sending, copy_at_checkpoint, after_sent}
@@ -229,7 +229,7 @@ step_if false step = None
 abbrev pub renewing_step : ℕ → Which → Pair → List Down → Records → Point → Option Stepped
 renewing_step number k pair downs records point.Await = None
 renewing_step number k pair downs records stands =
-    step_if (not (has_noted downs (copy_of k pair).processor (copy_of (other_of k) pair).processor))
+    step_if (not (has_marked downs (copy_of k pair).processor (copy_of (other_of k) pair).processor))
     (sending_step number k pair records)
 
 -- elsewhere than at a checkpoint: what was sent comes to its end where it may, and else everything is sent if it has to

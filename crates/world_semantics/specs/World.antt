@@ -143,21 +143,21 @@ abbrev pub is_running : List Bool → ℕ → Bool
 is_running stopped node = runs_by node (slice_get stopped node)
 
 -- whether a node has marked a processor
-abbrev pub has_noted : List Down → ℕ → ℕ → Bool
-has_noted downs node processor = list_any (λ mark. mark.node == node && mark.down == processor) downs
+abbrev pub has_marked : List Down → ℕ → ℕ → Bool
+has_marked downs node processor = list_any (λ mark. mark.node == node && mark.down == processor) downs
 
 -- whether each of these processors, from a number on, that runs has marked a processor
-abbrev pub noted_from : List Down → ℕ → ℕ → List Bool → Bool
-noted_from downs processor from [] = true
-noted_from downs processor from (true ∷ stopped) = noted_from downs processor (from + 1) stopped
-noted_from downs processor from (false ∷ stopped) =
-    has_noted downs from processor && noted_from downs processor (from + 1) stopped
+abbrev pub marked_from : List Down → ℕ → ℕ → List Bool → Bool
+marked_from downs processor from [] = true
+marked_from downs processor from (true ∷ stopped) = marked_from downs processor (from + 1) stopped
+marked_from downs processor from (false ∷ stopped) =
+    has_marked downs from processor && marked_from downs processor (from + 1) stopped
 
 -- whether each node that runs has marked a processor
-abbrev pub is_noted_by_all : World → ℕ → Bool
-is_noted_by_all w processor =
-    noted_from w.downs processor 0 w.stopped
-    && (not (is_running w.stopped terminal_node) || has_noted w.downs terminal_node processor)
+abbrev pub is_marked_by_all : World → ℕ → Bool
+is_marked_by_all w processor =
+    marked_from w.downs processor 0 w.stopped
+    && (not (is_running w.stopped terminal_node) || has_marked w.downs terminal_node processor)
 
 abbrev pub other_of : Which → Which
 other_of First = Second
@@ -176,7 +176,7 @@ with_copy Second copy pair = record pair { second = copy }
 -- copy's processor
 abbrev pub may_pass : List Down → Which → Pair → Bool
 may_pass downs k pair =
-    (copy_of k pair).acknowledged || has_noted downs (copy_of k pair).processor (copy_of (other_of k) pair).processor
+    (copy_of k pair).acknowledged || has_marked downs (copy_of k pair).processor (copy_of (other_of k) pair).processor
 
 abbrev pub is_acting : Role → Bool
 is_acting Acting = true

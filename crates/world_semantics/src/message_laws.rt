@@ -17,7 +17,7 @@ ghost use Rattle.world_semantics.specs.World.{terminal_node};
 ghost use Rattle.checkpoint_image.specs.Receive.{standing, reply_to};
 ghost use Rattle.world_semantics.specs.Follows.{IsRun};
 ghost use Rattle.world_semantics.specs.Messages.{Asking, Replying, Checkpointing, Taking, Cause, Sending, Entering};
-ghost use Rattle.world_semantics.specs.Messages.{Handing, NotingDown, Reloading};
+ghost use Rattle.world_semantics.specs.Messages.{Handing, MarkingDown, Reloading};
 ghost use Rattle.world_semantics.specs.Rules.{Change};
 ghost use Rattle.world_semantics.specs.Laws.{HasStayed, IsNextFor, HasApplied, Acknowledges, KeepsUp, HasTakenOver};
 ghost use Rattle.world_semantics.specs.Laws.{HasSentWhatItHas, Awaits, AwaitsAt, KeepsReplyTo, IsNextOf, IsPlaced};
@@ -81,7 +81,7 @@ pub fn a_takeover_begins_an_era()
         → Change site w cause sendings next → slice_get w.processes number ≡ Some before
         → slice_get next.processes number ≡ Some after
         → (copy_of k before).role ≡ Watching → (copy_of k after).role ≡ Acting
-        → (cause ≡ NotingDown (copy_of k before).processor (copy_of (other_of k) before).processor)
+        → (cause ≡ MarkingDown (copy_of k before).processor (copy_of (other_of k) before).processor)
         × HasTakenOver before.base (copy_of k before) (copy_of k after) }
 {}
 

@@ -1,4 +1,4 @@
-use Rattle.chart_marks.specs.Chart.{drawing_of}
+use Rattle.chart_drawing.specs.Chart.{drawing_of}
 use Rattle.svg_text.specs.Sheets.{drawing_text}
 use Rattle.explain_chart.proofs.DeckCharts.{written_alone}
 use Rattle.explain_chart.proofs.chart.chart_text.Goals as goal

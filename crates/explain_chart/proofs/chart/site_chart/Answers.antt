@@ -1,5 +1,5 @@
 use Rattle.std.proofs.Common.{◌≡◌, ◌∙◌, Err, Ok, ap, subst, sym}
-use Rattle.chart_marks.specs.Chart.{drawing_of}
+use Rattle.chart_drawing.specs.Chart.{drawing_of}
 use Rattle.charted_runs.specs.Charts.{Charts}
 use Rattle.charted_runs.specs.site_machine.specs.process_copies.specs.Starting.{IsStartable}
 use Rattle.explain_chart.specs.DeckCharts.{ChartsSite, layout_of}

@@ -29,7 +29,7 @@ use Rattle.world_semantics.specs.Passes.{by_send, by_pass, by_end, by_apply, by_
 use Rattle.world_semantics.specs.Rules.{by_own, by_checkpoint, by_request, by_enter, by_print, by_stop, by_mark}
 use Rattle.world_semantics.specs.Rules.{by_reload}
 use Rattle.world_semantics.specs.Running.{run_done}
-use Rattle.world_semantics.specs.World.{Pair, Terminal, boot, is_running, has_noted, copy_of}
+use Rattle.world_semantics.specs.World.{Pair, Terminal, boot, is_running, has_marked, copy_of}
 use Rattle.world_semantics.proofs.Lists.{some-same}
 use Rattle.world_semantics.proofs.Ran.{run-idle}
 use Rattle.letters.specs.Posts.{Post, HasPlayed, played_none, played_more, plays_run, plays_enter, plays_hand}
@@ -43,7 +43,7 @@ use Rattle.idle_end.proofs.guards.a_site_is_at_an_idle_end_after_two_stops.Goals
 
 -- each node that runs has marked the first processor
 all-marked : (node : ℕ) → is_running (true ∷ false ∷ []) node ≡ true
-    → has_noted (record { node = 16; down = 0 } ∷ record { node = 1; down = 0 } ∷ []) node 0 ≡ true
+    → has_marked (record { node = 16; down = 0 } ∷ record { node = 1; down = 0 } ∷ []) node 0 ≡ true
 all-marked zero runs = absurd (cc)
 all-marked (suc zero) runs = refl
 all-marked (suc (suc node)) runs = rw (eqb-true (suc (suc node)) 16 runs) refl
@@ -241,7 +241,7 @@ short (suc terminal) entered words next = absurd (cc)
 
 marked : (node processor : ℕ) → is_running last.world.stopped node ≡ true
     → slice_get last.world.stopped processor ≡ Some true
-    → has_noted last.world.downs node processor ≡ true
+    → has_marked last.world.downs node processor ≡ true
 marked node zero runs down = absurd (cc)
 marked zero (suc zero) runs down = refl
 marked (suc zero) (suc zero) runs down = absurd (cc)

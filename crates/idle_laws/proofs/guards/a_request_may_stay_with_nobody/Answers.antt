@@ -18,7 +18,7 @@ use Rattle.served_requests.specs.computed_changes.proofs.Entered.{enter-only}
 use Rattle.letters.specs.Routes.{Letter}
 use Rattle.world_semantics.proofs.Lists.{some-same}
 use Rattle.world_semantics.specs.Rules.{by_enter, by_stop, by_mark}
-use Rattle.world_semantics.specs.World.{Pair, is_running, has_noted, copy_of}
+use Rattle.world_semantics.specs.World.{Pair, is_running, has_marked, copy_of}
 use Rattle.world_semantics.proofs.Ran.{run-idle}
 use Rattle.letters.specs.Idle.{IsIdle}
 use Rattle.letters.specs.Posts.{Post, plays_enter, plays_fail, plays_tick, one_mark, no_mark, HasPlayed, played_none}
@@ -43,7 +43,7 @@ idle-by : (site : Site) (post : Post) (pair : Pair) → post.world.processes ≡
     → post.owed ≡ letter_to 1 ∷ [] → is_running post.world.stopped 1 ≡ false
     → ((number : ℕ) → (run_done site number post.world ≡ None) × (enter_done site number post.world ≡ None))
     → ((node processor : ℕ) → is_running post.world.stopped node ≡ true
-    → slice_get post.world.stopped processor ≡ Some true → has_noted post.world.downs node processor ≡ true)
+    → slice_get post.world.stopped processor ≡ Some true → has_marked post.world.downs node processor ≡ true)
     → IsIdle site post
 idle-by site post pair processes rest owed stopped none marked = record {
   enters = λ number sendings next change.
@@ -78,7 +78,7 @@ rest-there Second acts = cc
 
 -- of the nodes that run there is only that of the terminals
 only-there : (node processor : ℕ) → is_running (true ∷ []) node ≡ true → slice_get (true ∷ []) processor ≡ Some true
-    → has_noted one_is_there.0.world.downs node processor ≡ true
+    → has_marked one_is_there.0.world.downs node processor ≡ true
 only-there zero processor runs down = absurd (cc)
 only-there (suc node) zero runs down = rw (eqb-true (suc node) 16 runs) refl
 only-there (suc node) (suc processor) runs down = absurd (cc)

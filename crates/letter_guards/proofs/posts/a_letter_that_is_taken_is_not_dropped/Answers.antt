@@ -3,7 +3,7 @@ use Rattle.tal_tree.specs.declared.site.Site.{Site}
 use Rattle.schedule.specs.declared.event.Event.TheVariants.{Deliver}
 use Rattle.world_semantics.specs.declared.which.Which.TheVariants.{First}
 use Rattle.world_semantics.specs.Follows.{IsIdleFor}
-use Rattle.world_semantics.specs.Messages.{Asking, Sending, Cause, Handing, NotingDown}
+use Rattle.world_semantics.specs.Messages.{Asking, Sending, Cause, Handing, MarkingDown}
 use Rattle.world_semantics.specs.Rules.{Change, by_own, by_checkpoint, by_request, by_early_request, by_enter, by_print}
 use Rattle.world_semantics.specs.Rules.{by_stop, by_mark, by_reload}
 use Rattle.world_semantics.specs.World.{World}
@@ -17,7 +17,7 @@ use Rattle.letter_guards.proofs.posts.a_letter_that_is_taken_is_not_dropped.Goal
 -- a processor that is marked has stopped
 marked-stopped : {site : Site} {w next : World} {cause : Cause} {sendings : List Sending}
     → Change site w cause sendings next → (node processor : ℕ)
-    → cause ≡ NotingDown node processor → slice_get w.stopped processor ≡ Some true
+    → cause ≡ MarkingDown node processor → slice_get w.stopped processor ≡ Some true
 marked-stopped (by_own number k pair there role causes advances enters free) node processor same =
     absurd (subst IsOfCopies same (own-causes causes))
 marked-stopped (by_checkpoint number pair there passes) node processor same =
@@ -30,7 +30,7 @@ marked-stopped (by_stop other runs whole) node processor same = absurd (cc)
 marked-stopped {w = w} (by_mark at other stopped runs new) node processor same =
     subst (λ p. slice_get w.stopped p ≡ Some true) (other-is same) stopped
   where
-    other-is : {at other node processor : ℕ} → NotingDown at other ≡ NotingDown node processor → other ≡ processor
+    other-is : {at other node processor : ℕ} → MarkingDown at other ≡ MarkingDown node processor → other ≡ processor
     other-is same = cc
 marked-stopped (by_reload other stopped marked counted less) node processor same = absurd (cc)
 

@@ -1,6 +1,6 @@
 use Rattle.std.proofs.Common.{flat_map}
 use Rattle.std.specs.Prelude.{codes}
-use Rattle.svg_text.specs.Marks.{group_text}
+use Rattle.svg_text.specs.Shapes.{group_text}
 use Rattle.svg_text.specs.Sheets.{head_text, style_sheet}
 use Rattle.text_pieces.proofs.Joins.{put_five}
 use Rattle.svg_text.proofs.sheets.put_sheet.Goals as goal

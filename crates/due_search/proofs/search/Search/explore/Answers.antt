@@ -1,12 +1,12 @@
 use Rattle.std.proofs.Common.{◌≤◌, subst, sym, ◌∙◌}
-use Rattle.due_search.specs.Search.{IsMarked}
-use Rattle.due_search.proofs.Marks.{none-marked}
+use Rattle.due_search.specs.Search.{IsSeenOnce}
+use Rattle.due_search.proofs.Seen.{none-seen}
 use Rattle.due_search.proofs.Ways.{none-reached, searched-reached}
 use Rattle.due_search.proofs.search.Search.explore.Goals as goal
 
-pub come-requires-clause-marked : goal.come-requires-clause-marked
-come-requires-clause-marked c = subst (IsMarked c.args.self.now.seen.items) (sym c.clear.ensures.items)
-    (none-marked c.args.self.now.seen.items c.requires.clear)
+pub come-requires-clause-once : goal.come-requires-clause-once
+come-requires-clause-once c = subst (IsSeenOnce c.args.self.now.seen.items) (sym c.clear.ensures.items)
+    (none-seen c.args.self.now.seen.items c.requires.clear)
 
 pub returns-then-len-eq0-clause-stopped : goal.returns-then-len-eq0-clause-stopped
 returns-then-len-eq0-clause-stopped c =

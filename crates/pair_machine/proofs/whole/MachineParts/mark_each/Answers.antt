@@ -1,5 +1,5 @@
 use Rattle.std.proofs.Common.{◌≡◌, ◌<◌, ◌∙◌, ap, length, subst, sym, arith}
-use Rattle.message_wires.specs.Play.{MachineState, notes_from}
+use Rattle.message_wires.specs.Play.{MachineState, marks_from}
 use Rattle.world_copies.specs.Room.{AllWatchersHaveRoom}
 use Rattle.pair_machine.proofs.Marks.{downs-step}
 use Rattle.pair_machine.proofs.Room.{mark-counted, mark-room}
@@ -16,7 +16,7 @@ mark-requires-clause-letters c =
     let within : c.loop-processor.processor < count =
     omega (arith, same, c.processors-processor-end.ensures, c.loop-processor-test.true) in
     mark-counted c.args.node c.loop-processor.processor count c.loop-processor.self
-    (notes_from c.args.node 0 count c.args.self.now) within
+    (marks_from c.args.node 0 count c.args.self.now) within
     c.loop-processor.invariant.left c.requires.letters
 
 pub loop-processor-preserved : goal.loop-processor-preserved

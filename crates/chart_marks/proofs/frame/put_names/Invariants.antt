@@ -1,8 +1,0 @@
-use Rattle.std.proofs.Common.{◌≡◌, ◌++◌, ◌-◌, flat_map}
-use Rattle.std.specs.List.{range_with_len}
-use Rattle.chart_marks.specs.Frame.{all_names, names_of}
-use Rattle.chart_marks.proofs.frame.put_names.Given as goal
-
-abbrev pub invariant-loop-process : goal.invariant-loop-process
-invariant-loop-process l = l.fn.marks ++ all_names l.layout l.site
-    ≡ l.marks ++ flat_map (names_of l.layout l.site) (range_with_len l.process (l.layout.processes - l.process))
