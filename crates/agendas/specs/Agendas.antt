@@ -64,8 +64,8 @@ upcoming_after sizes before counts agenda None =
 
 -- the next event of a schedule, that so many events precede, by the counts before it; none where the schedule is over.
 -- A stop comes just before an event that is to come, and that event comes after it, whatever the counts are then
-abbrev pub upcoming : Sizes → ℕ → Counts → Agenda → Option Plan
-upcoming sizes before counts agenda = upcoming_after sizes before counts agenda agenda.held_back
+abbrev pub next_plan : Sizes → ℕ → Counts → Agenda → Option Plan
+next_plan sizes before counts agenda = upcoming_after sizes before counts agenda agenda.held_back
 
 -- Runs
 
@@ -78,5 +78,5 @@ pub data PlaysOn {S : Type 0} (sizes : Sizes) (counts : S → Counts) (goes : S 
   plays_none : PlaysOn sizes counts goes start lines stop [] (agenda_of lines stop) start
   plays_on : {events : List Event} {agenda : Agenda} {s next : S} → (plan : Plan)
       → PlaysOn sizes counts goes start lines stop events agenda s
-      → upcoming sizes (length events) (counts s) agenda ≡ Some plan → goes s plan.event next
+      → next_plan sizes (length events) (counts s) agenda ≡ Some plan → goes s plan.event next
       → PlaysOn sizes counts goes start lines stop (events ++ plan.event ∷ []) plan.agenda next

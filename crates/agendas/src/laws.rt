@@ -8,13 +8,13 @@ ghost use Rattle.player.specs.Lines.{next_event};
 ghost use Rattle.player.specs.declared.standing.Move.{Move};
 ghost use Rattle.player.specs.declared.standing.Sizes.{Sizes};
 ghost use Rattle.player.specs.declared.standing.LinePlace.{LinePlace};
-ghost use Rattle.agendas.specs.Agendas.{Agenda, Plan, planned_by, stopped_by, upcoming};
+ghost use Rattle.agendas.specs.Agendas.{Agenda, Plan, planned_by, stopped_by, next_plan};
 
 /// Where the line at which a schedule stands gives an event, that one comes.
 pub fn an_event_of_a_line_comes()
     ensures { (sizes : Sizes) (before : ℕ) (counts : Counts) (standing : LinePlace) (lines : List Line) (move : Move)
         → next_event sizes standing counts ≡ Some move
-        → upcoming sizes before counts (record { standing = standing; lines = lines; stop = None; held_back = None })
+        → next_plan sizes before counts (record { standing = standing; lines = lines; stop = None; held_back = None })
         ≡ Some (record {
           event = move.event;
           agenda =
@@ -31,6 +31,6 @@ pub fn a_stop_comes_before_its_event()
 /// What was held back comes next, whatever is counted then, and nothing is held back any more.
 pub fn an_event_that_was_held_back_comes()
     ensures { (sizes : Sizes) (before : ℕ) (counts : Counts) (agenda : Agenda) (event : Event)
-        → upcoming sizes before counts (record agenda { held_back = Some event })
+        → next_plan sizes before counts (record agenda { held_back = Some event })
         ≡ Some (record { event = event; agenda = record agenda { held_back = None } }) }
 {}

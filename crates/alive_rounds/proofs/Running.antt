@@ -20,7 +20,8 @@ use Rattle.player.specs.declared.standing.Rule.TheVariants as rule
 use Rattle.player.specs.declared.standing.LinePlace.{LinePlace}
 use Rattle.player.specs.declared.standing.LinePlace.TheVariants as standing
 use Rattle.player.specs.Lines.{begun, is_before, is_reached, decided_move, next_event}
-use Rattle.agendas.specs.Agendas.{Agenda, Plan, PlaysOn, plays_none, plays_on, planned_by, coming, stopped_by, upcoming}
+use Rattle.agendas.specs.Agendas.{Agenda, Plan, PlaysOn, plays_none, plays_on, planned_by, coming, stopped_by}
+use Rattle.agendas.specs.Agendas.{next_plan}
 use Rattle.alive_regroup.specs.Watching.{is_silent}
 use Rattle.calm_schedules.specs.Calm.{is_calm_line}
 use Rattle.round_laws.specs.Buses.{HasBuses}
@@ -140,7 +141,7 @@ planned-fresh sizes w counts counted s stop (line ∷ lines) calm None h =
 upcoming-fresh : {S P : Type 0} (sizes : Sizes) (w : Sight S P) (counts : S → Counts) → CountsBuses w.buses counts
     → (s : S) (before : ℕ) (now : LinePlace) (lines : List Line) (stop : Option ProcessorStop) (held : Option Event)
     → RunsFresh sizes w counts (record { standing = now; lines = lines; stop = stop; held_back = held }) s
-    → IfPlan (PlansFresh sizes w counts s) (upcoming sizes before (counts s)
+    → IfPlan (PlansFresh sizes w counts s) (next_plan sizes before (counts s)
     (record { standing = now; lines = lines; stop = stop; held_back = held }))
 upcoming-fresh sizes w counts counted s before now lines stop (Some event) h = its_own now lines stop event h.1 h.0
 upcoming-fresh {S} {P} sizes w counts counted s before now lines stop None h =
@@ -272,7 +273,7 @@ of-turns (ends came all) = tt
 
 calm-event : {S P : Type 0} (sizes : Sizes) (w : Sight S P) (counts : S → Counts) → CountsBuses w.buses counts
     → (before : ℕ) (agenda : Agenda) (s : S) → RunsFresh sizes w counts agenda s → (plan : Plan)
-    → upcoming sizes before (counts s) agenda ≡ Some plan → IsOfTurns plan.event
+    → next_plan sizes before (counts s) agenda ≡ Some plan → IsOfTurns plan.event
 calm-event {S} {P} sizes w counts counted before agenda s h plan comes =
     by plan (plan-is (PlansFresh sizes w counts s) _ plan
     (upcoming-fresh sizes w counts counted s before agenda.standing agenda.lines agenda.stop agenda.held_back h) comes)
@@ -288,21 +289,21 @@ calm-event {S} {P} sizes w counts counted before agenda s h plan comes =
 -- in a calm schedule nothing of a drive comes
 pub no-drive : {S P : Type 0} (sizes : Sizes) (w : Sight S P) (counts : S → Counts) → CountsBuses w.buses counts
     → (before : ℕ) (agenda : Agenda) (s : S) → RunsFresh sizes w counts agenda s → (plan : Plan)
-    → upcoming sizes before (counts s) agenda ≡ Some plan → (change : DriveEvent) → plan.event ≡ Drive change → ⊥
+    → next_plan sizes before (counts s) agenda ≡ Some plan → (change : DriveEvent) → plan.event ≡ Drive change → ⊥
 no-drive sizes w counts counted before agenda s h plan comes change is =
     subst IsOfTurns is (calm-event sizes w counts counted before agenda s h plan comes)
 
 -- and no processor is loaded again
 pub no-reload : {S P : Type 0} (sizes : Sizes) (w : Sight S P) (counts : S → Counts) → CountsBuses w.buses counts
     → (before : ℕ) (agenda : Agenda) (s : S) → RunsFresh sizes w counts agenda s → (plan : Plan)
-    → upcoming sizes before (counts s) agenda ≡ Some plan → (processor : ℕ) → plan.event ≡ Reload processor → ⊥
+    → next_plan sizes before (counts s) agenda ≡ Some plan → (processor : ℕ) → plan.event ≡ Reload processor → ⊥
 no-reload sizes w counts counted before agenda s h plan comes processor is =
     subst IsOfTurns is (calm-event sizes w counts counted before agenda s h plan comes)
 
 -- in a calm schedule a processor that ticks finds nobody silent that runs
 pub nobody-silent : {S P : Type 0} (sizes : Sizes) (w : Sight S P) (counts : S → Counts) → CountsBuses w.buses counts
     → sizes.processors ≤ 16 → (before : ℕ) (agenda : Agenda) (s : S) → RunsFresh sizes w counts agenda s → (plan : Plan)
-    → upcoming sizes before (counts s) agenda ≡ Some plan → (node p : ℕ) → plan.event ≡ Tick node
+    → next_plan sizes before (counts s) agenda ≡ Some plan → (node p : ℕ) → plan.event ≡ Tick node
     → TwoRun sizes.processors w s node p
     → option_map is_silent (after_tick_of (w.checks s node) (w.knows s node p)) ≡ Some true → ⊥
 nobody-silent {S} {P} sizes w counts counted few before agenda s h plan comes node p is two silent =
@@ -324,7 +325,7 @@ nobody-silent {S} {P} sizes w counts counted few before agenda s h plan comes no
 pub nobody-stopped : {S P : Type 0} (sizes : Sizes) (w : Sight S P) (counts : S → Counts)
     (goes : S → Event → S → Type 0) → IsWatched sizes.processors w goes → CountsBuses w.buses counts
     → sizes.processors ≤ 16 → (before : ℕ) (agenda : Agenda) (s next : S) → RunsFresh sizes w counts agenda s
-    → (plan : Plan) → upcoming sizes before (counts s) agenda ≡ Some plan → goes s plan.event next → (node p : ℕ)
+    → (plan : Plan) → next_plan sizes before (counts s) agenda ≡ Some plan → goes s plan.event next → (node p : ℕ)
     → plan.event ≡ Tick node → p < sizes.processors → w.runs s p ≡ true
     → w.runs next p ≡ true
 nobody-stopped {S} {P} sizes w counts goes watched counted few before agenda s next h plan comes g node p is low_p

@@ -9,7 +9,7 @@ ghost use Rattle.player.specs.declared.stop.ProcessorStop.{ProcessorStop};
 ghost use Rattle.player.specs.declared.standing.Sizes.{Sizes};
 ghost use Rattle.player.specs.declared.standing.Place.{Place};
 ghost use Rattle.player.specs.declared.standing.Place.TheVariants.{Before};
-ghost use Rattle.agendas.specs.Agendas.{Agenda, Plan, PlaysOn, upcoming};
+ghost use Rattle.agendas.specs.Agendas.{Agenda, Plan, PlaysOn, next_plan};
 ghost use Rattle.calm_schedules.specs.Calm.{is_calm_line};
 ghost use Rattle.round_laws.specs.Buses.{HasBuses};
 ghost use Rattle.round_laws.specs.Rounds.{TurnsIn};
@@ -18,8 +18,8 @@ ghost use Rattle.alive_rounds.specs.Fresh.{IsFresh};
 ghost use Rattle.alive_rounds.specs.Runs.{CountsShown, NumberedMachine, PlaysTo};
 ghost use Rattle.alive_rounds.specs.Watched.{IsWatched, Sight};
 
-/// Every turn of a round keeps I'm-alive packets fresh, on each machine of no more processors than a site may have, whose
-/// nodes watch each other.
+/// Every turn of a round keeps I'm-alive packets fresh, on each machine of no more processors than a site may have,
+/// whose nodes watch each other.
 pub fn a_turn_keeps_alive_packets_fresh()
     ensures { (sizes : Sizes) (w : Sight ℕ ℕ) (machine : NumberedMachine)
         → IsWatched sizes.processors w (PlaysTo machine)
@@ -37,7 +37,7 @@ pub fn a_calm_schedule_stops_nobody_at_a_tick()
         → (start : ℕ) (lines : List Line) (stop : Option ProcessorStop) → list_all is_calm_line lines ≡ true
         → IsFresh sizes.processors w Before start → (events : List Event) (agenda : Agenda) (s : ℕ)
         → PlaysOn sizes counts (PlaysTo machine) start lines stop events agenda s
-        → (plan : Plan) → upcoming sizes (length events) (counts s) agenda ≡ Some plan
+        → (plan : Plan) → next_plan sizes (length events) (counts s) agenda ≡ Some plan
         → (next : ℕ) → PlaysTo machine s plan.event next → (node p : ℕ) → plan.event ≡ Tick node
         → p < sizes.processors → w.runs s p ≡ true → w.runs next p ≡ true }
 {}

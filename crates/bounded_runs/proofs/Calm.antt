@@ -19,7 +19,7 @@ use Rattle.player.specs.declared.standing.LinePlace.{LinePlace}
 use Rattle.player.specs.declared.standing.LinePlace.TheVariants as standing
 use Rattle.player.specs.declared.stop.ProcessorStop.{ProcessorStop}
 use Rattle.player.specs.Lines.{begun, decided_move, is_before, is_over, next_event}
-use Rattle.agendas.specs.Agendas.{Agenda, Plan, PlaysOn, coming, plays_none, plays_on, stopped_by, upcoming}
+use Rattle.agendas.specs.Agendas.{Agenda, Plan, PlaysOn, coming, plays_none, plays_on, stopped_by, next_plan}
 use Rattle.calm_schedules.specs.Calm.{IsCalm, is_calm_line, is_stop}
 use Rattle.world_semantics.specs.World.{is_running}
 use Rattle.world_semantics.specs.Running.{Done}
@@ -199,7 +199,7 @@ module _ (site : Site) (lines : List Line) (stop : Option ProcessorStop) (calm :
     -- the same comes next where no packet is looked at
     as-counted : (so_far : ℕ) (agenda : Agenda) (s : Packeted) (plan : Plan) → IsCalmAgenda agenda
         → planned_in packet_rules (sizes_of site) so_far s agenda ≡ Some plan
-        → upcoming (sizes_of site) so_far (counts_in s) agenda ≡ Some plan
+        → next_plan (sizes_of site) so_far (counts_in s) agenda ≡ Some plan
     as-counted so_far agenda s plan stands comes =
         upcoming-same (sizes_of site) (counts_in s) (alive_in s) (sender_in s) so_far agenda plan comes
         (calm-blind plan.agenda.standing (calm-plan so_far agenda s plan stands comes).agenda.place)

@@ -16,7 +16,7 @@ use Rattle.player.specs.Lines.{begun, decided_move, is_before, is_before_mixed, 
 use Rattle.player.specs.Lines.{proposed}
 use Rattle.player.specs.Rounds.{next_turn}
 use Rattle.player.specs.Mixes.{next_mixed}
-use Rattle.agendas.specs.Agendas.{Agenda, Plan, coming, planned_by, stopped_by, upcoming, upcoming_after}
+use Rattle.agendas.specs.Agendas.{Agenda, Plan, coming, planned_by, stopped_by, next_plan, upcoming_after}
 use Rattle.schedule_loop.specs.Plans.{Sight, planned_seen, upcoming_seen, upcoming_seen_after}
 use Rattle.round_laws.specs.Stretches.{is_drain}
 use Rattle.bounded_runs.specs.Places.{is_in_drain_round}
@@ -157,7 +157,7 @@ module _ (sizes : Sizes) (counts : Counts) where
     -- the next event is the same where it leaves the line at such a place
     pub upcoming-same : (before : ℕ) (agenda : Agenda) (plan : Plan)
         → upcoming_seen sizes before (looked_at counts alive sender) agenda ≡ Some plan
-        → is_blind plan.agenda.standing ≡ true → upcoming sizes before counts agenda ≡ Some plan
+        → is_blind plan.agenda.standing ≡ true → next_plan sizes before counts agenda ≡ Some plan
     upcoming-same before agenda plan = by agenda.held_back
       where
         by : (held : Option Event)

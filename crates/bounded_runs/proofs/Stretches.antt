@@ -18,7 +18,7 @@ use Rattle.player.specs.declared.standing.LinePlace.TheVariants as standing
 use Rattle.player.specs.declared.stop.ProcessorStop.{ProcessorStop}
 use Rattle.player.specs.Lines.{begun, decided_move, is_before, is_before_mixed, is_over, next_event}
 use Rattle.player.specs.Lines.{proposed}
-use Rattle.agendas.specs.Agendas.{Agenda, Plan, coming, stopped_by, upcoming}
+use Rattle.agendas.specs.Agendas.{Agenda, Plan, coming, stopped_by, next_plan}
 use Rattle.schedule_loop.specs.Plans.{PlaysSeen, Sight, next_seen, planned_seen, seen_none, seen_on, upcoming_seen}
 use Rattle.schedule_loop.specs.Plans.{upcoming_seen_after}
 use Rattle.round_laws.specs.Stretches.{BeginsRound, IsNextLine, is_drain, itself, later}
@@ -288,7 +288,7 @@ module _ {S : Type 0} (sizes : Sizes) (counts : S → Counts) (alive : S → Pla
   seen_plans so_far s agenda = upcoming_seen sizes so_far (looked_at (counts s) (alive s) (sender s)) agenda
 
   abbrev pub counted_plans : ℕ → S → Agenda → Option Plan
-  counted_plans so_far s agenda = upcoming sizes so_far (counts s) agenda
+  counted_plans so_far s agenda = next_plan sizes so_far (counts s) agenda
 
   abbrev pub DrainSteps : S → Plan → S → Type 0
   DrainSteps s plan next = steps s plan next × (is_in_drain_round plan.agenda.standing ≡ true)

@@ -9,8 +9,8 @@ use packet_words::{MOST_PACKETS, NoMemory, Packet};
 use std::alloc::Global;
 use std::marker::Model;
 
-/// How many packets there is room for, with those that were taken off: so each packet is moved to the front at most
-/// once for each that was sent.
+/// How many packets there is room for, with those that were taken off: so at most one packet is moved to the front for
+/// each that is sent.
 const ROOM: usize = 2 * MOST_PACKETS;
 
 /// The packets on a bus, the one that was sent first at position 0. Only `new` takes memory.

@@ -14,7 +14,7 @@ use Rattle.schedule.specs.declared.event.Event.TheVariants.{Drive}
 use Rattle.schedule.specs.declared.line.Line.{Line}
 use Rattle.schedule.specs.declared.line.Line.TheVariants.{One, Many, Drain, Mix, Mute, Until}
 use Rattle.player.specs.declared.stop.ProcessorStop.{ProcessorStop}
-use Rattle.agendas.specs.Agendas.{Agenda, Plan, PlaysOn, plays_none, plays_on, upcoming}
+use Rattle.agendas.specs.Agendas.{Agenda, Plan, PlaysOn, plays_none, plays_on, next_plan}
 use Rattle.calm_schedules.specs.Calm.{IsCalm, is_calm_line, is_stop, stops_one}
 use Rattle.world_semantics.specs.Running.{Done}
 use Rattle.world_semantics.specs.Rules.{most_reloads}
@@ -114,7 +114,7 @@ module _ (site : Site) (few : site.processors ≤ 16) (counts : Packeted → Cou
 
   -- what comes next loads no processor again
   loads-none : (before : ℕ) (agenda : Agenda) (s : Packeted) → RunsFresh (sizes_of site) packets_seen counts agenda s
-      → (plan : Plan) → upcoming (sizes_of site) before (counts s) agenda ≡ Some plan → ReloadsNone plan.event
+      → (plan : Plan) → next_plan (sizes_of site) before (counts s) agenda ≡ Some plan → ReloadsNone plan.event
   loads-none before agenda s fresh plan comes = by plan.event refl
     where
       by : (event : Event) → plan.event ≡ event → ReloadsNone event
@@ -164,7 +164,7 @@ module _ (site : Site) (few : site.processors ≤ 16) (counts : Packeted → Cou
   -- who runs goes on running, whatever comes next but a stop
   pub goes-on-running : (events : List Event) (agenda : Agenda) (s : Packeted)
       → PlaysOn (sizes_of site) counts IsClearPlay (packeted_at_boot site) lines stop events agenda s → (plan : Plan)
-      → upcoming (sizes_of site) (length events) (counts s) agenda ≡ Some plan → (next : Packeted)
+      → next_plan (sizes_of site) (length events) (counts s) agenda ≡ Some plan → (next : Packeted)
       → IsClearPlay s plan.event next → is_stop plan.event ≡ false → (p : ℕ) → p < site.processors
       → is_running s.world.stopped p ≡ true → is_running next.world.stopped p ≡ true
   goes-on-running events agenda s played plan comes next g no_stop p low here = by plan.event refl
@@ -204,7 +204,7 @@ module _ (site : Site) (few : site.processors ≤ 16) (counts : Packeted → Cou
   -- whatever comes next but a stop leaves a whole world whole
   stays-whole : (events : List Event) (agenda : Agenda) (s : Packeted)
       → PlaysOn (sizes_of site) counts IsClearPlay (packeted_at_boot site) lines stop events agenda s → (plan : Plan)
-      → upcoming (sizes_of site) (length events) (counts s) agenda ≡ Some plan → (next : Packeted)
+      → next_plan (sizes_of site) (length events) (counts s) agenda ≡ Some plan → (next : Packeted)
       → IsClearPlay s plan.event next → is_stop plan.event ≡ false → is_whole s.world ≡ true
       → is_whole next.world ≡ true
   stays-whole events agenda s played plan comes next (clear, inr skips) no_stop whole =
@@ -235,7 +235,7 @@ module _ (site : Site) (few : site.processors ≤ 16) (counts : Packeted → Cou
   stop-or-not (Drive event) = inr (refl, refl)
 
   paid-by : (agenda : Agenda) (s : Packeted) (before : ℕ) (plan : Plan)
-      → upcoming (sizes_of site) before (counts s) agenda ≡ Some plan
+      → next_plan (sizes_of site) before (counts s) agenda ≡ Some plan
       → stops_in plan.event 1 + to_come plan.agenda ≤ to_come agenda
   paid-by agenda s before plan comes =
       subst (IsPaid (to_come agenda)) comes (upcoming-paid (sizes_of site) before (counts s) agenda)
@@ -274,7 +274,7 @@ module _ (site : Site) (few : site.processors ≤ 16) (counts : Packeted → Cou
   -- nothing that comes next would do harm
   pub never-harm : stops_asked lines stop ≤ 1 → (events : List Event) (agenda : Agenda) (s : Packeted)
       → PlaysOn (sizes_of site) counts IsClearPlay (packeted_at_boot site) lines stop events agenda s → (plan : Plan)
-      → upcoming (sizes_of site) (length events) (counts s) agenda ≡ Some plan → (harm : Harm)
+      → next_plan (sizes_of site) (length events) (counts s) agenda ≡ Some plan → (harm : Harm)
       → play s plan.event ≡ Would harm → ⊥
   never-harm asked events agenda s played plan comes harm would = by plan.event refl
     where

@@ -21,7 +21,7 @@ use Rattle.machine_states.specs.States.{Played, Makes, Skips, Would, SecondStop,
 use Rattle.packet_wires.specs.Nodes.{Node, numbers, others}
 use Rattle.packet_wires.specs.Lines.{first_held, line_pulled}
 use Rattle.packet_wires.specs.Wires.{Midst, Outgoing, alive_at, at_end, at_end_of, at_node, check_at, checks, for_each}
-use Rattle.packet_wires.specs.Wires.{goes_over, learns, tells_alive, ticked, watch_changed}
+use Rattle.packet_wires.specs.Wires.{goes_over, learns, tells_alive, midst_after_tick, watch_changed}
 use Rattle.packet_wires.specs.Play.{Packeted, Underway, underway, line_of, marked_by, marks, marks_and_declares, pulled}
 use Rattle.packet_wires.specs.Play.{pulled_running, pulls, pulls_its, tick_acted}
 use Rattle.packet_rounds.specs.packet_nets.proofs.Nodes.{Same, are, differ, same}
@@ -72,25 +72,25 @@ module _ (processors x : ℕ) (m : Midst) where
       by (Some node) = reports-still processors x (told_by_tick node.watch)
           (watch_changed x after_tick node (tells_alive processors x m))
 
-  rest-still : IsStill (learns x after_tick (tells_alive processors x m)) (ticked processors x m)
+  rest-still : IsStill (learns x after_tick (tells_alive processors x m)) (midst_after_tick processors x m)
   rest-still = still-on (learns x after_tick (tells_alive processors x m))
-      (checks processors x (tells_alive processors x m)) (ticked processors x m) checks-learns
+      (checks processors x (tells_alive processors x m)) (midst_after_tick processors x m) checks-learns
       (resends-still x (checks processors x (tells_alive processors x m)))
 
-  pub ticked-own : watch_at (ticked processors x m).nodes x ≡ option_map after_tick (watch_at m.nodes x)
+  pub ticked-own : watch_at (midst_after_tick processors x m).nodes x ≡ option_map after_tick (watch_at m.nodes x)
   ticked-own = rest-still.watch x ∙ learns-own x after_tick (tells_alive processors x m)
       ∙ ap (option_map after_tick) ((tells-still processors x m).watch x)
 
-  pub ticked-other : (q : ℕ) → (x ≡ q → ⊥) → watch_at (ticked processors x m).nodes q ≡ watch_at m.nodes q
+  pub ticked-other : (q : ℕ) → (x ≡ q → ⊥) → watch_at (midst_after_tick processors x m).nodes q ≡ watch_at m.nodes q
   ticked-other q apart = rest-still.watch q ∙ learns-other x after_tick (tells_alive processors x m) q apart
       ∙ (tells-still processors x m).watch q
 
   pub ticked-out : (one : Outgoing) → IsAmong one (tells_alive processors x m).out
-      → IsAmong one (ticked processors x m).out
+      → IsAmong one (midst_after_tick processors x m).out
   ticked-out one among = rest-still.out one
       (subst (IsAmong one) (sym (learns-out x after_tick (tells_alive processors x m))) among)
 
-  pub ticked-me : (q : ℕ) → option_map (λ (w : Watching). w.me) (watch_at (ticked processors x m).nodes q)
+  pub ticked-me : (q : ℕ) → option_map (λ (w : Watching). w.me) (watch_at (midst_after_tick processors x m).nodes q)
       ≡ option_map (λ (w : Watching). w.me) (watch_at m.nodes q)
   ticked-me q = by (same x q)
     where
@@ -99,21 +99,21 @@ module _ (processors x : ℕ) (m : Midst) where
       own None = refl
       own (Some w) = ap Some (tick-me w)
 
-      by : Same x q → option_map (λ (w : Watching). w.me) (watch_at (ticked processors x m).nodes q)
+      by : Same x q → option_map (λ (w : Watching). w.me) (watch_at (midst_after_tick processors x m).nodes q)
           ≡ option_map (λ (w : Watching). w.me) (watch_at m.nodes q)
       by (differ apart) = ap (option_map (λ (w : Watching). w.me)) (ticked-other q apart)
-      by (are is) = subst (λ k. option_map (λ (w : Watching). w.me) (watch_at (ticked processors x m).nodes k)
+      by (are is) = subst (λ k. option_map (λ (w : Watching). w.me) (watch_at (midst_after_tick processors x m).nodes k)
           ≡ option_map (λ (w : Watching). w.me) (watch_at m.nodes k)) is
           (ap (option_map (λ (w : Watching). w.me)) ticked-own ∙ own (watch_at m.nodes x))
 
   -- what a processor knows then
   pub ticked-checks : (w : Watching) → watch_at m.nodes x ≡ Some w → w.me < 16
-      → checks_of (watch_at (ticked processors x m).nodes x) ≡ not (checks_of (watch_at m.nodes x))
+      → checks_of (watch_at (midst_after_tick processors x m).nodes x) ≡ not (checks_of (watch_at m.nodes x))
   ticked-checks w is low = ap checks_of (ticked-own ∙ ap (option_map after_tick) is) ∙ tick-checks w low
       ∙ ap (λ o. not (checks_of o)) (sym is)
 
   pub ticked-knows : (w : Watching) → watch_at m.nodes x ≡ Some w → w.me < 16 → (p : ℕ)
-      → known_of (watch_at (ticked processors x m).nodes x) p
+      → known_of (watch_at (midst_after_tick processors x m).nodes x) p
       ≡ after_tick_of (checks_of (watch_at m.nodes x)) (known_of (watch_at m.nodes x) p)
   ticked-knows w is low p = ap (λ o. known_of o p) (ticked-own ∙ ap (option_map after_tick) is) ∙ tick-knows w p low
       ∙ ap (λ o. after_tick_of (checks_of o) (known_of o p)) (sym is)
@@ -194,7 +194,7 @@ each-sent x q (y ∷ ys) m node e there has up (inr among) =
 
 pub alive-sent : (processors x q : ℕ) (m : Midst) (node : Node) (e : End) → x < 16 → q < processors → q ≢ x
     → slice_get m.nodes x ≡ Some node → slice_get node.ends q ≡ Some e → e.down ≡ false
-    → IsAmong (over_x e) (ticked processors x m).out
+    → IsAmong (over_x e) (midst_after_tick processors x m).out
 alive-sent processors x q m node e low in_site apart there has up =
     ticked-out processors x m (over_x e) (by (x == terminal_node) refl)
   where
@@ -261,7 +261,7 @@ line-is node k s w there line = by (slice_get s.wires.nodes node) there line
 -- A tick that is made
 
 abbrev pub sent_before : ℕ → Packeted → Underway
-sent_before node s = record (underway s) { wires = ticked s.site.processors node (underway s).wires }
+sent_before node s = record (underway s) { wires = midst_after_tick s.site.processors node (underway s).wires }
 
 pub record TicksSo (node : ℕ) (s : Packeted) (after : Underway) : Type 0 where
   pub runs : is_running s.world.stopped node ≡ true

@@ -25,9 +25,10 @@ use Rattle.message_layout.specs.Messages.{NodeMessage, Carrying, Changing, Repor
 use Rattle.packet_wires.specs.Parcels.{parcels_of}
 use Rattle.message_layout.specs.Reading.{understood}
 use Rattle.packet_wires.specs.Nodes.{Node, end_at}
-use Rattle.packet_wires.specs.Wires.{Midst, Outgoing, arrive_at, arrived, at_end, at_node, cut_off, down_at, heard_of}
+use Rattle.packet_wires.specs.Wires.{Midst, Outgoing, arrive_at, midst_after_arrival, at_end, at_node, cut_off, down_at}
+use Rattle.packet_wires.specs.Wires.{heard_of}
 use Rattle.packet_wires.specs.Wires.{learns, watch_changed}
-use Rattle.packet_wires.specs.Play.{Underway, after_any, completed, handed, handed_any, handed_words}
+use Rattle.packet_wires.specs.Play.{Underway, after_any, message_at_end, handed, handed_any, handed_words}
 use Rattle.packet_wires.specs.Play.{marked_by, marks, marks_and_declares, received}
 use Rattle.packet_rounds.specs.packet_nets.proofs.Nodes.{Same, are, differ, same}
 use Rattle.alive_rounds.specs.Watched.{IsThere, WasHeard}
@@ -250,7 +251,7 @@ words-keep node (Some words) s = by (understood s.site words)
     by (Some message) = handed-keeps node message s
 
 arrived-keeps : (name : BusName) (packet : Packet) (s : Underway)
-    → StateKeeps s (record s { wires = arrived name packet s.wires })
+    → StateKeeps s (record s { wires = midst_after_arrival name packet s.wires })
 arrived-keeps name packet s = record {
   stopped = refl;
   keep = all-on s.world.stopped s.wires (at_end packet.receiver packet.sender (arrive_at name packet) s.wires) _
@@ -261,10 +262,11 @@ arrived-keeps name packet s = record {
 }
 
 pub received-keeps : (name : BusName) (packet : Packet) (s : Underway) → StateKeeps s (received name packet s)
-received-keeps name packet s = state-on s (record s { wires = arrived name packet s.wires }) (received name packet s)
+received-keeps name packet s =
+    state-on s (record s { wires = midst_after_arrival name packet s.wires }) (received name packet s)
     (arrived-keeps name packet s)
-    (words-keep packet.receiver (completed packet (end_at s.wires.nodes packet.receiver packet.sender))
-    (record s { wires = arrived name packet s.wires }))
+    (words-keep packet.receiver (message_at_end packet (end_at s.wires.nodes packet.receiver packet.sender))
+    (record s { wires = midst_after_arrival name packet s.wires }))
 
 heard-after : (p : ℕ) (o : Option Watching) → IsThere (known_of o p)
     → WasHeard (known_of (option_map (changed_at p neighbour_after_alive) o) p)
@@ -277,14 +279,14 @@ pub alive-heard : (name : BusName) (p q : ℕ) (s : Underway) → is_running s.w
     → IsThere (known_of (watch_at s.wires.nodes q) p)
     → WasHeard (known_of (watch_at (received name (alive_packet p q) s).wires.nodes q) p)
 alive-heard name p q s runs there =
-    (((words-keep q (completed (alive_packet p q) (end_at s.wires.nodes q p)) middle).keep.keeps q).kept p runs).1
+    (((words-keep q (message_at_end (alive_packet p q) (end_at s.wires.nodes q p)) middle).keep.keeps q).kept p runs).1
     (subst (λ o. WasHeard (known_of o p))
     (sym (learns-own q (changed_at p neighbour_after_alive) (at_end q p (arrive_at name (alive_packet p q)) s.wires)))
     (heard-after p (watch_at (at_end q p (arrive_at name (alive_packet p q)) s.wires).nodes q)
     (subst (λ o. IsThere (known_of o p)) (sym ((arrive-still name (alive_packet p q) s.wires).watch q)) there)))
   where
     middle : Underway
-    middle = record s { wires = arrived name (alive_packet p q) s.wires }
+    middle = record s { wires = midst_after_arrival name (alive_packet p q) s.wires }
 
 -- a node marks the processor whose line it pulled, and tells the others
 pub declares-keep : (node k : ℕ) (s : Underway) → StateKeeps s (marks_and_declares node k s)

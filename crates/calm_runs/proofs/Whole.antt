@@ -23,11 +23,12 @@ use Rattle.machine_states.proofs.Turning.{drive-cases}
 use Rattle.message_layout.specs.Messages.{NodeMessage, Carrying, Changing, Reporting, Declaring}
 use Rattle.message_layout.specs.Reading.{understood}
 use Rattle.packet_wires.specs.Nodes.{end_at}
-use Rattle.packet_wires.specs.Play.{Packeted, Underway, acted, after_any, underway, comes_in, completed, deliver_acted}
+use Rattle.packet_wires.specs.Play.{Packeted, Underway, acted, after_any, underway, comes_in, message_at_end}
+use Rattle.packet_wires.specs.Play.{deliver_acted}
 use Rattle.packet_wires.specs.Play.{ended, handed, handed_any, handed_words, line_of, lose_acted, made_by, marked_by}
 use Rattle.packet_wires.specs.Play.{marks, packet_at, play, pulled, pulled_running, pulls, pulls_its}
 use Rattle.packet_wires.specs.Play.{received, reload_acted, repeat_acted, taken_off, tick_acted}
-use Rattle.packet_wires.specs.Wires.{Midst, arrived, bus_named, ticked}
+use Rattle.packet_wires.specs.Wires.{Midst, midst_after_arrival, bus_named, midst_after_tick}
 use Rattle.packet_rounds.specs.packets_laws.proofs.Going.{marks-stay}
 
 -- a processor that ran has stopped
@@ -84,8 +85,8 @@ deliver-whole name s (Some packet) = by (comes_in packet s)
   where
     by : (test : Bool) → WholeIf s (Makes (if test then received name packet s else s))
     by true = λ whole.
-        inl (words-keep packet.receiver (completed packet (end_at s.wires.nodes packet.receiver packet.sender))
-        (record s { wires = arrived name packet s.wires }) whole)
+        inl (words-keep packet.receiver (message_at_end packet (end_at s.wires.nodes packet.receiver packet.sender))
+        (record s { wires = midst_after_arrival name packet s.wires }) whole)
     by false = λ whole. inl whole
 
 -- a line that is pulled stops its processor, or nobody where that one has stopped
@@ -115,9 +116,9 @@ tick-whole node s = by (is_running s.world.stopped node)
         at (Some false) there = rw there (first there (is_whole s.world))
 
     by : (test : Bool) → WholeIf s (if test then pulls_its node
-        (record s { wires = ticked s.site.processors node s.wires }) else Skips)
-    by true = line (ticked s.site.processors node s.wires)
-        (line_of node (record s { wires = ticked s.site.processors node s.wires }))
+        (record s { wires = midst_after_tick s.site.processors node s.wires }) else Skips)
+    by true = line (midst_after_tick s.site.processors node s.wires)
+        (line_of node (record s { wires = midst_after_tick s.site.processors node s.wires }))
     by false = tt
 
 -- nobody is loaded again

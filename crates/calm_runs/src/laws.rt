@@ -7,7 +7,7 @@ ghost use Rattle.schedule.specs.declared.event.Counts.{Counts};
 ghost use Rattle.schedule.specs.declared.event.Event.{Event};
 ghost use Rattle.schedule.specs.declared.line.Line.{Line};
 ghost use Rattle.player.specs.declared.stop.ProcessorStop.{ProcessorStop};
-ghost use Rattle.agendas.specs.Agendas.{Agenda, Plan, PlaysOn, upcoming};
+ghost use Rattle.agendas.specs.Agendas.{Agenda, Plan, PlaysOn, next_plan};
 ghost use Rattle.calm_schedules.specs.Calm.{IsCalm, is_calm_line, is_stop};
 ghost use Rattle.world_semantics.specs.World.{is_running};
 ghost use Rattle.machine_states.specs.States.{Harm, Would};
@@ -24,7 +24,7 @@ pub fn a_calm_schedule_stops_nobody_that_runs()
         → (lines : List Line) (stop : Option ProcessorStop) → list_all is_calm_line lines ≡ true
         → (events : List Event) (agenda : Agenda) (s : Packeted)
         → PlaysOn (sizes_of site) counts IsClearPlay (packeted_at_boot site) lines stop events agenda s
-        → (plan : Plan) → upcoming (sizes_of site) (length events) (counts s) agenda ≡ Some plan
+        → (plan : Plan) → next_plan (sizes_of site) (length events) (counts s) agenda ≡ Some plan
         → (next : Packeted) → IsClearPlay s plan.event next → is_stop plan.event ≡ false
         → (p : ℕ) → p < site.processors → is_running s.world.stopped p ≡ true
         → is_running next.world.stopped p ≡ true }
@@ -38,6 +38,6 @@ pub fn a_calm_schedule_does_no_harm()
         → (lines : List Line) (stop : Option ProcessorStop) → IsCalm lines (is_some stop)
         → (events : List Event) (agenda : Agenda) (s : Packeted)
         → PlaysOn (sizes_of site) counts IsClearPlay (packeted_at_boot site) lines stop events agenda s
-        → (plan : Plan) → upcoming (sizes_of site) (length events) (counts s) agenda ≡ Some plan
+        → (plan : Plan) → next_plan (sizes_of site) (length events) (counts s) agenda ≡ Some plan
         → (harm : Harm) → play s plan.event ≡ Would harm → ⊥ }
 {}

@@ -5,7 +5,7 @@ use Rattle.std.proofs.Common.{option_and_then}
 use Rattle.std.proofs.lemmas.Bool.{le-leb, leb-true}
 use Rattle.std.specs.List.{All}
 use Rattle.std.specs.Option.{option_map}
-use Rattle.receive_changes.specs.process_semantics.specs.Words.{Front, counted, long}
+use Rattle.receive_changes.specs.process_semantics.specs.Words.{Front, with_count, long}
 use Rattle.receive_changes.specs.checkpoint_image.specs.Reading.{both_in, many_in, pair_in, reply_in}
 use Rattle.receive_changes.specs.checkpoint_image.proofs.Messages.{AreFew, reply-reads}
 use Rattle.receive_changes.specs.checkpoint_image.proofs.Patterns.{pair-reads}
@@ -27,7 +27,7 @@ abbrev parts_in : ℕ → List ℤ → Front Parts
 parts_in count = both_in (λ taken added. (taken, added)) pair_in (many_in reply_in count)
 
 abbrev parts_words : Parts → List ℤ
-parts_words parts = long parts.0 ++ flat_map counted parts.1
+parts_words parts = long parts.0 ++ flat_map with_count parts.1
 
 parts-reads : (count : ℕ) → IsReader parts_words (ArePartsRead count) (parts_in count)
 parts-reads count =

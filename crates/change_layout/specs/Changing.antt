@@ -4,7 +4,7 @@
 use Rattle.std.specs.Prelude.{ℕ, Bool, true, false, List, Option, Some, None}
 use Rattle.receive_changes.specs.checkpoint_image.specs.declared.message.ImageMessage.{ImageMessage}
 use Rattle.receive_changes.specs.checkpoint_image.specs.declared.receive.ReceiveBlock.{ReceiveBlock}
-use Rattle.receive_changes.specs.sync_ids.specs.Changes.{change_between, changed, fits_change}
+use Rattle.receive_changes.specs.sync_ids.specs.Changes.{change_between, table_with_change, fits_change}
 use Rattle.change_layout.specs.declared.message.ChangeMessage.{ChangeMessage}
 
 -- a checkpoint as what changed since the one before it
@@ -29,7 +29,7 @@ whole_of depths table change = record {
   image = record {
     body = change.image.body;
     files = change.image.files;
-    receive = changed depths table change.image.receive;
+    receive = table_with_change depths table change.image.receive;
   };
 }
 

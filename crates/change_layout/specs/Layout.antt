@@ -2,8 +2,8 @@
 -- layout is this project's own.
 use Rattle.std.specs.List.{All, flat_map}
 use Rattle.std.specs.Prelude.{ℕ, ◌+◌, ◌*◌, ◌<◌, ◌≤◌, ◌^◌, ℤ, pos, List, [], ◌∷◌, ◌++◌, length}
-use Rattle.receive_changes.specs.process_semantics.specs.Words.{long, counted}
-use Rattle.receive_changes.specs.checkpoint_image.specs.Layout.{IsFile, IsPlace, file_words, listed, place_word}
+use Rattle.receive_changes.specs.process_semantics.specs.Words.{long, with_count}
+use Rattle.receive_changes.specs.checkpoint_image.specs.Layout.{IsFile, IsPlace, file_words, words_of_list, place_word}
 use Rattle.receive_changes.specs.sync_ids.specs.declared.change.OpenerChange.{OpenerChange}
 use Rattle.receive_changes.specs.sync_ids.specs.declared.change.ReceiveChange.{ReceiveChange}
 use Rattle.change_layout.specs.declared.message.ChangeImage.{ChangeImage}
@@ -16,7 +16,7 @@ place_and_count change = change.opener * 8 + length change.added
 
 -- what follows that number: the number last taken, and the replies that were added, the oldest first
 abbrev pub taken_and_added : OpenerChange → List ℤ
-taken_and_added change = long change.taken ++ flat_map counted change.added
+taken_and_added change = long change.taken ++ flat_map with_count change.added
 
 -- what changed of an opener
 abbrev pub change_words : OpenerChange → List ℤ
@@ -24,11 +24,11 @@ change_words change = pos (place_and_count change) ∷ taken_and_added change
 
 -- what changed in a receive table: the changes, and the place in hand
 abbrev pub receive_words : ReceiveChange → List ℤ
-receive_words change = listed change_words change.changes ++ place_word change.in_hand ∷ []
+receive_words change = words_of_list change_words change.changes ++ place_word change.in_hand ∷ []
 
 -- an image: the body, the files and what changed in the receive table
 abbrev pub image_words : ChangeImage → List ℤ
-image_words image = counted image.body ++ listed file_words image.files ++ receive_words image.receive
+image_words image = with_count image.body ++ words_of_list file_words image.files ++ receive_words image.receive
 
 -- the words before the image: 7, by which these are told from other messages, the process, the era and the number
 abbrev pub heading_words : ChangeMessage → List ℤ

@@ -1,7 +1,7 @@
 ghost use Rattle.std.specs.List.{All};
 ghost use Rattle.std.specs.Prelude.{◌≡◌, ◌≤◌, ◌∷◌, ◌++◌, length, OnOk, pos};
-ghost use Rattle.receive_changes.specs.process_semantics.specs.Words.{counted, long};
-ghost use Rattle.receive_changes.specs.checkpoint_image.specs.Layout.{IsPlace, file_words, listed};
+ghost use Rattle.receive_changes.specs.process_semantics.specs.Words.{with_count, long};
+ghost use Rattle.receive_changes.specs.checkpoint_image.specs.Layout.{IsPlace, file_words, words_of_list};
 ghost use Rattle.change_layout.specs.Layout.{IsShort, change_words, receive_words};
 
 use receive_changes::{
@@ -23,7 +23,7 @@ fn put_change(change: &OpenerChange, out: &mut List<i16>) -> Result<(), NoMemory
 fn put_changes(changes: &[OpenerChange], out: &mut List<i16>) -> Result<(), NoMemory>
     requires changes { length changes.now ≤ 32767 }
     requires short { All IsShort changes.now }
-    ensures { OnOk result (out.new ≡ out.old ++ listed change_words changes.now) }
+    ensures { OnOk result (out.new ≡ out.old ++ words_of_list change_words changes.now) }
 {
     put_count(changes.len(), out)?;
     for change in changes {
@@ -48,7 +48,7 @@ pub fn put_receive(change: &ReceiveChange, out: &mut List<i16>) -> Result<(), No
 pub fn put_contents(body: &[i16], files: &[FileNumber], out: &mut List<i16>) -> Result<(), NoMemory>
     requires body { length body.now ≤ 32767 }
     requires files { length files.now ≤ 32767 }
-    ensures { OnOk result (out.new ≡ out.old ++ (counted body.now ++ listed file_words files.now)) }
+    ensures { OnOk result (out.new ≡ out.old ++ (with_count body.now ++ words_of_list file_words files.now)) }
 {
     put_counted(body, out)?;
     put_files(files, out)?;

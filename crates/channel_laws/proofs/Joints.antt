@@ -7,12 +7,14 @@ use Rattle.std.specs.Prelude.{None, ◌==◌, nat_lt, nat_le, if◌then◌else�
 use Rattle.std.specs.Option.{option_to_list}
 use Rattle.packet_words.specs.declared.bus_name.BusName.{BusName}
 use Rattle.packet_words.specs.declared.piece.Piece.{Piece}
-use Rattle.packet_words.specs.Pieces.{pieces, joined, completed, first_piece}
+use Rattle.packet_words.specs.Pieces.{pieces, words_with_piece, message_with_piece, first_piece}
 use Rattle.link_control.specs.Ends.{Sending, Receiving, numbered_at, new_sending, after_push_of, after_tick_of}
 use Rattle.link_control.specs.Ends.{moved_on}
 use Rattle.link_control.specs.Ends.{is_next}
-use Rattle.channel_laws.specs.Way.{Way, AtSender, AtReceiver, IsJoint, IsCut, IsPieceOf, IsWithin, quiet_way, pushing}
-use Rattle.channel_laws.specs.Way.{coming, telling, ticking, total, first_of, Filled, opened}
+use Rattle.channel_laws.specs.Way.{Way, AtSender, AtReceiver, IsJoint, IsCut, IsPieceOf, IsWithin, quiet_way}
+use Rattle.channel_laws.specs.Way.{way_after_push}
+use Rattle.channel_laws.specs.Way.{way_after_piece, way_after_acknowledgement, way_after_tick, total, first_of, Filled}
+use Rattle.channel_laws.specs.Way.{opened}
 use Rattle.channel_laws.proofs.Places.{total-append, filled-more, filled-rest, within-more, none-within, part-more}
 use Rattle.channel_laws.proofs.Places.{same-place, cut-is, part-and_piece, whole-at_last, count-at_last, more-after}
 
@@ -86,7 +88,7 @@ receiver-pushed pushes out m r n h = record {
   part = h.part ∙ part-more h.some h.rest m h.in_part;
 }
 
-pub joint-pushing : (m : List ℤ) (w : Way) → 0 < length m → IsJoint w → IsJoint (pushing m w)
+pub joint-pushing : (m : List ℤ) (w : Way) → 0 < length m → IsJoint w → IsJoint (way_after_push m w)
 joint-pushing m w n j =
     let sending = sender-pushed w.pushes j.acknowledged m w.sender n j.sending in
     record {
@@ -140,7 +142,8 @@ sender-moved pushes a q queue place numbered waited resend_bus f h = by_more (na
         (h.sent ∙ sym (append_assoc h.done (q ∷ []) queue))
         (omega (arith, h.count, total-append h.done (q ∷ []), h.place, ltb-false _ _ is)) (omega (arith, h.numbered))
 
-pub joint-telling : (number : ℕ) (w : Way) → number ≤ w.receiver.kept → IsJoint w → IsJoint (telling number w)
+pub joint-telling : (number : ℕ) (w : Way) → number ≤ w.receiver.kept → IsJoint w
+    → IsJoint (way_after_acknowledgement number w)
 joint-telling number w told j =
     go w.sender.queue w.sender.place w.sender.numbered w.sender.waited w.sender.resend_bus j.sending j.kept_is_numbered
   where
@@ -184,7 +187,7 @@ joint-telling number w told j =
         → AtSender w.pushes j.acknowledged (record
         { queue = queue; place = place; numbered = numbered; waited = waited; resend_bus = resend_bus })
         → w.receiver.kept ≤ numbered
-        → IsJoint (telling number (way (record {
+        → IsJoint (way_after_acknowledgement number (way (record {
           queue = queue;
           place = place;
           numbered = numbered;
@@ -255,7 +258,7 @@ sender-ticked pushes a s h = go s.queue s.place s.numbered s.waited s.resend_bus
     go (q ∷ queue) place numbered false resend_bus h =
         record { done = h.done; sent = h.sent; place = h.place; count = h.count; numbered = h.numbered }
 
-pub joint-ticking : (w : Way) → IsJoint w → IsJoint (ticking w)
+pub joint-ticking : (w : Way) → IsJoint w → IsJoint (way_after_tick w)
 joint-ticking w j = record {
   filled = j.filled;
   acknowledged = j.acknowledged;
@@ -268,8 +271,9 @@ joint-ticking w j = record {
 -- A piece comes
 
 pub joint-coming : (number : ℕ) (piece : Piece) (w : Way) → IsPieceOf w number piece → IsJoint w
-    → IsJoint (coming number piece w)
-joint-coming number piece w o j = subst (λ p. IsJoint (coming number p w)) (sym (cut-is c.k c.message piece c.cut).1)
+    → IsJoint (way_after_piece number piece w)
+joint-coming number piece w o j =
+    subst (λ p. IsJoint (way_after_piece number p w)) (sym (cut-is c.k c.message piece c.cut).1)
     (by_number (is_next number w.receiver) refl)
   where
     c : IsCut w.pushes number piece
@@ -296,11 +300,11 @@ joint-coming number piece w o j = subst (λ p. IsJoint (coming number p w)) (sym
 
     by_last : number ≡ w.receiver.kept + 1 → (b : Bool) → nat_le (length left) 10 ≡ b
         → AtReceiver w.pushes (w.out ++ option_to_list
-        (completed (record { last = b; words = take 10 left }) w.receiver.part))
+        (message_with_piece (record { last = b; words = take 10 left }) w.receiver.part))
         (record {
           kept = w.receiver.kept + 1;
           part =
-              joined (record { last = b; words = take 10 left }) w.receiver.part;
+              words_with_piece (record { last = b; words = take 10 left }) w.receiver.part;
         })
     by_last is true last =
         let message : w.receiver.part ++ take 10 left ≡ c.message = text is ∙ whole-at_last c.k c.message last in
@@ -333,9 +337,12 @@ joint-coming number piece w o j = subst (λ p. IsJoint (coming number p w)) (sym
 
     by_number : (b : Bool) → is_next number w.receiver ≡ b
         → IsJoint (record w {
-          receiver = if b then record { kept = w.receiver.kept + 1; part = joined (first_piece left) w.receiver.part }
+          receiver = if b then record {
+            kept = w.receiver.kept + 1;
+            part = words_with_piece (first_piece left) w.receiver.part;
+          }
               else w.receiver;
-          out = w.out ++ option_to_list (if b then completed (first_piece left) w.receiver.part else None);
+          out = w.out ++ option_to_list (if b then message_with_piece (first_piece left) w.receiver.part else None);
         })
     by_number true is = record {
       filled = j.filled;

@@ -17,7 +17,8 @@ use Rattle.link_control.specs.Ends.{End, Sending, packet_of, packet_outstanding,
 use Rattle.link_control.specs.Ends.{after_kind, sent_by_packet, sent_by_kind, after_tick, sent_by_tick, after_down}
 use Rattle.link_control.specs.Ends.{piece_of, after_push_of, after_acknowledgement, after_tick_of, kept, is_kept}
 use Rattle.link_control.specs.Ends.{is_idle, is_ended_by, is_sent_again, new_end}
-use Rattle.channel_laws.specs.Way.{Way, IsJoint, IsPieceOf, IsReceiptOf, quiet_way, pushing, coming, telling, ticking}
+use Rattle.channel_laws.specs.Way.{Way, IsJoint, IsPieceOf, IsReceiptOf, quiet_way, way_after_push, way_after_piece}
+use Rattle.channel_laws.specs.Way.{way_after_acknowledgement, way_after_tick}
 use Rattle.gd_words.specs.Members.{IsAmong}
 use Rattle.channel_laws.specs.Net.{Net, put, Runs, at_end, pushed_net, arrived_net, ticked_net, packet_in, ways_by}
 use Rattle.channel_laws.specs.Net.{incarnation_of, quiet_net, Goes, pushes, arrives, ticks, lives, bus_changes, stops}
@@ -151,7 +152,7 @@ tied-sender n x y s v r t h w a b live up = go (a == x) (b == y) refl refl up
 -- at one end the receiver's end of the way back is another
 tied-receiver : (n : Net) (x y number : ℕ) (piece : Piece) → Runs n x y → IsWhole n → (a b : ℕ) → n.stopped a ≡ false
     → (put x y (record (n.ends x y) { receiving = kept number piece (n.ends x y).receiving }) n.ends a b).down ≡ false
-    → IsTied (put y x (coming number piece (n.ways y x)) n.ways) a b
+    → IsTied (put y x (way_after_piece number piece (n.ways y x)) n.ways) a b
     (put x y (record (n.ends x y) { receiving = kept number piece (n.ends x y).receiving }) n.ends a b)
 tied-receiver n x y number piece h w a b live up = go (a == x) (b == y) refl refl up
   where
@@ -159,7 +160,7 @@ tied-receiver n x y number piece h w a b live up = go (a == x) (b == y) refl ref
     e = record (n.ends x y) { receiving = kept number piece (n.ends x y).receiving }
 
     v : Way
-    v = coming number piece (n.ways y x)
+    v = way_after_piece number piece (n.ways y x)
 
     same_senders : (c d : ℕ) → (put y x v n.ways c d).sender ≡ (n.ways c d).sender
     same_senders c d = put-all (λ c d u. u.sender ≡ (n.ways c d).sender) y x v n.ways refl (λ c d. refl) c d
@@ -217,8 +218,9 @@ whole-sender n x y s v sent r t j rises new h w = record {
 
 whole-pushed : (n : Net) (x y : ℕ) (m : List ℤ) → 0 < length m → Runs n x y → IsWhole n → IsWhole (pushed_net x y m n)
 whole-pushed n x y m some h w = subst (λ e.
-    IsWhole (at_end x y e (sent_by_push m (n.ends x y)) (put x y (pushing m (n.ways x y)) n.ways) n)) (sym is)
-    (whole-sender n x y (after_push_of m (n.ends x y).sending) (pushing m (n.ways x y)) (sent_by_push m (n.ends x y))
+    IsWhole (at_end x y e (sent_by_push m (n.ends x y)) (put x y (way_after_push m (n.ways x y)) n.ways) n)) (sym is)
+    (whole-sender n x y (after_push_of m (n.ends x y).sending) (way_after_push m (n.ways x y))
+    (sent_by_push m (n.ends x y))
     refl (ap (after_push_of m) (w.tied x y h).sending)
     (joint-pushing m (n.ways x y) some (w.joint x y)) (later-pushing m (n.ways x y)) new h w)
   where
@@ -236,9 +238,9 @@ whole-pushed n x y m some h w = subst (λ e.
 
 whole-ticked : (n : Net) (x y : ℕ) → Runs n x y → IsWhole n → IsWhole (ticked_net x y n)
 whole-ticked n x y h w = subst (λ e. IsWhole
-    (at_end x y e (option_map packet_in (sent_by_tick (n.ends x y))) (put x y (ticking (n.ways x y)) n.ways) n))
+    (at_end x y e (option_map packet_in (sent_by_tick (n.ends x y))) (put x y (way_after_tick (n.ways x y)) n.ways) n))
     (sym is)
-    (whole-sender n x y (after_tick_of (n.ends x y).sending) (ticking (n.ways x y))
+    (whole-sender n x y (after_tick_of (n.ends x y).sending) (way_after_tick (n.ways x y))
     (option_map packet_in (sent_by_tick (n.ends x y))) refl (ap after_tick_of (w.tied x y h).sending)
     (joint-ticking (n.ways x y) (w.joint x y)) (later-ticking (n.ways x y)) new h w)
   where
@@ -271,11 +273,13 @@ whole-ticked n x y h w = subst (λ e. IsWhole
 whole-told : (n : Net) (x y : ℕ) (p : Packet) (number : ℕ) → p.kind ≡ kind.Acknowledgement number
     → IsReceiptOf (n.ways x y) number → Runs n x y → IsWhole n
     → IsWhole (at_end x y (after_packet p (n.ends x y)) (sent_by_packet p (n.ends x y))
-    (put x y (telling number (n.ways x y)) n.ways) n)
+    (put x y (way_after_acknowledgement number (n.ways x y)) n.ways) n)
 whole-told n x y p number k o h w = subst
-    (λ e. IsWhole (at_end x y e (sent_by_packet p (n.ends x y)) (put x y (telling number (n.ways x y)) n.ways) n))
+    (λ e. IsWhole (at_end x y e (sent_by_packet p (n.ends x y))
+    (put x y (way_after_acknowledgement number (n.ways x y)) n.ways) n))
     (sym is)
-    (whole-sender n x y (after_acknowledgement number (n.ends x y).sending) (telling number (n.ways x y))
+    (whole-sender n x y (after_acknowledgement number (n.ends x y).sending)
+    (way_after_acknowledgement number (n.ways x y))
     (sent_by_packet p (n.ends x y)) refl (ap (after_acknowledgement number) (w.tied x y h).sending)
     (joint-telling number (n.ways x y) o.1 (w.joint x y)) (later-telling number (n.ways x y)) new h w)
   where
@@ -294,16 +298,16 @@ whole-told n x y p number k o h w = subst
 whole-come : (n : Net) (x y : ℕ) (p : Packet) (number : ℕ) (piece : Piece) → p.kind ≡ kind.Piece number piece
     → IsPieceOf (n.ways y x) number piece → Runs n x y → IsWhole n
     → IsWhole (at_end x y (after_packet p (n.ends x y)) (sent_by_packet p (n.ends x y))
-    (put y x (coming number piece (n.ways y x)) n.ways) n)
+    (put y x (way_after_piece number piece (n.ways y x)) n.ways) n)
 whole-come n x y p number piece k o h w =
     subst (λ e. IsWhole (at_end x y e (sent_by_packet p (n.ends x y))
-    (put y x (coming number piece (n.ways y x)) n.ways) n)) (sym is) whole
+    (put y x (way_after_piece number piece (n.ways y x)) n.ways) n)) (sym is) whole
   where
     e : End
     e = n.ends x y
 
     v : Way
-    v = coming number piece (n.ways y x)
+    v = way_after_piece number piece (n.ways y x)
 
     g : ℕ → ℕ → Way
     g = put y x v n.ways

@@ -5,7 +5,7 @@ use Rattle.packet_words.specs.declared.bus_name.BusName.{BusName}
 use Rattle.packet_words.specs.declared.piece.Piece.{Piece}
 use Rattle.packet_words.specs.declared.packet.PacketKind.{PacketKind}
 use Rattle.packet_words.specs.declared.packet.PacketKind.TheVariants as kind
-use Rattle.packet_words.specs.Pieces.{joined}
+use Rattle.packet_words.specs.Pieces.{words_with_piece}
 use Rattle.link_control.specs.Ends.{End, Sending, Receiving, numbered_at, new_sending, after_push_of, moved_on}
 use Rattle.link_control.specs.Ends.{after_acknowledgement, after_tick_of, kept, is_next, after_kind}
 use Rattle.channel_laws.specs.Way.{IsOneOn}
@@ -63,7 +63,8 @@ one-acknowledged number s = go s.queue s.place s.numbered s.waited s.resend_bus
 one-kept : (number : ℕ) (piece : Piece) (r : Receiving) → (kept number piece r).kept ≤ r.kept + 1
 one-kept number piece r = go (is_next number r)
   where
-    go : (b : Bool) → (if b then record { kept = r.kept + 1; part = joined piece r.part } else r).kept ≤ r.kept + 1
+    go : (b : Bool) → (if b then record { kept = r.kept + 1; part = words_with_piece piece r.part } else
+        r).kept ≤ r.kept + 1
     go true = omega arith
     go false = omega arith
 

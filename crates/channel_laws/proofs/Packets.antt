@@ -6,13 +6,14 @@ use Rattle.std.proofs.lemmas.Bool.{leb-false, le-leb, lt-ltb, eq-eqb}
 use Rattle.std.specs.Prelude.{◌==◌, ◌||◌, nat_lt, nat_le, Some, if◌then◌else◌}
 use Rattle.packet_words.specs.declared.bus_name.BusName.{BusName}
 use Rattle.packet_words.specs.declared.piece.Piece.{Piece}
-use Rattle.packet_words.specs.Pieces.{joined, piece_at}
+use Rattle.packet_words.specs.Pieces.{words_with_piece, piece_at}
 use Rattle.packet_words.specs.declared.packet.PacketKind.{PacketKind}
 use Rattle.packet_words.specs.declared.packet.PacketKind.TheVariants as kind
 use Rattle.packet_words.specs.Layout.{is_kind, is_piece}
 use Rattle.link_control.specs.Ends.{Sending, Receiving, numbered_at, new_sending, after_tick_of, after_acknowledgement}
 use Rattle.link_control.specs.Ends.{moved_on, is_next, kept}
-use Rattle.channel_laws.specs.Way.{Way, IsJoint, IsCut, IsPieceOf, IsReceiptOf, pushing, coming, telling, ticking}
+use Rattle.channel_laws.specs.Way.{Way, IsJoint, IsCut, IsPieceOf, IsReceiptOf, way_after_push, way_after_piece}
+use Rattle.channel_laws.specs.Way.{way_after_acknowledgement, way_after_tick}
 use Rattle.channel_laws.specs.Way.{opened}
 use Rattle.channel_laws.specs.Net.{IsTold}
 use Rattle.channel_laws.proofs.Places.{cut-is}
@@ -65,7 +66,8 @@ numbered-ticked s = omega (arith, same-piece (λ queue place numbered. numbered)
 pub kept-rises : (number : ℕ) (piece : Piece) (r : Receiving) → r.kept ≤ (kept number piece r).kept
 kept-rises number piece r = go (is_next number r)
   where
-    go : (b : Bool) → r.kept ≤ (if b then record { kept = r.kept + 1; part = joined piece r.part } else r).kept
+    go : (b : Bool) → r.kept ≤ (if b then record
+        { kept = r.kept + 1; part = words_with_piece piece r.part } else r).kept
     go true = omega arith
     go false = omega arith
 
@@ -94,7 +96,7 @@ later-same w = (λ number piece o. o, λ number o. o)
 pub later-sender : (w : Way) (s : Sending) → w.sender.numbered ≤ s.numbered → IsLater w (record w { sender = s })
 later-sender w s more = (λ number piece o. (o.0, omega (arith, o.1, more)), λ number o. o)
 
-pub later-pushing : (m : List ℤ) (w : Way) → IsLater w (pushing m w)
+pub later-pushing : (m : List ℤ) (w : Way) → IsLater w (way_after_push m w)
 later-pushing m w = (
   λ number piece o. (
     cut-more m w.pushes number piece o.0,
@@ -103,14 +105,14 @@ later-pushing m w = (
   λ number o. o,
 )
 
-pub later-coming : (number : ℕ) (piece : Piece) (w : Way) → IsLater w (coming number piece w)
+pub later-coming : (number : ℕ) (piece : Piece) (w : Way) → IsLater w (way_after_piece number piece w)
 later-coming number piece w =
     (λ other more o. o, λ other o. (o.0, omega (arith, o.1, kept-rises number piece w.receiver)))
 
-pub later-telling : (number : ℕ) (w : Way) → IsLater w (telling number w)
+pub later-telling : (number : ℕ) (w : Way) → IsLater w (way_after_acknowledgement number w)
 later-telling number w = later-sender w (after_acknowledgement number w.sender) (numbered-acknowledged number w.sender)
 
-pub later-ticking : (w : Way) → IsLater w (ticking w)
+pub later-ticking : (w : Way) → IsLater w (way_after_tick w)
 later-ticking w = later-sender w (after_tick_of w.sender) (numbered-ticked w.sender)
 
 -- the outstanding piece is of its way

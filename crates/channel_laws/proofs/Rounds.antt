@@ -9,12 +9,13 @@ use Rattle.packet_words.specs.declared.piece.Piece.{Piece}
 use Rattle.packet_words.specs.declared.packet.Packet.{Packet}
 use Rattle.packet_words.specs.declared.packet.PacketKind.{PacketKind}
 use Rattle.packet_words.specs.declared.packet.PacketKind.TheVariants as kind
-use Rattle.packet_words.specs.Pieces.{joined, piece_at, first_piece}
+use Rattle.packet_words.specs.Pieces.{words_with_piece, piece_at, first_piece}
 use Rattle.link_control.specs.declared.channel.Resent.{Resent}
 use Rattle.link_control.specs.Ends.{End, Sending, packet_of, packet_outstanding, after_push, after_packet, after_kind}
 use Rattle.link_control.specs.Ends.{after_tick, after_push_of, after_down, sent_by_push, sent_by_packet, sent_by_kind}
 use Rattle.link_control.specs.Ends.{sent_by_tick, after_tick_of, kept, is_kept, is_next, is_sent_again}
-use Rattle.channel_laws.specs.Way.{Way, IsJoint, IsEnded, IsWithin, pushing, coming, telling, ticking}
+use Rattle.channel_laws.specs.Way.{Way, IsJoint, IsEnded, IsWithin, way_after_push, way_after_piece}
+use Rattle.channel_laws.specs.Way.{way_after_acknowledgement, way_after_tick}
 use Rattle.gd_words.specs.Members.{IsAmong}
 use Rattle.channel_laws.specs.Net.{incarnation_of, IsCurrent}
 use Rattle.channel_laws.specs.Net.{Net, Goes, put, put_one, Runs, packet_in, ways_by, arrived_net, ticked_net, pushes}
@@ -53,14 +54,14 @@ WayOn n w v = n ≤ w.sender.numbered → (n ≤ v.sender.numbered) × (IsEnded 
 way-same : (n : ℕ) (w : Way) → WayOn n w w
 way-same n w low = (low, λ e. e, λ e. e)
 
-way-pushing : (n : ℕ) (m : List ℤ) (w : Way) → WayOn n w (pushing m w)
+way-pushing : (n : ℕ) (m : List ℤ) (w : Way) → WayOn n w (way_after_push m w)
 way-pushing n m w low = let o = on-pushed n m w.sender low in (omega (arith, low, numbered-pushed m w.sender), o.0, o.1)
 
-way-telling : (n number : ℕ) (w : Way) → WayOn n w (telling number w)
+way-telling : (n number : ℕ) (w : Way) → WayOn n w (way_after_acknowledgement number w)
 way-telling n number w low =
     let o = on-told n number w.sender low in (omega (arith, low, numbered-acknowledged number w.sender), o.0, o.1)
 
-way-ticking : (n : ℕ) (w : Way) → WayOn n w (ticking w)
+way-ticking : (n : ℕ) (w : Way) → WayOn n w (way_after_tick w)
 way-ticking n w low = let o = on-ticked n w.sender low in (omega (arith, low, numbered-ticked w.sender), o.0, o.1)
 
 way-put : (n x y : ℕ) (v : Way) (f : ℕ → ℕ → Way) → WayOn n (f x y) v → (a b : ℕ) → WayOn n (f a b) (put x y v f a b)
@@ -69,9 +70,9 @@ way-put n x y v f h a b = put-all (λ a b w. WayOn n (f a b) w) x y v f h (λ a 
 way-by : (n x y : ℕ) (k : PacketKind) (f : ℕ → ℕ → Way) (a b : ℕ) → WayOn n (f a b) (ways_by x y k f a b)
 way-by n x y kind.Alive f a b = way-same n (f a b)
 way-by n x y (kind.Piece number piece) f a b =
-    way-put n y x (coming number piece (f y x)) f (λ low. (low, λ e. e, λ e. e)) a b
+    way-put n y x (way_after_piece number piece (f y x)) f (λ low. (low, λ e. e, λ e. e)) a b
 way-by n x y (kind.Acknowledgement number) f a b =
-    way-put n x y (telling number (f x y)) f (way-telling n number (f x y)) a b
+    way-put n x y (way_after_acknowledgement number (f x y)) f (way-telling n number (f x y)) a b
 
 -- While packets pass
 
@@ -220,7 +221,7 @@ kept-at n piece w j low = go (is_next n w.receiver) refl
     top = omega (arith, low, j.sending.numbered, j.acknowledged_is_kept, opened-few w.sender.queue)
 
     go : (b : Bool) → is_next n w.receiver ≡ b
-        → is_kept n (if b then record { kept = w.receiver.kept + 1; part = joined piece w.receiver.part } else
+        → is_kept n (if b then record { kept = w.receiver.kept + 1; part = words_with_piece piece w.receiver.part } else
         w.receiver) ≡ true
     go true is = le-leb n (w.receiver.kept + 1) top
     go false is = le-leb n w.receiver.kept (grind (arith, top, eqb-false n (w.receiver.kept + 1) is))
@@ -240,8 +241,8 @@ mid-packet n a b l came m p i current r h = mid-came n a b l came p (arrived_net
     ended : p.kind ≡ kind.Acknowledgement n → p.sender ≡ b → p.receiver ≡ a → IsCurrentOf m b a p
         → EndedIn n a b (arrived_net p.receiver p.sender p m)
     ended k s t now =
-        let own : IsEnded n (put a b (telling n (m.ways a b)) m.ways a b).sender =
-        subst (λ (u : Way). IsEnded n u.sender) (sym (put-same a b (telling n (m.ways a b)) m.ways))
+        let own : IsEnded n (put a b (way_after_acknowledgement n (m.ways a b)) m.ways a b).sender =
+        subst (λ (u : Way). IsEnded n u.sender) (sym (put-same a b (way_after_acknowledgement n (m.ways a b)) m.ways))
         (hit n (m.ways a b).sender h.low) in
         subst (λ k. IsEnded n (ways_by p.receiver p.sender k m.ways a b).sender) (sym k)
         (subst (λ c. IsEnded n (ways_by c p.sender (kind.Acknowledgement n) m.ways a b).sender) (sym t)
@@ -271,11 +272,11 @@ mid-tick : (n a b : ℕ) (l : Net) (came : List Packet) (m : Net) (x y : ℕ) �
     → IsMid n a b l came (ticked_net x y m)
 mid-tick n a b l came m x y r h = mid-on n a b l came m (put x y (after_tick (m.ends x y)) m.ends)
     (option_to_list (option_map packet_in (sent_by_tick (m.ends x y))))
-    (put x y (ticking (m.ways x y)) m.ways) (ticks x y r)
+    (put x y (way_after_tick (m.ways x y)) m.ways) (ticks x y r)
     (downs-put m x y (after_tick (m.ends x y))
     (ap (λ (u : End). u.down) (when-up (m.ends x y)
     (record (m.ends x y) { sending = after_tick_of (m.ends x y).sending }) r.1)))
-    (way-put n x y (ticking (m.ways x y)) m.ways (way-ticking n (m.ways x y)) a b) h
+    (way-put n x y (way_after_tick (m.ways x y)) m.ways (way-ticking n (m.ways x y)) a b) h
 
 put-one-other : (x a : ℕ) (f : ℕ → Bool) → x ≢ a → f a ≡ false → put_one x true f a ≡ false
 put-one-other x a f other h = go (a == x) refl
@@ -301,11 +302,11 @@ mid-passes n a b w low here there nothing = record {
 }
 mid-passes n a b {l = l} w low here there (by_push {came = came} {m = m} x y message some r q) =
     mid-on n a b l came m (put x y (after_push message (m.ends x y)) m.ends)
-    (option_to_list (sent_by_push message (m.ends x y))) (put x y (pushing message (m.ways x y)) m.ways)
+    (option_to_list (sent_by_push message (m.ends x y))) (put x y (way_after_push message (m.ways x y)) m.ways)
     (pushes x y message some r) (downs-put m x y (after_push message (m.ends x y))
     (ap (λ (u : End). u.down) (when-up (m.ends x y)
     (record (m.ends x y) { sending = after_push_of message (m.ends x y).sending }) r.1)))
-    (way-put n x y (pushing message (m.ways x y)) m.ways (way-pushing n message (m.ways x y)) a b)
+    (way-put n x y (way_after_push message (m.ways x y)) m.ways (way-pushing n message (m.ways x y)) a b)
     (mid-passes n a b w low here there q)
 mid-passes n a b {l = l} w low here there (by_packet {came = came} {m = m} p i current r q) =
     mid-packet n a b l came m p i current r (mid-passes n a b w low here there q)
@@ -437,7 +438,7 @@ net-sends n a b m w low r k = go (tick-sends n (m.ends a b) (m.ways a b) r.1 (w.
         ⊎ ((piece : Piece) × (option_map packet_in (sent_by_tick e) ≡ Some (packet_of e (kind.Piece n piece))))
         → SentIn n a b (ticked_net a b m)
     go (inl x) =
-        inl (inl (subst (λ (u : Way). IsEnded n u.sender) (sym (put-same a b (ticking (m.ways a b)) m.ways)) x))
+        inl (inl (subst (λ (u : Way). IsEnded n u.sender) (sym (put-same a b (way_after_tick (m.ways a b)) m.ways)) x))
     go (inr x) = inr (
       x.0,
       subst (λ s. IsFlying m.reloads a b (kind.Piece n x.0) (m.flight ++ option_to_list s)) (sym x.1) (
@@ -486,7 +487,7 @@ brought-on n a b {l = l} {next = next} r w here there numbered = record {
 
     ticked_once : WaitedIn n a b (ticked_net a b r.middle)
     ticked_once = subst (λ (u : Way). HasWaited n u.sender)
-        (sym (put-same a b (ticking (r.middle.ways a b)) r.middle.ways))
+        (sym (put-same a b (way_after_tick (r.middle.ways a b)) r.middle.ways))
         (ticked-cases n (r.middle.ways a b).sender one.low).1
 
     answered : SentIn n a b l → AnsweredIn n a b next

@@ -12,7 +12,8 @@ use Rattle.packet_words.specs.Layout.{is_kind}
 use Rattle.link_control.specs.declared.channel.Resent.{Resent}
 use Rattle.link_control.specs.Ends.{End, new_end, packet_of, after_push, sent_by_push, after_packet, sent_by_packet}
 use Rattle.link_control.specs.Ends.{after_tick, sent_by_tick, after_down}
-use Rattle.channel_laws.specs.Way.{Way, IsJoint, IsPieceOf, IsReceiptOf, quiet_way, pushing, coming, telling, ticking}
+use Rattle.channel_laws.specs.Way.{Way, IsJoint, IsPieceOf, IsReceiptOf, quiet_way, way_after_push, way_after_piece}
+use Rattle.channel_laws.specs.Way.{way_after_acknowledgement, way_after_tick}
 
 -- a table with one place changed
 abbrev pub put : {A : Type 0} → ℕ → ℕ → A → (ℕ → ℕ → A) → ℕ → ℕ → A
@@ -62,13 +63,13 @@ at_end x y e sent ways n = record n { ends = put x y e n.ends; flight = n.flight
 abbrev pub pushed_net : ℕ → ℕ → List ℤ → Net → Net
 pushed_net x y message n =
     at_end x y (after_push message (n.ends x y)) (sent_by_push message (n.ends x y))
-    (put x y (pushing message (n.ways x y)) n.ways) n
+    (put x y (way_after_push message (n.ways x y)) n.ways) n
 
 -- what came from y to x: a piece on its way, or an acknowledgement of the way back
 abbrev pub ways_by : ℕ → ℕ → PacketKind → (ℕ → ℕ → Way) → ℕ → ℕ → Way
 ways_by x y kind.Alive ways = ways
-ways_by x y (kind.Piece number piece) ways = put y x (coming number piece (ways y x)) ways
-ways_by x y (kind.Acknowledgement number) ways = put x y (telling number (ways x y)) ways
+ways_by x y (kind.Piece number piece) ways = put y x (way_after_piece number piece (ways y x)) ways
+ways_by x y (kind.Acknowledgement number) ways = put x y (way_after_acknowledgement number (ways x y)) ways
 
 -- at x a packet of y comes
 abbrev pub arrived_net : ℕ → ℕ → Packet → Net → Net
@@ -82,7 +83,7 @@ packet_in resent = resent.packet
 abbrev pub ticked_net : ℕ → ℕ → Net → Net
 ticked_net x y n =
     at_end x y (after_tick (n.ends x y)) (option_map packet_in (sent_by_tick (n.ends x y)))
-    (put x y (ticking (n.ways x y)) n.ways) n
+    (put x y (way_after_tick (n.ways x y)) n.ways) n
 
 -- x tells y that it is alive
 abbrev pub alive_net : ℕ → ℕ → Net → Net

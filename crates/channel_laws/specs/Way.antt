@@ -20,23 +20,23 @@ quiet_way = record { pushes = []; sender = idle_after 0; receiver = nothing_in_p
 -- What happens to a way
 
 -- a message is pushed
-abbrev pub pushing : List ℤ → Way → Way
-pushing message w = record w { pushes = w.pushes ++ message ∷ []; sender = after_push_of message w.sender }
+abbrev pub way_after_push : List ℤ → Way → Way
+way_after_push message w = record w { pushes = w.pushes ++ message ∷ []; sender = after_push_of message w.sender }
 
 -- a piece comes
-abbrev pub coming : ℕ → Piece → Way → Way
-coming number piece w = record w {
+abbrev pub way_after_piece : ℕ → Piece → Way → Way
+way_after_piece number piece w = record w {
   receiver = kept number piece w.receiver;
   out = w.out ++ option_to_list (message_of_piece number piece w.receiver);
 }
 
 -- an acknowledgement comes
-abbrev pub telling : ℕ → Way → Way
-telling number w = record w { sender = after_acknowledgement number w.sender }
+abbrev pub way_after_acknowledgement : ℕ → Way → Way
+way_after_acknowledgement number w = record w { sender = after_acknowledgement number w.sender }
 
 -- the sender's node ticks
-abbrev pub ticking : Way → Way
-ticking w = record w { sender = after_tick_of w.sender }
+abbrev pub way_after_tick : Way → Way
+way_after_tick w = record w { sender = after_tick_of w.sender }
 
 -- What both ends keep
 

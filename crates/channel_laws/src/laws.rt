@@ -7,18 +7,19 @@ ghost use Rattle.packet_words.specs.Layout.{is_packet};
 ghost use Rattle.link_control.specs.Ends.{End, after_push, after_packet, after_tick, after_down, is_empty};
 ghost use Rattle.link_control.specs.Ends.{handed_by_packet};
 ghost use Rattle.channel_laws.specs.Way.{Way, IsJoint, IsPieceOf, IsReceiptOf, IsOutstanding, IsEnded, IsOneOn};
-ghost use Rattle.channel_laws.specs.Way.{pushing, coming, telling, ticking};
+ghost use Rattle.channel_laws.specs.Way.{way_after_push, way_after_piece, way_after_acknowledgement, way_after_tick};
 ghost use Rattle.gd_words.specs.Members.{IsAmong};
 ghost use Rattle.channel_laws.specs.Net.{Net, Goes, Leads, IsWhole, Runs, quiet_net, ways_by};
 ghost use Rattle.channel_laws.specs.Rounds.{IsRound, IsBroughtOn};
 
 /// Both ends of a way stay together, whatever happens at one of them.
 pub fn ends_stay_together()
-    ensures push { (message : List ℤ) (w : Way) → 0 < length message → IsJoint w → IsJoint (pushing message w) }
+    ensures push { (message : List ℤ) (w : Way) → 0 < length message → IsJoint w → IsJoint (way_after_push message w) }
     ensures piece { (number : ℕ) (piece : Piece) (w : Way) → IsPieceOf w number piece → IsJoint w
-        → IsJoint (coming number piece w) }
-    ensures acknowledgement { (number : ℕ) (w : Way) → IsReceiptOf w number → IsJoint w → IsJoint (telling number w) }
-    ensures tick { (w : Way) → IsJoint w → IsJoint (ticking w) }
+        → IsJoint (way_after_piece number piece w) }
+    ensures acknowledgement { (number : ℕ) (w : Way) → IsReceiptOf w number → IsJoint w
+        → IsJoint (way_after_acknowledgement number w) }
+    ensures tick { (w : Way) → IsJoint w → IsJoint (way_after_tick w) }
 {}
 
 /// No call numbers more than one piece or keeps more than one, so numbers are left for as many calls.

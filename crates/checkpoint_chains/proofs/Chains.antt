@@ -10,7 +10,7 @@ use Rattle.tal_tree.specs.declared.site.Site.{Site}
 use Rattle.schedule.specs.declared.event.Event.{Event}
 use Rattle.disc_device.specs.Sectors.{Stored}
 use Rattle.world_semantics.specs.plain_semantics.specs.Openers.{openers_of}
-use Rattle.process_semantics.specs.Image.{restored}
+use Rattle.process_semantics.specs.Image.{state_from_words}
 use Rattle.process_semantics.specs.Process.{ProcessState}
 use Rattle.checkpoint_image.specs.declared.message.Image.{Image}
 use Rattle.checkpoint_image.specs.declared.message.ImageMessage.{ImageMessage}
@@ -133,7 +133,7 @@ applied-table core applied image is =
       next = with_files image.files core.next;
       receive = image.receive;
     }) (λ (one : Core). image.receive ≡ one.receive)
-    (restored core.state (is_some image.receive.in_hand) image.body) applied (λ state there. refl) is
+    (state_from_words core.state (is_some image.receive.in_hand) image.body) applied (λ state there. refl) is
 
 -- One process
 

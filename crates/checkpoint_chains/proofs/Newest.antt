@@ -5,7 +5,7 @@ use Rattle.gd_words.specs.declared.message.Reply.{Reply}
 use Rattle.gd_words.specs.declared.message.Request.{Request}
 use Rattle.tal_tree.specs.declared.act.Act.{Act}
 use Rattle.tal_tree.specs.declared.site.Site.{Site}
-use Rattle.checkpoint_image.specs.Receive.{all_repeated, repeated}
+use Rattle.checkpoint_image.specs.Receive.{all_repeated, reply_sent_again}
 use Rattle.checkpoint_image.specs.declared.message.ImageMessage.{ImageMessage}
 use Rattle.world_semantics.specs.declared.which.Which.{Which}
 use Rattle.world_semantics.specs.declared.which.Which.TheVariants.{First, Second}
@@ -122,7 +122,7 @@ change-new w next cause sendings (by_own {messages = messages} number k pair the
 change-new w next cause sendings (by_checkpoint number pair there passes) sending among =
     passes-new next (set-there w.processes number pair _ there) passes sending among
 change-new w next cause sendings (by_request request k pair sent there acting) sending among =
-    let again = repeated (copy_of k pair).core.receive request in
+    let again = reply_sent_again (copy_of k pair).core.receive request in
     from-node next (copy_of k pair).processor (map Replying again) (replied-new next again) sending among
 change-new w next cause sendings (by_early_request request k pair sent there watching) sending among = absurd among
 change-new w next cause sendings (by_enter {words = words} number terminal opener there even is opens) sending among =

@@ -4,14 +4,15 @@ use Rattle.std.proofs.Common.{List, [], ◌∷◌, ◌++◌, length, Option, Som
 use Rattle.std.proofs.Common.{eq-eqb}
 use Rattle.std.proofs.lemmas.Bool.{le-leb, leb-true, eqb-true}
 use Rattle.std.specs.List.{All}
-use Rattle.process_images.specs.process_semantics.specs.Words.{Front, words_in, long, counted}
+use Rattle.process_images.specs.process_semantics.specs.Words.{Front, words_in, long, with_count}
 use Rattle.checkpoint_image.specs.declared.message.FileNumber.{FileNumber}
 use Rattle.checkpoint_image.specs.declared.message.Image.{Image}
 use Rattle.checkpoint_image.specs.declared.message.ImageMessage.{ImageMessage}
 use Rattle.checkpoint_image.specs.declared.reading.Heading.{Heading}
 use Rattle.checkpoint_image.specs.declared.receive.OpenerBlock.{OpenerBlock}
 use Rattle.checkpoint_image.specs.declared.receive.ReceiveBlock.{ReceiveBlock}
-use Rattle.checkpoint_image.specs.Layout.{listed, file_words, opener_words, place_word, receive_words, image_words}
+use Rattle.checkpoint_image.specs.Layout.{words_of_list, file_words, opener_words, place_word, receive_words}
+use Rattle.checkpoint_image.specs.Layout.{image_words}
 use Rattle.checkpoint_image.specs.Layout.{message_words, IsPlace, HasShortLists, IsWithinLayout}
 use Rattle.checkpoint_image.specs.Reading.{body_in, file_in, reply_in, opener_in, place_in, receive_in, contents_in}
 use Rattle.checkpoint_image.specs.Reading.{image_in, longs_in, named_in, heading_in, message_of, message_in, both_in}
@@ -22,10 +23,10 @@ use Rattle.checkpoint_image.proofs.Readers.{listed-reads, whole-again, whole-exa
 abbrev pub AreFew : ℕ → List ℤ → Type 0
 AreFew limit words = (length words ≤ limit) × Unit {0}
 
-body-reads : IsReader counted (AreFew 32767) body_in
+body-reads : IsReader with_count (AreFew 32767) body_in
 body-reads = sized-reads (λ words. words) (λ words. Unit {0}) length words_in 32767 words-reads
 
-pub reply-reads : IsReader counted (AreFew 16) reply_in
+pub reply-reads : IsReader with_count (AreFew 16) reply_in
 reply-reads = sized-reads (λ words. words) (λ words. Unit {0}) length words_in 16 words-reads
 
 abbrev pub IsFileRead : FileNumber → Type 0
@@ -81,7 +82,7 @@ receive-reads =
 abbrev pub AreFilesRead : List FileNumber → Type 0
 AreFilesRead files = (length files ≤ 32767) × All IsFileRead files
 
-pub contents-reads : IsReader (λ (body, files). counted body ++ listed file_words files)
+pub contents-reads : IsReader (λ (body, files). with_count body ++ words_of_list file_words files)
     (λ (body, files). AreFew 32767 body × AreFilesRead files) contents_in
 contents-reads =
     both-reads body-reads (listed-reads file-reads) (λ body files. (body, files)) (λ contents. contents.0)

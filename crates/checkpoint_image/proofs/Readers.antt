@@ -9,7 +9,7 @@ use Rattle.std.proofs.Math.Seq.{take-append_seam, drop-append_seam}
 use Rattle.std.specs.List.{All}
 use Rattle.std.specs.Option.{option_map}
 use Rattle.process_images.specs.process_semantics.specs.Words.{Front, whole, words_in}
-use Rattle.checkpoint_image.specs.Layout.{listed}
+use Rattle.checkpoint_image.specs.Layout.{words_of_list}
 use Rattle.checkpoint_image.specs.Reading.{number_in, sized_in, both_in, many_in, listed_in}
 
 -- what is read stands at the front of the words, and the rest is left
@@ -172,7 +172,7 @@ module _ {A : Type 0} {write : A → List ℤ} {Is : A → Type 0} {part : List 
     exact = many-exact n;
   }
 
-  pub listed-reads : IsReader (listed write) (λ xs. (length xs ≤ 32767) × All Is xs) (listed_in part)
+  pub listed-reads : IsReader (words_of_list write) (λ xs. (length xs ≤ 32767) × All Is xs) (listed_in part)
   listed-reads = sized-reads (flat_map write) (All Is) length (many_in part) 32767 many-reads
 
 -- All words, of which none is left

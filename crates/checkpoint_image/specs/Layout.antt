@@ -2,7 +2,7 @@
 -- numbers of its files and what was taken and answered is Bartlett's; the layout is this project's own.
 use Rattle.std.specs.List.{All, flat_map}
 use Rattle.std.specs.Prelude.{ℕ, ◌<◌, ◌≤◌, ◌^◌, ℤ, pos, negsuc, zero, List, [], ◌∷◌, ◌++◌, length, Option, Some, None}
-use Rattle.process_images.specs.process_semantics.specs.Words.{long, counted}
+use Rattle.process_images.specs.process_semantics.specs.Words.{long, with_count}
 use Rattle.checkpoint_image.specs.declared.message.FileNumber.{FileNumber}
 use Rattle.checkpoint_image.specs.declared.message.Image.{Image}
 use Rattle.checkpoint_image.specs.declared.message.ImageMessage.{ImageMessage}
@@ -11,8 +11,8 @@ use Rattle.checkpoint_image.specs.declared.receive.ReceiveBlock.{ReceiveBlock}
 use Rattle.process_images.specs.gd_words.specs.declared.limits.TheConstants.{MOST_MESSAGE_WORDS}
 
 -- how many there are, and the words of each in order
-abbrev pub listed : {A : Type 0} → (A → List ℤ) → List A → List ℤ
-listed part items = pos (length items) ∷ flat_map part items
+abbrev pub words_of_list : {A : Type 0} → (A → List ℤ) → List A → List ℤ
+words_of_list part items = pos (length items) ∷ flat_map part items
 
 -- a file that is named: its number and the number of the next request on it
 abbrev pub file_words : FileNumber → List ℤ
@@ -20,7 +20,7 @@ file_words named = pos named.file ∷ long named.next
 
 -- an opener: the number last taken, and the kept replies, the oldest first
 abbrev pub opener_words : OpenerBlock → List ℤ
-opener_words block = long block.taken ++ listed counted block.kept
+opener_words block = long block.taken ++ words_of_list with_count block.kept
 
 -- the place of the opener whose request is in hand, or -1
 abbrev pub place_word : Option ℕ → ℤ
@@ -29,11 +29,11 @@ place_word (Some place) = pos place
 
 -- a receive table: the openers, and the place in hand
 abbrev pub receive_words : ReceiveBlock → List ℤ
-receive_words table = listed opener_words table.openers ++ place_word table.in_hand ∷ []
+receive_words table = words_of_list opener_words table.openers ++ place_word table.in_hand ∷ []
 
 -- an image: the body, the files and the receive table
 abbrev pub image_words : Image → List ℤ
-image_words image = counted image.body ++ listed file_words image.files ++ receive_words image.receive
+image_words image = with_count image.body ++ words_of_list file_words image.files ++ receive_words image.receive
 
 -- the words before the image: 3, by which checkpoints are told from other messages, the process, the era and the number
 abbrev pub heading_words : ImageMessage → List ℤ

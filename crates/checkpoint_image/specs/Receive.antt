@@ -53,8 +53,8 @@ abbrev pub standing_at : ReceiveBlock → ℕ → ℕ → RequestStanding
 standing_at table opener number = standing_by (holds table opener) (slice_get table.openers opener) number
 
 -- how a request stands to a receive table
-abbrev pub standing : ReceiveBlock → Request → RequestStanding
-standing table request = standing_at table request.opener request.number
+abbrev pub request_standing : ReceiveBlock → Request → RequestStanding
+request_standing table request = standing_at table request.opener request.number
 
 -- Taking and answering
 
@@ -106,7 +106,7 @@ is_waiting _ = false
 
 -- the waiting requests of a copy that acts after a request came: Next and Ahead wait, the others don't
 abbrev pub came : ReceiveBlock → List Request → Request → List Request
-came table waiting request = if is_waiting (standing table request) then waits waiting request else waiting
+came table waiting request = if is_waiting (request_standing table request) then waits waiting request else waiting
 
 -- the reply of these words to a request
 abbrev pub reply_to : Request → List ℤ → Reply
@@ -118,17 +118,17 @@ repeated_by request (Kept words) = reply_to request words ∷ []
 repeated_by request _ = []
 
 -- the reply that is sent again when a request came to a copy that acts: the one that is kept
-abbrev pub repeated : ReceiveBlock → Request → List Reply
-repeated table request = repeated_by request (standing table request)
+abbrev pub reply_sent_again : ReceiveBlock → Request → List Reply
+reply_sent_again table request = repeated_by request (request_standing table request)
 
 -- the waiting requests of a copy that takes over: each is treated in order as if it came now, so Next and Ahead wait on
 -- and the others are dropped
 abbrev pub still_waiting : ReceiveBlock → List Request → List Request
-still_waiting table waiting = filter (λ request. is_waiting (standing table request)) waiting
+still_waiting table waiting = filter (λ request. is_waiting (request_standing table request)) waiting
 
 -- the replies that a copy sends again when it takes over
 abbrev pub all_repeated : ReceiveBlock → List Request → List Reply
-all_repeated table waiting = flat_map (repeated table) waiting
+all_repeated table waiting = flat_map (reply_sent_again table) waiting
 
 -- a waiting request that is taken, and those that wait on
 pub record Chosen : Type 0 where
@@ -147,6 +147,7 @@ chosen_by true request rest later = Some (record { request = request; rest = res
 chosen_by false request rest later = option_map (chosen_after request) later
 
 -- the waiting request that is taken: the first that stands Next
-abbrev pub chosen : ReceiveBlock → List Request → Option Chosen
-chosen table [] = None
-chosen table (request ∷ rest) = chosen_by (is_next (standing table request)) request rest (chosen table rest)
+abbrev pub choice_among : ReceiveBlock → List Request → Option Chosen
+choice_among table [] = None
+choice_among table (request ∷ rest) =
+    chosen_by (is_next (request_standing table request)) request rest (choice_among table rest)

@@ -4,7 +4,8 @@ ghost use Rattle.process_images.specs.gd_words.specs.Ranges.{HasNext};
 ghost use Rattle.process_images.specs.process_semantics.specs.declared.point.Point.TheVariants.{Inner, Take, Ask};
 ghost use Rattle.process_images.specs.process_semantics.specs.declared.point.Point.TheVariants.{Await, Answer};
 ghost use Rattle.process_images.specs.process_semantics.specs.declared.point.Point.TheVariants.{AtCheckpoint, Device};
-ghost use Rattle.process_images.specs.process_semantics.specs.Image.{image_of, listed_items, listed_files, restored};
+ghost use Rattle.process_images.specs.process_semantics.specs.Image.{image_of, listed_items, listed_files};
+ghost use Rattle.process_images.specs.process_semantics.specs.Image.{state_from_words};
 ghost use Rattle.process_images.specs.process_semantics.specs.Process.{ProcessState, point, in_hand, after_inner};
 ghost use Rattle.process_images.specs.process_semantics.specs.Process.{after_took, asked_file, asked_words};
 ghost use Rattle.process_images.specs.process_semantics.specs.Process.{after_asked, after_got, answer_of};
@@ -101,7 +102,7 @@ pub trait Behaviour: Drop {
     /// Puts an image into it, with a request in hand or none; false where the words are no image of it, and then
     /// nothing changes.
     fn apply(&mut self, words: &[i16], in_hand: bool) -> bool
-        ensures applied { OnTrue result (restored (state self.old) in_hand words.now ≡ Some (state self.new)) }
-        ensures refused { OnFalse result (restored (state self.old) in_hand words.now ≡ None) }
+        ensures applied { OnTrue result (state_from_words (state self.old) in_hand words.now ≡ Some (state self.new)) }
+        ensures refused { OnFalse result (state_from_words (state self.old) in_hand words.now ≡ None) }
         ensures unchanged { OnFalse result (state self.new ≡ state self.old) };
 }

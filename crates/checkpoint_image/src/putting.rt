@@ -1,8 +1,9 @@
 ghost use Rattle.std.specs.List.{All, flat_map};
 ghost use Rattle.std.specs.Prelude.{◌≡◌, ◌≤◌, [], ◌∷◌, ◌++◌, length, OnOk, pos};
 ghost use Rattle.process_images.specs.gd_words.specs.Arithmetic.{wrap};
-ghost use Rattle.process_images.specs.process_semantics.specs.Words.{long, counted};
-ghost use Rattle.checkpoint_image.specs.Layout.{IsPlace, listed, file_words, opener_words, place_word, receive_words};
+ghost use Rattle.process_images.specs.process_semantics.specs.Words.{long, with_count};
+ghost use Rattle.checkpoint_image.specs.Layout.{IsPlace, words_of_list, file_words, opener_words, place_word};
+ghost use Rattle.checkpoint_image.specs.Layout.{receive_words};
 ghost use Rattle.checkpoint_image.specs.Layout.{image_words, heading_words};
 
 use crate::message::{FileNumber, Image, ImageMessage};
@@ -36,7 +37,7 @@ pub fn put_long(number: u32, out: &mut List<i16>) -> Result<(), NoMemory>
 /// Puts words, with how many they are, behind others.
 pub fn put_counted(words: &[i16], out: &mut List<i16>) -> Result<(), NoMemory>
     requires { length words.now ≤ 32767 }
-    ensures { OnOk result (out.new ≡ out.old ++ counted words.now) }
+    ensures { OnOk result (out.new ≡ out.old ++ with_count words.now) }
 {
     put_count(words.len(), out)?;
     out.extend_from_slice(words)?;
@@ -52,7 +53,7 @@ fn put_file(named: FileNumber, out: &mut List<i16>) -> Result<(), NoMemory>
 
 pub fn put_files(files: &[FileNumber], out: &mut List<i16>) -> Result<(), NoMemory>
     requires { length files.now ≤ 32767 }
-    ensures { OnOk result (out.new ≡ out.old ++ listed file_words files.now) }
+    ensures { OnOk result (out.new ≡ out.old ++ words_of_list file_words files.now) }
 {
     put_count(files.len(), out)?;
     for named in files {
@@ -63,7 +64,7 @@ pub fn put_files(files: &[FileNumber], out: &mut List<i16>) -> Result<(), NoMemo
 
 /// Puts replies, each with how many words it has, behind words.
 pub fn put_replies(replies: &[Words], out: &mut List<i16>) -> Result<(), NoMemory>
-    ensures { OnOk result (out.new ≡ out.old ++ flat_map counted replies.now) }
+    ensures { OnOk result (out.new ≡ out.old ++ flat_map with_count replies.now) }
 {
     for words in replies {
         put_counted(words.as_slice(), out)?;
@@ -84,7 +85,7 @@ fn put_opener(block: &OpenerBlock, out: &mut List<i16>) -> Result<(), NoMemory>
 fn put_openers(openers: &[OpenerBlock], out: &mut List<i16>) -> Result<(), NoMemory>
     requires openers { length openers.now ≤ 32767 }
     requires kept { All (λ block. length block.kept ≤ 32767) openers.now }
-    ensures { OnOk result (out.new ≡ out.old ++ listed opener_words openers.now) }
+    ensures { OnOk result (out.new ≡ out.old ++ words_of_list opener_words openers.now) }
 {
     put_count(openers.len(), out)?;
     for block in openers {

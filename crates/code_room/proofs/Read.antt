@@ -7,7 +7,8 @@ use Rattle.tal_tree.specs.declared.program.Procedure.{Procedure}
 use Rattle.tal_tree.specs.declared.program.Program.{Program}
 use Rattle.tal_names.specs.Names.{Declarations}
 use Rattle.tal_pieces.specs.tal_rules.specs.declared.walk.Progress.{Progress}
-use Rattle.tal_pieces.specs.tal_rules.specs.Texts.{headed_text, files_by, entered, after_procedure, first_progress}
+use Rattle.tal_pieces.specs.tal_rules.specs.Texts.{headed_text, files_by, walk_at_entry, after_procedure}
+use Rattle.tal_pieces.specs.tal_rules.specs.Texts.{first_progress}
 use Rattle.tal_pieces.specs.tal_rules.specs.Texts.{scope_of}
 use Rattle.tal_pieces.specs.tal_meaning.specs.Programs.{tree_of, trees_of, tree_of_procedure}
 use Rattle.tal_laws.specs.tal_reader.specs.Reads.{Reads}
@@ -23,7 +24,8 @@ module _ (globals files : Declarations) (most : ℕ) where
       let headed = after_heading most n h (nest_locals n outer (n ∷ nest_locals n inner body)) levels in
       let begun = after_locals most n outer (n ∷ nest_locals n inner body) headed in
       let own = after_locals most n inner body begun.1 in
-      let r = body_few (scope_of globals files p.count h inner) most (entered p h) first more n (n ∷ n ∷ ls) own in
+      let r = body_few (scope_of globals files p.count h inner) most (walk_at_entry p h) first more n
+      (n ∷ n ∷ ls) own in
       (r.0, r.1.1.1)
 
   procedures_few : (p : Progress) (ps : g.Procedures) (n : ℕ) (ls : List ℕ) → AllAtMost most (nest_procedures n ps ls)

@@ -22,7 +22,7 @@ use Rattle.tal_names.specs.Places.{first_of_spot, name_of_expr, arguments_of, fu
 use Rattle.tal_names.specs.Scopes.{meaning_of}
 use Rattle.tal_names.specs.Systems.{system_of}
 use Rattle.tal_pieces.specs.tal_rules.specs.declared.walk.Walk.{Walk}
-use Rattle.tal_pieces.specs.tal_rules.specs.Statements.{stepped, inside_do, after}
+use Rattle.tal_pieces.specs.tal_rules.specs.Statements.{next_walk, inside_do, after}
 use Rattle.tal_pieces.specs.tal_meaning.specs.Calls.{value_of_argument, procedure_by, meaning_by, call_what, item_by}
 use Rattle.tal_pieces.specs.tal_meaning.specs.Calls.{file_by, value_at}
 use Rattle.tal_pieces.specs.tal_meaning.specs.Calls.{meaning_at, variable_by, items_named, files_named, values_of}
@@ -182,29 +182,29 @@ module _ (s : Scope) (most : ℕ) where
           rest.1.1,
         )
     statement_few w (g.if_then head test then_at t o) n ls h =
-        let xs = statements_of s (stepped w) t in
-        let ys = else_statements s (after s (stepped w) t) o in
+        let xs = statements_of s (next_walk w) t in
+        let ys = else_statements s (after s (next_walk w) t) o in
         let c = cond_of_expr s test in
         let own = few_test s most test (suc n) (suc n ∷ nest_statement (suc n) t (nest_otherwise (suc n) o ls)) h.1 in
-        let front = statement_few (stepped w) t (suc n) (nest_otherwise (suc n) o ls) own.1.1 in
-        let rest = else_few (after s (stepped w) t) o (suc n) ls front.1 in (
+        let front = statement_few (next_walk w) t (suc n) (nest_otherwise (suc n) o ls) own.1.1 in
+        let rest = else_few (after s (next_walk w) t) o (suc n) ls front.1 in (
           everywhere_one (WaitsFew most) w.number head.place.line (what.If c xs ys) (What-F.If c xs ys)
               (rolls-If c xs ys) (omega (arith, own.0))
               (among_append (WaitsFew most) _ _ front.0 rest.0),
           rest.1,
         )
     statement_few w (g.while_do head test do_at t) n ls h =
-        let xs = statements_of s (stepped w) t in
+        let xs = statements_of s (next_walk w) t in
         let c = cond_of_expr s test in
         let own = few_test s most test (suc n) (suc n ∷ nest_statement (suc n) t ls) h.1 in
-        let rest = statement_few (stepped w) t (suc n) ls own.1.1 in (
+        let rest = statement_few (next_walk w) t (suc n) ls own.1.1 in (
           everywhere_one (WaitsFew most) w.number head.place.line (what.While c xs) (What-F.While c xs)
               (rolls-While c xs) (omega (arith, own.0)) rest.0,
           rest.1,
         )
     statement_few w (g.for_do head at name set_at from direction to step do_at t) n ls h =
-        let xs = statements_of s (stepped (stepped w)) t in
-        let last = (after s (stepped (stepped w)) t).number in
+        let xs = statements_of s (next_walk (next_walk w)) t in
+        let last = (after s (next_walk (next_walk w)) t).number in
         let variable = variable_by (meaning_of s name) in
         let low = value_of_expr s from in
         let high = value_of_expr s to in
@@ -213,7 +213,7 @@ module _ (s : Scope) (most : ℕ) where
         let body = suc n ∷ nest_statement (suc n) t ls in
         let first = few_expr s most from (suc n) (suc n ∷ nest_expr (suc n) to (nest_step (suc n) step body)) h.1.1.1 in
         let second = few_expr s most to (suc n) (nest_step (suc n) step body) first.1.1 in
-        let rest = statement_few (stepped (stepped w)) t (suc n) ls
+        let rest = statement_few (next_walk (next_walk w)) t (suc n) ls
         (after_step s most step (suc n) body second.1).1 in (
           everywhere_one (WaitsFew most) w.number head.place.line (what.For variable low high down by xs last)
               (What-F.For variable low high down by xs last) (rolls-For variable low high down by xs last)

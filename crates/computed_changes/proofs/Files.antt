@@ -9,7 +9,7 @@ use Rattle.tal_tree.specs.declared.site.Site.{Site}
 use Rattle.tal_tree.specs.declared.site.ProcessSpec.{ProcessSpec}
 use Rattle.tal_tree.specs.declared.site.OpenerSpec.{OpenerSpec}
 use Rattle.schedule.specs.declared.event.Event.{Event}
-use Rattle.world_semantics.specs.process_semantics.specs.Image.{restored}
+use Rattle.world_semantics.specs.process_semantics.specs.Image.{state_from_words}
 use Rattle.world_semantics.specs.plain_semantics.specs.Openers.{files_of}
 use Rattle.world_semantics.specs.checkpoint_image.specs.declared.message.FileNumber.{FileNumber}
 use Rattle.world_semantics.specs.checkpoint_image.specs.declared.message.Image.{Image}
@@ -49,7 +49,7 @@ put-length : (core applied : Core) (image : Image) → put_in core image ≡ Som
     → length applied.next ≡ length core.next
 put-length core applied image e =
     map-some _ (λ (one : Core). length one.next ≡ length core.next)
-    (restored core.state (is_some image.receive.in_hand) image.body) applied
+    (state_from_words core.state (is_some image.receive.in_hand) image.body) applied
     (λ s r. with-length image.files core.next) e
 
 begun-length : (site : Site) (number : ℕ) (spec : ProcessSpec) (core : Core)

@@ -10,7 +10,7 @@ use Rattle.tal_tree.specs.declared.site.Site.{Site}
 use Rattle.tal_tree.specs.declared.site.ProcessSpec.{ProcessSpec}
 use Rattle.tal_tree.specs.declared.site.OpenerSpec.{OpenerSpec}
 use Rattle.schedule.specs.declared.event.Event.{Event}
-use Rattle.world_semantics.specs.process_semantics.specs.Image.{restored}
+use Rattle.world_semantics.specs.process_semantics.specs.Image.{state_from_words}
 use Rattle.world_semantics.specs.plain_semantics.specs.Openers.{files_of, openers_of}
 use Rattle.world_semantics.specs.checkpoint_image.specs.declared.receive.OpenerBlock.{OpenerBlock}
 use Rattle.world_semantics.specs.checkpoint_image.specs.declared.receive.ReceiveBlock.{ReceiveBlock}
@@ -114,7 +114,7 @@ advances-fits (acts p c) ok = ok
 put-receive : (core applied : Core) (image : Image) → put_in core image ≡ Some applied → applied.receive ≡ image.receive
 put-receive core applied image e =
     map-some _ (λ (one : Core). one.receive ≡ image.receive)
-    (restored core.state (is_some image.receive.in_hand) image.body) applied (λ s r. refl) e
+    (state_from_words core.state (is_some image.receive.in_hand) image.body) applied (λ s r. refl) e
 
 -- Processes
 

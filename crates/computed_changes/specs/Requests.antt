@@ -1,7 +1,7 @@
 -- What a request does that comes to a copy of a process, computed.
 use Rattle.std.specs.Prelude.{List, [], map, Option, Some, None}
 use Rattle.tal_tree.specs.gd_words.specs.declared.message.Request.{Request}
-use Rattle.world_semantics.specs.checkpoint_image.specs.Receive.{waits, came, repeated}
+use Rattle.world_semantics.specs.checkpoint_image.specs.Receive.{waits, came, reply_sent_again}
 use Rattle.world_semantics.specs.declared.role.Role.{Role}
 use Rattle.world_semantics.specs.declared.role.Role.TheVariants.{Acting, Watching, Blank, Gone}
 use Rattle.world_semantics.specs.declared.which.Which.{Which}
@@ -16,7 +16,7 @@ after_request copy request = record copy { waiting = came copy.core.receive copy
 
 -- and what it sends again then: the kept reply
 abbrev pub repeated_at : Copy → Request → List Sending
-repeated_at copy request = sent_at copy.processor (map Replying (repeated copy.core.receive request))
+repeated_at copy request = sent_at copy.processor (map Replying (reply_sent_again copy.core.receive request))
 
 -- a copy that watches or is blank after a request came to it
 abbrev pub after_early_request : Copy → Request → Copy

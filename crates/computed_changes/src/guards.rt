@@ -10,7 +10,7 @@ ghost use Rattle.world_semantics.specs.plain_semantics.specs.Openers.{opener_of}
 ghost use Rattle.world_semantics.specs.checkpoint_image.specs.declared.message.ImageMessage.{ImageMessage};
 ghost use Rattle.world_semantics.specs.checkpoint_image.specs.declared.message.TakenMessage.{TakenMessage};
 ghost use Rattle.world_semantics.specs.checkpoint_image.specs.declared.receive.RequestStanding.TheVariants.{Kept};
-ghost use Rattle.world_semantics.specs.checkpoint_image.specs.Receive.{standing, reply_to};
+ghost use Rattle.world_semantics.specs.checkpoint_image.specs.Receive.{request_standing, reply_to};
 ghost use Rattle.world_semantics.specs.declared.role.Role.TheVariants.{Acting, Watching, Blank, Gone};
 ghost use Rattle.world_semantics.specs.Core.{Core, next_on};
 ghost use Rattle.world_semantics.specs.declared.which.Which.{Which};
@@ -144,7 +144,7 @@ pub fn a_reply_is_printed_once()
 pub fn a_kept_reply_is_sent_again()
     ensures kept { (site : Site) (w : World) (node : ℕ) (request : Request) (words : List ℤ) (k : Which) (pair : Pair)
         → IsCopyAt w node request.process k pair
-        → (copy_of k pair).role ≡ Acting → standing (copy_of k pair).core.receive request ≡ Kept words
+        → (copy_of k pair).role ≡ Acting → request_standing (copy_of k pair).core.receive request ≡ Kept words
         → sendings_of (handed_done site node (Asking request) w)
         ≡ record { node = (copy_of k pair).processor; message = Replying (reply_to request words) } ∷ [] }
     ensures watching { (site : Site) (w : World) (node : ℕ) (request : Request) (k : Which) (pair : Pair)

@@ -35,8 +35,9 @@ use Rattle.tal_declarations.specs.Headings.{with_headings}
 use Rattle.tal_declarations.specs.Headings.{with_local, with_locals}
 use Rattle.tal_rules.specs.declared.walk.Progress.{Progress}
 use Rattle.tal_rules.specs.declared.walk.Walk.{Walk}
-use Rattle.tal_rules.specs.Statements.{after, inside_do, stepped}
-use Rattle.tal_rules.specs.Texts.{after_procedure, entered, faults, files_by, first_progress, headed_after, headed_text}
+use Rattle.tal_rules.specs.Statements.{after, inside_do, next_walk}
+use Rattle.tal_rules.specs.Texts.{after_procedure, walk_at_entry, faults, files_by, first_progress, headed_after}
+use Rattle.tal_rules.specs.Texts.{headed_text}
 use Rattle.tal_rules.specs.Texts.{locals_by, scope_of}
 use Rattle.tal_meaning.specs.Calls.{call_what, file_by, files_named, item_by, items_named, meaning_at, meaning_by}
 use Rattle.tal_meaning.specs.Calls.{procedure_by, system_what, value_at, value_of_argument, values_of}
@@ -194,10 +195,10 @@ module _ (s : Scope) (fits : ScopeFits s) where
         )
     statement-there (g.if_then head test then_at t o) w ks h =
         let c = value-there test (tok.Then then_at ∷ g.of_statement t (g.of_otherwise o ks)) h.1 in
-        let first = statement-there t (stepped w) (g.of_otherwise o ks) c.1.1 in
-        let second = else-there o (after s (stepped w) t) ks first.1 in
-        let xs = statements_of s (stepped w) t in
-        let ys = else_statements s (after s (stepped w) t) o in (
+        let first = statement-there t (next_walk w) (g.of_otherwise o ks) c.1.1 in
+        let second = else-there o (after s (next_walk w) t) ks first.1 in
+        let xs = statements_of s (next_walk w) t in
+        let ys = else_statements s (after s (next_walk w) t) o in (
           everywhere_one HasWords w.number head.place.line (what.If (cond_of_expr s test) xs ys)
               (What-F.If (cond_of_expr s test) xs ys) (rolls-If (cond_of_expr s test) xs ys) tt
               (among_append HasWords (all_of xs) (all_of ys) first.0 second.0),
@@ -205,8 +206,8 @@ module _ (s : Scope) (fits : ScopeFits s) where
         )
     statement-there (g.while_do head test do_at t) w ks h =
         let c = value-there test (tok.Do do_at ∷ g.of_statement t ks) h.1 in
-        let inner = statement-there t (stepped w) ks c.1.1 in
-        let xs = statements_of s (stepped w) t in (
+        let inner = statement-there t (next_walk w) ks c.1.1 in
+        let xs = statements_of s (next_walk w) t in (
           everywhere_one HasWords w.number head.place.line (what.While (cond_of_expr s test) xs)
               (What-F.While (cond_of_expr s test) xs) (rolls-While (cond_of_expr s test) xs) tt inner.0,
           inner.1,
@@ -215,9 +216,9 @@ module _ (s : Scope) (fits : ScopeFits s) where
         let body : List Token = tok.Do do_at ∷ g.of_statement t ks in
         let low = value-there from (g.of_direction direction ∷ g.of_expr to (g.of_step step body)) h.1.1.1 in
         let high = value-there to (g.of_step step body) low.1.1 in
-        let inner = statement-there t (stepped (stepped w)) ks (past-step step body high.1).1 in
-        let xs = statements_of s (stepped (stepped w)) t in
-        let last = (after s (stepped (stepped w)) t).number in
+        let inner = statement-there t (next_walk (next_walk w)) ks (past-step step body high.1).1 in
+        let xs = statements_of s (next_walk (next_walk w)) t in
+        let last = (after s (next_walk (next_walk w)) t).number in
         let variable = variable_by (meaning_of s name) in (
           everywhere_one HasWords w.number head.place.line
               (what.For variable (value_of_expr s from) (value_of_expr s to) (is_down direction) (step_of s step) xs
@@ -318,7 +319,8 @@ module _ (globals files : Declarations) (globals-fit : AreFitting globals) (file
   -- the statements of a procedure, and the tokens after it
   record ProcedureWords (x : Progress) (head : g.Heading) (inner : g.Locals) (first : g.Statement) (more : g.Row)
       (ks : List Token) : Type 0 where
-    body : Everywhere HasWords (body_statements (scope_of globals files x.count head inner) (entered x head) first more)
+    body : Everywhere HasWords (body_statements (scope_of globals files x.count head inner)
+        (walk_at_entry x head) first more)
     later : AllSpelled ks
 
   procedure-there : (x : Progress) (h : g.Heading) (outer : g.Locals) (begin : At) (inner : g.Locals)
@@ -333,11 +335,11 @@ module _ (globals files : Declarations) (globals-fit : AreFitting globals) (file
       let own = words_locals inner body before.1.1 in
       let s : Scope = scope_of globals files x.count h inner in
       let fits : ScopeFits s = scope_fits s (own-fit h inner) files-fit globals-fit in
-      let front = statement-there s fits first (entered x h) (g.of_row more closing) own.1 in
-      let back = row-there s fits more (after s (entered x h) first) closing front.1 in
+      let front = statement-there s fits first (walk_at_entry x h) (g.of_row more closing) own.1 in
+      let back = row-there s fits more (after s (walk_at_entry x h) first) closing front.1 in
       record {
-        body = everywhere_append HasWords (statements_of s (entered x h) first)
-            (row_statements s (after s (entered x h) first) more) front.0 back.0;
+        body = everywhere_append HasWords (statements_of s (walk_at_entry x h) first)
+            (row_statements s (after s (walk_at_entry x h) first) more) front.0 back.0;
         later = back.1.1.1;
       }
 

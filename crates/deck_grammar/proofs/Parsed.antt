@@ -353,7 +353,7 @@ module _ (final : Outline) (line : List ℕ) (lines : List (List ℕ)) where
           Leads (o.with_terminal outline name (record terminal { requests = requests })) final parts
 
       by : (b : Bool)
-          → LeadOn (cond b (step.Broken (o.broken outline number (fault.Limit deck_limit.Requests)))
+          → LeadOn (cond b (step.Broken (o.breach_at outline number (fault.Limit deck_limit.Requests)))
           (step.Next (at.Requests outline name (record terminal { requests = terminal.requests ++ words ∷ [] }))))
           final lines
           → InRequests outline name terminal final (line ∷ lines)
@@ -367,8 +367,8 @@ module _ (final : Outline) (line : List ℕ) (lines : List (List ℕ)) where
   requests_lead outline name terminal number said.LongSend says later =
       by (nat_le 1000 (length terminal.requests)) later
     where
-      by : (b : Bool) → LeadOn (cond b (step.Broken (o.broken outline number (fault.Limit deck_limit.Requests)))
-          (step.Broken (o.broken outline number (fault.Limit deck_limit.RequestWords)))) final lines
+      by : (b : Bool) → LeadOn (cond b (step.Broken (o.breach_at outline number (fault.Limit deck_limit.Requests)))
+          (step.Broken (o.breach_at outline number (fault.Limit deck_limit.RequestWords)))) final lines
           → InRequests outline name terminal final (line ∷ lines)
       by true later = absurd later
       by false later = absurd later

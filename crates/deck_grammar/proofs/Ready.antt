@@ -564,7 +564,7 @@ module _ (deck : Deck) (limits : IsWithinDeckLimits deck) where
         let next : TerminalLines = record terminal { requests = terminal.requests ++ words ∷ [] } in (
           at.Requests outline name next,
           ap (o.in_requests outline name terminal number) first.0
-              ∙ ap (λ (c : Bool). cond c (step.Broken (o.broken outline number (fault.Limit deck_limit.Requests)))
+              ∙ ap (λ (c : Bool). cond c (step.Broken (o.breach_at outline number (fault.Limit deck_limit.Requests)))
               (step.Next (at.Requests outline name next))) full,
           (
             blocks,

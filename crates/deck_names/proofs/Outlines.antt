@@ -23,7 +23,7 @@ use Rattle.deck_lines.specs.declared.saying.Saying.TheVariants as said
 use Rattle.deck_reader.proofs.FreshLemmas.{new_names}
 use Rattle.deck_reader.specs.LineFaults.{asks, heading_of, is_new, outline_with, process_with, terminal_of}
 use Rattle.deck_reader.specs.LineFaults.{with_sectors}
-use Rattle.deck_reader.specs.Outlined.{asked, at_end, broken, disc_told, ended, in_blocks, in_program, in_requests}
+use Rattle.deck_reader.specs.Outlined.{asked, at_end, breach_at, disc_told, ended, in_blocks, in_program, in_requests}
 use Rattle.deck_reader.specs.Outlined.{in_schedule, led_on, next_stage, opening, outline_of, program_ended, site_told}
 use Rattle.deck_reader.specs.Outlined.{terminal_told, told_after, with_process, with_terminal}
 use Rattle.deck_reader.specs.declared.line_fault.LineFault.{LineFault}
@@ -281,15 +281,15 @@ requests-names outline name terminal number (said.Send words) spelled have new =
     by (nat_le 1000 (length terminal.requests))
   where
     by : (b : Bool)
-        → StepNames (cond b (step.Broken (broken outline number (fault.Limit deck_limit.Requests)))
+        → StepNames (cond b (step.Broken (breach_at outline number (fault.Limit deck_limit.Requests)))
         (step.Next (at.Requests outline name (record terminal { requests = terminal.requests ++ words ∷ [] }))))
     by true = tt
     by false = (have, new)
 requests-names outline name terminal number said.LongSend spelled have new =
     by (nat_le 1000 (length terminal.requests))
   where
-    by : (b : Bool) → StepNames (cond b (step.Broken (broken outline number (fault.Limit deck_limit.Requests)))
-        (step.Broken (broken outline number (fault.Limit deck_limit.RequestWords))))
+    by : (b : Bool) → StepNames (cond b (step.Broken (breach_at outline number (fault.Limit deck_limit.Requests)))
+        (step.Broken (breach_at outline number (fault.Limit deck_limit.RequestWords))))
     by true = tt
     by false = tt
 requests-names outline name terminal number (said.Disc placing sectors mirrored) spelled have new =

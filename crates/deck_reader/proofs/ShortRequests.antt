@@ -13,7 +13,7 @@ use Rattle.deck_lines.specs.EventSayingOf.{event_said}
 use Rattle.deck_reader.specs.LineFaults.{asks, disc_of, is_new, outline_with, terminal_of}
 use Rattle.deck_lines.specs.Lines.{words_of, is_blank, is_printable, one_word, two_words, three_words, four_words}
 use Rattle.deck_lines.specs.Numbers.{written_number, word_of}
-use Rattle.deck_reader.specs.Outlined.{asked, at_end, broken, disc_told, ended, in_blocks, in_program, in_requests}
+use Rattle.deck_reader.specs.Outlined.{asked, at_end, breach_at, disc_told, ended, in_blocks, in_program, in_requests}
 use Rattle.deck_reader.specs.Outlined.{in_schedule, led_on, next_stage, opening, program_ended, site_told}
 use Rattle.deck_reader.specs.Outlined.{terminal_told, told_after, outline_of, with_terminal}
 use Rattle.deck_lines.specs.SayingOf.{are_words, is_remark, keyword_of, or_formless, or_long, parts_say, placing_of}
@@ -193,14 +193,14 @@ requests_short outline name terminal number (said.Send words) one short own =
     by (nat_le 1000 (length terminal.requests))
   where
     by : (b : Bool)
-        → StepShort (cond b (step.Broken (broken outline number (fault.Limit deck_limit.Requests)))
+        → StepShort (cond b (step.Broken (breach_at outline number (fault.Limit deck_limit.Requests)))
         (step.Next (at.Requests outline name (record terminal { requests = terminal.requests ++ words ∷ [] }))))
     by true = tt
     by false = (short, all_more IsShort terminal.requests words own one)
 requests_short outline name terminal number said.LongSend one short own = by (nat_le 1000 (length terminal.requests))
   where
-    by : (b : Bool) → StepShort (cond b (step.Broken (broken outline number (fault.Limit deck_limit.Requests)))
-        (step.Broken (broken outline number (fault.Limit deck_limit.RequestWords))))
+    by : (b : Bool) → StepShort (cond b (step.Broken (breach_at outline number (fault.Limit deck_limit.Requests)))
+        (step.Broken (breach_at outline number (fault.Limit deck_limit.RequestWords))))
     by true = tt
     by false = tt
 requests_short outline name terminal number (said.Disc placing sectors mirrored) one short own =

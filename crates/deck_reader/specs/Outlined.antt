@@ -31,8 +31,8 @@ use Rattle.gd_words.specs.declared.limits.TheConstants.{MOST_REQUESTS}
 use Rattle.tal_tree.specs.declared.limit.DeckLimit.TheVariants as deck_limit
 
 -- the line of this number can't stand here
-abbrev pub broken : Outline → ℕ → LineFault → Breach
-broken outline number why = record { processes = outline.processes; own = None; line = number; why = why }
+abbrev pub breach_at : Outline → ℕ → LineFault → Breach
+breach_at outline number why = record { processes = outline.processes; own = None; line = number; why = why }
 
 -- nor there, before any process is told
 abbrev pub broken_at_start : ℕ → LineFault → Breach
@@ -53,12 +53,12 @@ with_process outline process = record outline { processes = outline.processes ++
 
 -- a disc
 abbrev pub disc_told : Outline → ℕ → Result (Named ProcessLines) LineFault → LineOutcome
-disc_told outline number (Err why) = step.Broken (broken outline number why)
+disc_told outline number (Err why) = step.Broken (breach_at outline number why)
 disc_told outline number (Ok process) = step.Next (at.Blocks (with_process outline process))
 
 -- a terminal; its requests follow
 abbrev pub terminal_told : Outline → ℕ → List ℕ → Result TerminalLines LineFault → LineOutcome
-terminal_told outline number name (Err why) = step.Broken (broken outline number why)
+terminal_told outline number name (Err why) = step.Broken (breach_at outline number why)
 terminal_told outline number name (Ok terminal) = step.Next (at.Requests outline name terminal)
 
 -- where a process, a terminal or the schedule may begin. A fault of a pair's line waits for the end of its program,
@@ -72,7 +72,7 @@ in_blocks outline number (said.Pair placing) =
 in_blocks outline number (said.Terminal name target) =
     terminal_told outline number name (terminal_of outline number name target)
 in_blocks outline number said.Schedule = step.Next (at.Schedule outline)
-in_blocks outline number _ = step.Broken (broken outline number fault.Form)
+in_blocks outline number _ = step.Broken (breach_at outline number fault.Form)
 
 -- the end of a program
 abbrev pub program_ended : Outline → Result Heading LineFault → ProgramLines → LineOutcome
@@ -91,15 +91,15 @@ in_program outline heading program line =
 abbrev pub request_told : Outline → List ℕ → TerminalLines → ℕ → List ℤ → LineOutcome
 request_told outline name terminal number words =
     if nat_le MOST_REQUESTS (length terminal.requests) then step.Broken
-    (broken outline number (fault.Limit deck_limit.Requests))
+    (breach_at outline number (fault.Limit deck_limit.Requests))
     else step.Next (at.Requests outline name (record terminal { requests = terminal.requests ++ words ∷ [] }))
 
 -- a request of more than 16 words
 abbrev pub long_request_told : Outline → TerminalLines → ℕ → LineOutcome
 long_request_told outline terminal number =
     if nat_le MOST_REQUESTS (length terminal.requests) then step.Broken
-    (broken outline number (fault.Limit deck_limit.Requests))
-    else step.Broken (broken outline number (fault.Limit deck_limit.RequestWords))
+    (breach_at outline number (fault.Limit deck_limit.Requests))
+    else step.Broken (breach_at outline number (fault.Limit deck_limit.RequestWords))
 
 -- the terminal stands in the outline once its requests are told
 abbrev pub with_terminal : Outline → List ℕ → TerminalLines → Outline
@@ -125,7 +125,7 @@ with_event events number sums None =
     record { lines = events.lines; sums = sums; unknown = Some (first_noted events.unknown number) }
 
 abbrev pub asked : Outline → ℕ → EventSaying → Result Sums LineFault → LineOutcome
-asked outline number saying (Err why) = step.Broken (broken outline number why)
+asked outline number saying (Err why) = step.Broken (breach_at outline number why)
 asked outline number saying (Ok sums) =
     step.Next (at.Schedule (record outline {
       events =
@@ -138,12 +138,12 @@ in_schedule outline number said.Nothing = step.Next (at.Schedule outline)
 in_schedule outline number said.End = step.Next (at.Ended outline)
 in_schedule outline number (said.Event saying) =
     asked outline number saying (asks outline.processors outline.events.sums saying)
-in_schedule outline number _ = step.Broken (broken outline number fault.Form)
+in_schedule outline number _ = step.Broken (breach_at outline number fault.Form)
 
 -- after END only lines that say nothing
 abbrev pub ended : Outline → ℕ → Saying → LineOutcome
 ended outline number said.Nothing = step.Next (at.Ended outline)
-ended outline number _ = step.Broken (broken outline number fault.Form)
+ended outline number _ = step.Broken (breach_at outline number fault.Form)
 
 -- one more line, and its number
 abbrev pub next_stage : Stage → ℕ → List ℕ → LineOutcome
@@ -156,16 +156,16 @@ next_stage (at.Ended outline) number line = ended outline number (saying_of line
 
 -- the last program has no end: the fault of its pair's line comes first
 abbrev pub unended : Outline → Result Heading LineFault → ℕ → ℕ → Told
-unended outline (Err why) line count = told.Broken (broken outline line why)
-unended outline (Ok heading) line count = told.Broken (broken outline count fault.NoEnd)
+unended outline (Err why) line count = told.Broken (breach_at outline line why)
+unended outline (Ok heading) line count = told.Broken (breach_at outline count fault.NoEnd)
 
 -- no more lines, where there are so many: END has to have come, and the last program to have ended
 abbrev pub at_end : Stage → ℕ → Told
 at_end at.Opening count = told.Broken (broken_at_start count fault.NoEnd)
-at_end (at.Blocks outline) count = told.Broken (broken outline count fault.NoEnd)
+at_end (at.Blocks outline) count = told.Broken (breach_at outline count fault.NoEnd)
 at_end (at.Program outline heading program) count = unended outline heading program.line count
-at_end (at.Requests outline name terminal) count = told.Broken (broken outline count fault.NoEnd)
-at_end (at.Schedule outline) count = told.Broken (broken outline count fault.NoEnd)
+at_end (at.Requests outline name terminal) count = told.Broken (breach_at outline count fault.NoEnd)
+at_end (at.Schedule outline) count = told.Broken (breach_at outline count fault.NoEnd)
 at_end (at.Ended outline) count = told.Whole outline
 
 -- what follows one more line: it goes on from the next stage, or ends with the line that can't stand there

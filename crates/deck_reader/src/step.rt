@@ -5,7 +5,8 @@ ghost use Rattle.deck_reader.specs.declared.step.LineOutcome.TheVariants as step
 ghost use Rattle.deck_reader.specs.LineFaults.{processors_of, disc_of, heading_of, terminal_of};
 ghost use Rattle.deck_reader.specs.Few.{AreFew, HasFew};
 ghost use Rattle.deck_reader.specs.Fresh.{HasNew, IsNewHeading};
-ghost use Rattle.deck_reader.specs.Outlined.{broken, broken_at_start, opening, with_process, with_terminal, disc_told};
+ghost use Rattle.deck_reader.specs.Outlined.{breach_at, broken_at_start, opening, with_process, with_terminal};
+ghost use Rattle.deck_reader.specs.Outlined.{disc_told};
 ghost use Rattle.deck_reader.specs.Outlined.{terminal_told, program_ended, in_program, in_blocks, in_requests};
 ghost use Rattle.deck_reader.specs.Outlined.{first_noted, with_event, request_told, long_request_told, in_schedule};
 ghost use Rattle.deck_reader.specs.Outlined.{ended, next_stage};
@@ -61,7 +62,7 @@ pub enum LineOutcome {
 
 /// A line of this number can't stand here.
 pub fn broken(outline: Outline, line: u32, why: LineFault) -> Breach
-    ensures { result ≡ broken outline line why }
+    ensures { result ≡ breach_at outline line why }
 {
     let Outline {
         processors: _,

@@ -1,9 +1,11 @@
 ghost use Rattle.std.specs.Prelude.{◌≡◌, ◌≤◌, ◌<◌, ◌↔◌, length, not, slice_get, None, Some, IfOk, IsTrue};
 ghost use Rattle.std.specs.Option.{option_map};
-ghost use Rattle.mirror.specs.Mirror.{all_working, content, copied, failed, failing, is_failed, is_reviving};
-ghost use Rattle.mirror.specs.Mirror.{revived, state_of, written};
+ghost use Rattle.mirror.specs.Mirror.{all_working, content, drives_after_copy, drives_after_fail, outcome_of_failing};
+ghost use Rattle.mirror.specs.Mirror.{is_failed, is_reviving};
+ghost use Rattle.mirror.specs.Mirror.{drives_after_revive, state_of, drives_after_write};
 ghost use Rattle.mirror.specs.Sectors.{blanks, is_written, stored_after};
-ghost use Rattle.mirror.specs.States.{failing_of, standing, states_copied, states_failed, states_of, states_revived};
+ghost use Rattle.mirror.specs.States.{failing_of, drive_state_at, states_copied, states_failed, states_of};
+ghost use Rattle.mirror.specs.States.{states_revived};
 ghost use Rattle.mirror.specs.gd_words.specs.declared.limits.TheConstants.{MOST_SECTORS};
 
 use mirror::{DriveState, Drives, Failing, MemoryDrive, NoMemory, Sector, Stored};
@@ -76,7 +78,7 @@ impl Disc {
 
     /// How the drive at a place stands; one that isn't there has failed.
     pub fn standing(&self, drive: u8) -> DriveState
-        ensures { result ≡ standing (states_of self.now) drive }
+        ensures { result ≡ drive_state_at (states_of self.now) drive }
     {
         self.drives.standing(drive)
     }
@@ -101,7 +103,7 @@ impl Disc {
     /// already.
     pub fn write(&mut self, sector: u8, words: &Sector, number: u32) -> bool
         requires { sector < length (content self.old) }
-        ensures drives { self.new ≡ written self.old sector words.now number }
+        ensures drives { self.new ≡ drives_after_write self.old sector words.now number }
         ensures states { states_of self.new ≡ states_of self.old }
         ensures sectors { content self.new ≡ stored_after (content self.old) sector words.now number }
         ensures new { result ≡ not (is_written (content self.old) sector number) }
@@ -113,9 +115,9 @@ impl Disc {
     pub fn fail(&mut self, drive: u8) -> Failing
         requires two { length self.old ≡ 2 }
         requires there { drive < 2 }
-        ensures told { result ≡ failing self.old drive }
+        ensures told { result ≡ outcome_of_failing self.old drive }
         ensures told_by { result ≡ failing_of (states_of self.old) drive }
-        ensures drives { self.new ≡ failed result drive self.old }
+        ensures drives { self.new ≡ drives_after_fail result drive self.old }
         ensures states { states_of self.new ≡ states_failed result drive (states_of self.old) }
         ensures sectors { content self.new ≡ content self.old }
     {
@@ -127,8 +129,8 @@ impl Disc {
         requires two { length self.old ≡ 2 }
         requires there { drive < 2 }
         ensures told { result ≡ is_failed (state_of self.old drive) }
-        ensures told_by { result ≡ is_failed (standing (states_of self.old) drive) }
-        ensures drives { self.new ≡ revived drive self.old }
+        ensures told_by { result ≡ is_failed (drive_state_at (states_of self.old) drive) }
+        ensures drives { self.new ≡ drives_after_revive drive self.old }
         ensures states { states_of self.new ≡ states_revived drive (states_of self.old) }
         ensures sectors { content self.new ≡ content self.old }
     {
@@ -140,8 +142,8 @@ impl Disc {
         requires two { length self.old ≡ 2 }
         requires there { drive < 2 }
         ensures told { result ≡ is_reviving (state_of self.old drive) }
-        ensures told_by { result ≡ is_reviving (standing (states_of self.old) drive) }
-        ensures drives { self.new ≡ copied drive self.old }
+        ensures told_by { result ≡ is_reviving (drive_state_at (states_of self.old) drive) }
+        ensures drives { self.new ≡ drives_after_copy drive self.old }
         ensures states { states_of self.new
             ≡ states_copied (length (content self.old)) drive (states_of self.old) }
         ensures sectors { content self.new ≡ content self.old }

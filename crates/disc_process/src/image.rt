@@ -1,6 +1,6 @@
 ghost use Rattle.std.specs.Prelude.{◌≡◌, ◌≤◌, ◌++◌, length, true, Some, IfOk, IfSome, OnOk};
 ghost use Rattle.std.specs.Option.{option_copied};
-ghost use Rattle.process_semantics.specs.Words.{counted_if, counted_in, long_in};
+ghost use Rattle.process_semantics.specs.Words.{counted_if, with_count_in, long_in};
 ghost use Rattle.process_semantics.specs.Image.{disc_words, disc_with, restored_disc};
 ghost use Rattle.checkpoint_image.specs.Reading.{Gives};
 ghost use Rattle.gd_words.specs.declared.limits.TheConstants.{MOST_MESSAGE_WORDS};
@@ -36,7 +36,7 @@ pub fn disc_words(alloc: Global, progress: &Progress) -> Result<List<i16>, NoMem
 
 /// A request or a reply: how many words, at most 16, and these.
 fn counted_in(words: &[i16]) -> Option<(&[i16], &[i16])>
-    ensures value { Gives (λ r. (r.0.now, r.1.now)) result (counted_in words.now) }
+    ensures value { Gives (λ r. (r.0.now, r.1.now)) result (with_count_in words.now) }
     ensures few { IfSome result (λ r. length r.0.now ≤ MOST_MESSAGE_WORDS) }
 {
     match words {

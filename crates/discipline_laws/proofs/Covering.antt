@@ -38,7 +38,7 @@ use Rattle.path_steps.specs.Step.{stand_of, StaysOrGoesOn, FollowsPath, HasRoom}
 use Rattle.path_steps.proofs.Stepping.{inner-steps, took-steps, asked-steps, got-steps, answered-steps}
 use Rattle.path_steps.proofs.Stepping.{checkpointed-steps}
 use Rattle.path_steps.proofs.Stepping.{asked-room}
-use Rattle.process_histories.specs.Histories.{HasDone, nothing_done, one_more, unmirrored}
+use Rattle.process_histories.specs.Histories.{HasDone, nothing_done, one_more, kind_without_mirror}
 use Rattle.process_histories.specs.Words.{ask_on, requests_on, awaits_on, one_if}
 use Rattle.process_histories.proofs.Counts.{count-more, none-awaited, one-awaited}
 use Rattle.process_histories.proofs.Deeds.{point_of, stands-there, done-one}
@@ -350,7 +350,7 @@ module _ {site : Site} {number : ℕ} {spec : ProcessSpec} {program : Program} w
   cover s is regular nothing_done at alive =
       start-covered s nothing_done at (runs-same (sym (ap process.start_of is) ∙ at))
   cover s is regular (one_more {deed = deed} {before = core} done advances) at alive =
-      let found = running core.state program (done-kind done ∙ ap unmirrored is) in
+      let found = running core.state program (done-kind done ∙ ap kind_without_mirror is) in
       let stands : process.point (Runs program found.s) ≡ point_of deed =
       ap process.point (sym found.same) ∙ stands-there advances in
       let all : IsRegularKind spec.what = rw is regular in

@@ -16,9 +16,9 @@ use Rattle.checkpoint_laws.specs.whole_states.specs.Processes.{IsRegularKind}
 use Rattle.checkpoint_laws.specs.world_semantics.specs.Core.{Core, Deed, Went, Checkpointed, Took, Asked, Got, Answered}
 use Rattle.checkpoint_laws.specs.world_semantics.specs.Core.{Acted, Advances}
 use Rattle.checkpoint_laws.specs.world_semantics.specs.Core.{goes, checkpoints, takes, asks, gets, answers, acts}
-use Rattle.checkpoint_laws.specs.world_semantics.specs.Core.{after_passing, carried, put_in}
+use Rattle.checkpoint_laws.specs.world_semantics.specs.Core.{after_passing, carried_image, put_in}
 use Rattle.process_histories.specs.Bounds.{AreBounded}
-use Rattle.process_histories.specs.Histories.{HasDone, one_more, kind_of, unmirrored}
+use Rattle.process_histories.specs.Histories.{HasDone, one_more, kind_of, kind_without_mirror}
 use Rattle.process_histories.specs.Words.{requests_on}
 use Rattle.process_histories.proofs.Deeds.{point_of, stands-there}
 use Rattle.process_histories.proofs.OneKind.{done-kind}
@@ -42,7 +42,7 @@ module _ (site : Site) (number sectors : ℕ) (mirrored : Bool) (spec : ProcessS
 
   serves : {deeds : List Deed} {core : Core} → HasDone site number spec deeds core
       → (s : DiscState) × (core.state ≡ Serves sectors s)
-  serves {core = core} done = by core.state (done-kind done ∙ ap unmirrored is)
+  serves {core = core} done = by core.state (done-kind done ∙ ap kind_without_mirror is)
     where
       by : (state : ProcessState) → kind_of state ≡ kind.Disc sectors false
           → (s : DiscState) × (state ≡ Serves sectors s)
@@ -67,7 +67,7 @@ module _ (site : Site) (number sectors : ℕ) (mirrored : Bool) (spec : ProcessS
   disc-resume : (since before : List Deed) (core stale : Core) → HasDone site number spec (since ++ before) core
       → AreUncheckpointed since → AreBounded (since ++ before)
       → process.point core.state ≡ point.AtCheckpoint → HasDone site number spec before stale
-      → put_in stale (carried core) ≡ Some (after_passing core)
+      → put_in stale (carried_image core) ≡ Some (after_passing core)
   disc-resume since before core stale done uncheckpointed bounded at old =
       let s = serves done in
       let t = serves old in

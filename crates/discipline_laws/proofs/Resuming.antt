@@ -36,7 +36,8 @@ use Rattle.checkpoint_laws.specs.whole_states.specs.Processes.{IsRegularKind}
 use Rattle.checkpoint_laws.specs.whole_states.proofs.Frames.{IsRegularSomewhere, next-regular}
 use Rattle.checkpoint_laws.specs.whole_states.specs.Whole.{AreFrames, IsWhole}
 use Rattle.checkpoint_laws.proofs.Putting.{put-whole, put-everything}
-use Rattle.checkpoint_laws.specs.world_semantics.specs.Core.{Core, Deed, after_passing, carried, put_in, acts, answers}
+use Rattle.checkpoint_laws.specs.world_semantics.specs.Core.{Core, Deed, after_passing, carried_image, put_in, acts}
+use Rattle.checkpoint_laws.specs.world_semantics.specs.Core.{answers}
 use Rattle.checkpoint_laws.specs.world_semantics.specs.Core.{asks, carried_whole}
 use Rattle.checkpoint_laws.specs.world_semantics.specs.Core.{gets, goes, imaged_core, checkpoints, takes}
 use Rattle.checkpoint_laws.specs.world_semantics.proofs.Lists.{some-same}
@@ -44,7 +45,7 @@ use Rattle.path_steps.specs.path_semantics.specs.Accepted.{IsAccepted}
 use Rattle.path_steps.specs.path_semantics.specs.Break.{breaks_by}
 use Rattle.path_steps.specs.path_semantics.specs.declared.reason.Reason.TheVariants.{Data, SyncBlock}
 use Rattle.process_histories.specs.Bounds.{AreBounded}
-use Rattle.process_histories.specs.Histories.{HasDone, kind_of, nothing_done, one_more, unmirrored}
+use Rattle.process_histories.specs.Histories.{HasDone, kind_of, nothing_done, one_more, kind_without_mirror}
 use Rattle.process_histories.specs.Words.{ask_on, requests_on}
 use Rattle.process_histories.proofs.Counts.{done-stands, next-number, if-other}
 use Rattle.process_histories.proofs.OneKind.{files-same, done-kind}
@@ -181,7 +182,7 @@ module _ {site : Site} {number : ℕ} {spec : ProcessSpec} where
 
   -- a process asks on files that are opened to a process alone
   none-asked : {deeds : List Deed} {core : Core} → IsRegularKind spec.what → HasDone site number spec deeds core
-      → (file : ℕ) → (IsAmong file (files_asked_by (unmirrored spec.what)) → ⊥)
+      → (file : ℕ) → (IsAmong file (files_asked_by (kind_without_mirror spec.what)) → ⊥)
       → length (requests_on file deeds) ≡ 0
   none-asked regular nothing_done file apart = refl
   none-asked regular (one_more done (goes at)) file apart = none-asked regular done file apart
@@ -209,7 +210,8 @@ module _ {site : Site} {number : ℕ} {spec : ProcessSpec} where
       (record {
         state = of-one stale.state core.state (done-kind old ∙ sym (done-kind done));
         files = files-same old ∙ sym (files-same done);
-        next = λ file apart. (let unlisted : IsAmong file (files_asked_by (unmirrored spec.what)) → ⊥ = λ among.
+        next = λ file apart. (let unlisted : IsAmong file (files_asked_by (kind_without_mirror spec.what))
+            → ⊥ = λ among.
             apart (subst (IsAmong file) (ap files_asked_by (sym (done-kind done)) ∙ sym (all-files core.state))
             among) in
             unasked-next done old file (none-asked regular done file unlisted) (none-asked regular old file unlisted));
@@ -221,7 +223,7 @@ module _ {site : Site} {number : ℕ} {spec : ProcessSpec} where
       → process.point core.state ≡ point.AtCheckpoint → HasDone site number spec before stale
       → Agrees (listed_items core.state) stale.state core.state
       → ((file : ℕ) → (IsAmong file (listed_files core.state) → ⊥) → length (requests_on file since) ≡ 0)
-      → put_in stale (carried core) ≡ Some (after_passing core)
+      → put_in stale (carried_image core) ≡ Some (after_passing core)
   resume-from since before {core = core} {stale = stale} regular done bounded at old agrees none =
       put-whole core stale (done-whole regular done bounded)
       (done-whole regular old (bounded-since since before bounded)) at (done-stands done).hand
@@ -238,7 +240,7 @@ module _ (site : Site) (number : ℕ) (spec : ProcessSpec) (program : Program) (
       → process.point core.state ≡ point.AtCheckpoint → HasDone site number spec before stale
       → (here : IsSafe site number spec program is point.AtCheckpoint done)
       → IsCheckpointOf (out-What here.stands.statement.what) → (old : ProgramState) → stale.state ≡ Runs program old
-      → put_in stale (carried core) ≡ Some (after_passing core)
+      → put_in stale (carried_image core) ≡ Some (after_passing core)
   resume-at since before {core = core} {stale = stale} done uncheckpointed bounded at again here listed old was =
       resume-from since before (rw is regular) done bounded at again agrees none-asked
     where
@@ -282,7 +284,7 @@ module _ (site : Site) (number : ℕ) (spec : ProcessSpec) (program : Program) (
   pub resume : IsAccepted program → (since before : List Deed) {core stale : Core}
       → HasDone site number spec (since ++ before) core → AreUncheckpointed since
       → AreBounded (since ++ before) → process.point core.state ≡ point.AtCheckpoint
-      → HasDone site number spec before stale → put_in stale (carried core) ≡ Some (after_passing core)
+      → HasDone site number spec before stale → put_in stale (carried_image core) ≡ Some (after_passing core)
   resume accepted since before done uncheckpointed bounded at again =
       let here = safe site number spec program is regular accepted point.AtCheckpoint done (λ e. cc) (λ e. cc) at in
       let old = runs site number spec program is again in

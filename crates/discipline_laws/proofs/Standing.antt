@@ -29,7 +29,7 @@ use Rattle.path_steps.specs.path_semantics.specs.declared.reason.Reason.{Reason}
 use Rattle.path_steps.specs.path_semantics.proofs.Walks.{accepted-unbroken}
 use Rattle.path_steps.specs.Step.{stand_of}
 use Rattle.path_steps.proofs.Points.{place-at}
-use Rattle.process_histories.specs.Histories.{HasDone, unmirrored}
+use Rattle.process_histories.specs.Histories.{HasDone, kind_without_mirror}
 use Rattle.process_histories.proofs.OneKind.{done-kind}
 use Rattle.discipline_laws.specs.Covered.{IsCovered}
 use Rattle.discipline_laws.proofs.Covering.{cover, alive-at, never-device}
@@ -74,7 +74,7 @@ checkpoint-of (at_checkpoint items files) = record { items = items; files = file
 
 module _ (site : Site) (number : ℕ) (spec : ProcessSpec) (program : Program) (is : spec.what ≡ kind.Pair program) where
   pub runs : {deeds : List Deed} {core : Core} → HasDone site number spec deeds core → IsRunning core.state program
-  runs {core = core} done = running core.state program (done-kind done ∙ ap unmirrored is)
+  runs {core = core} done = running core.state program (done-kind done ∙ ap kind_without_mirror is)
 
   pub no-device : {deeds : List Deed} {core : Core} → HasDone site number spec deeds core
       → process.point core.state ≢ point.Device

@@ -9,7 +9,7 @@ use Rattle.process_semantics.specs.declared.point.Point.TheVariants.{AtCheckpoin
 use Rattle.process_semantics.specs.Process.{point}
 use Rattle.checkpoint_laws.specs.plain_semantics.specs.Openers.{files_of}
 use Rattle.checkpoint_laws.specs.world_semantics.specs.Core.{Core, Deed, Went, Checkpointed, Took, Acted, after_passing}
-use Rattle.checkpoint_laws.specs.world_semantics.specs.Core.{carried, put_in}
+use Rattle.checkpoint_laws.specs.world_semantics.specs.Core.{carried_image, put_in}
 use Rattle.process_histories.specs.Bounds.{AreBounded}
 use Rattle.process_histories.specs.Histories.{HasDone}
 use Rattle.process_histories.specs.Words.{requests_on}
@@ -46,7 +46,7 @@ pub record IsDisciplined (site : Site) (number : ℕ) (spec : ProcessSpec) : Typ
   pub resume : (since before : List Deed) (core stale : Core) → HasDone site number spec (since ++ before) core
       → AreUncheckpointed since
       → AreBounded (since ++ before) → point core.state ≡ AtCheckpoint → HasDone site number spec before stale
-      → put_in stale (carried core) ≡ Some (after_passing core)
+      → put_in stale (carried_image core) ≡ Some (after_passing core)
   pub quiet : (since before : List Deed) (place : ℕ) (words : List ℤ) (core : Core)
       → HasDone site number spec (since ++ Took place words ∷ before) core
       → AreUncheckpointed since → AreInner since

@@ -1,7 +1,7 @@
 -- How the drive stands that an event names, after it.
 use Rattle.std.specs.Prelude.{[], slice_get, Option, Some, None}
 use Rattle.std.specs.Option.{unwrap_or}
-use Rattle.machine_states.specs.disc_device.specs.mirror.specs.States.{standing}
+use Rattle.machine_states.specs.disc_device.specs.mirror.specs.States.{drive_state_at}
 use Rattle.schedule.specs.declared.event.Event.{Event}
 use Rattle.schedule.specs.declared.event.Event.TheVariants.{Run, Enter, Deliver, Lose, Repeat, Tick, Fail, Reload}
 use Rattle.schedule.specs.declared.event.Event.TheVariants.{Drive}
@@ -11,7 +11,7 @@ use Rattle.trace_lines.specs.declared.finding.Finding.TheVariants as finding
 
 abbrev pub drive_found : Event → Packeted → Option Finding
 drive_found (Drive one) next =
-    Some (finding.Drive (standing (unwrap_or (slice_get next.drives one.process) []) one.drive))
+    Some (finding.Drive (drive_state_at (unwrap_or (slice_get next.drives one.process) []) one.drive))
 drive_found (Run process) next = None
 drive_found (Enter terminal) next = None
 drive_found (Deliver y k) next = None

@@ -11,7 +11,7 @@ use Rattle.schedule.specs.declared.event.Event.TheVariants.{Run, Enter, Deliver,
 use Rattle.schedule.specs.declared.event.Event.TheVariants.{Drive}
 use Rattle.machine_views.specs.site_machine.specs.packet_wires.specs.Lines.{line_pulled}
 use Rattle.machine_views.specs.site_machine.specs.packet_wires.specs.Play.{Packeted}
-use Rattle.machine_views.specs.site_machine.specs.packet_wires.specs.Wires.{nothing_sent, ticked}
+use Rattle.machine_views.specs.site_machine.specs.packet_wires.specs.Wires.{nothing_sent, midst_after_tick}
 use Rattle.trace_lines.specs.declared.finding.Finding.{Finding}
 use Rattle.trace_lines.specs.declared.finding.Finding.TheVariants as finding
 use Rattle.event_findings.specs.declared.noting.Ticking.{Ticking}
@@ -22,7 +22,7 @@ use Rattle.event_findings.specs.declared.noting.Ticking.{Ticking}
 abbrev pub line_at : Packeted → ℕ → Option ℕ
 line_at s node =
     option_and_then (line_pulled node)
-    (slice_get (ticked s.site.processors node (nothing_sent s.wires.nodes)).nodes node)
+    (slice_get (midst_after_tick s.site.processors node (nothing_sent s.wires.nodes)).nodes node)
 
 abbrev pub ticking_with : Packeted → ℕ → Watching → Ticking
 ticking_with s node watch = record { node = node; watch = watch; line = line_at s node }

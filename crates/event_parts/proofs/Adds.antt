@@ -18,8 +18,10 @@ use Rattle.packet_wires.specs.Nodes.{Node, all_nodes, node_after_reload, others,
 use Rattle.packet_wires.specs.Parcels.{Parcel}
 use Rattle.packet_wires.specs.Wires.{Midst, Outgoing, nothing_sent, goes_over, any_goes_over, goes_again, at_node}
 use Rattle.packet_wires.specs.Wires.{at_end_of, at_end, end_changed, watch_changed, learns, for_each, push_at, sends}
-use Rattle.packet_wires.specs.Wires.{sends_all, posted, all_posted, bus_of_answer, heard_of, arrive_at, arrived}
-use Rattle.packet_wires.specs.Wires.{alive_at, tells_alive, reports, check_at, checks, tick_at, resends, ticked}
+use Rattle.packet_wires.specs.Wires.{sends_all, posted, all_posted, bus_of_answer, heard_of, arrive_at}
+use Rattle.packet_wires.specs.Wires.{midst_after_arrival}
+use Rattle.packet_wires.specs.Wires.{alive_at, tells_alive, reports, check_at, checks, tick_at, resends}
+use Rattle.packet_wires.specs.Wires.{midst_after_tick}
 use Rattle.packet_wires.specs.Wires.{down_at, cut_off, declares, loaded_again}
 use Rattle.event_parts.specs.Parts.{OnlyAdds, sent_earlier}
 
@@ -136,7 +138,7 @@ adds-all-posted stopped (parcel ∷ parcels) =
     adds-then (posted stopped parcel) (all_posted stopped parcels) (adds-posted stopped parcel)
     (adds-all-posted stopped parcels)
 
-pub adds-arrived : (name : BusName) (packet : Packet) → OnlyAdds (arrived name packet)
+pub adds-arrived : (name : BusName) (packet : Packet) → OnlyAdds (midst_after_arrival name packet)
 adds-arrived name packet =
     adds-then (at_end packet.receiver packet.sender (arrive_at name packet))
     (learns packet.receiver (heard_of packet.sender packet.kind))
@@ -172,7 +174,7 @@ adds-checks processors x =
 pub adds-resends : (x : ℕ) → OnlyAdds (resends x)
 adds-resends x = adds-for-each (λ y. at_end x y (tick_at x y)) (λ y. adds-tick x y) all_nodes
 
-pub adds-ticked : (processors x : ℕ) → OnlyAdds (ticked processors x)
+pub adds-ticked : (processors x : ℕ) → OnlyAdds (midst_after_tick processors x)
 adds-ticked processors x =
     adds-then (λ midst. checks processors x (tells_alive processors x midst)) (resends x)
     (adds-then (tells_alive processors x) (checks processors x) (adds-tells-alive processors x)

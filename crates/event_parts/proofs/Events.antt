@@ -14,9 +14,10 @@ use Rattle.packet_wires.specs.Lines.{line_pulled}
 use Rattle.packet_wires.specs.Nodes.{Node, end_at}
 use Rattle.packet_wires.specs.Play.{Packeted, Underway, underway, deliver_acted, ended, handed_words, packet_at, play}
 use Rattle.packet_wires.specs.Play.{is_current_at, pulls, pulls_its, received, reload_acted, repeat_acted}
-use Rattle.packet_wires.specs.Wires.{Wires, arrived, bus_named, loaded_again, nothing_sent, ticked, with_sent}
+use Rattle.packet_wires.specs.Wires.{Wires, midst_after_arrival, bus_named, loaded_again, nothing_sent}
+use Rattle.packet_wires.specs.Wires.{midst_after_tick, with_sent}
 use Rattle.packet_wires.specs.Wires.{without_packet}
-use Rattle.event_parts.specs.Parts.{carried_out, completed_by, delivered, repeated}
+use Rattle.event_parts.specs.Parts.{carried_out, completed_by, wires_after_delivery, wires_after_repeat}
 
 nodes-same : (name : BusName) (k : ℕ) (wires : Wires) → (without_packet name k wires).nodes ≡ wires.nodes
 nodes-same bus.X k wires = refl
@@ -26,29 +27,33 @@ pub delivers : (s : Packeted) (y : Bool) (k : ℕ) (packet : Packet) → packet_
     → is_running s.world.stopped packet.receiver ≡ true
     → is_current_at packet (end_at s.wires.nodes packet.receiver packet.sender) ≡ true
     → completed_by (Some packet) s.wires.nodes ≡ None
-    → play s (Deliver y k) ≡ Makes (record s { wires = delivered (bus_named y) k (Some packet) s.wires })
+    → play s (Deliver y k) ≡ Makes (record s { wires = wires_after_delivery (bus_named y) k (Some packet) s.wires })
 delivers s y k packet found runs current none =
     let name : BusName = bus_named y in
     let off : Wires = without_packet name k s.wires in
-    let after : Underway = record (underway s) { wires = arrived name packet (nothing_sent s.wires.nodes) } in
+    let after : Underway =
+    record (underway s) { wires = midst_after_arrival name packet (nothing_sent s.wires.nodes) } in
     ap (λ (o : Option Packet). ended off (deliver_acted name (underway s) o)) found
     ∙ ap (λ (b : Bool). ended off (Makes (if b && is_current_at packet
     (end_at s.wires.nodes packet.receiver packet.sender) then received name packet (underway s) else underway s))) runs
     ∙ ap (λ (b : Bool). ended off (Makes (if b then received name packet (underway s) else underway s))) current
     ∙ ap (λ (w : Option (List ℤ)). ended off (Makes (handed_words packet.receiver w after))) none
-    ∙ ap (λ (nodes : List Node). Makes (record s { wires = with_sent (arrived name packet (nothing_sent nodes)) off }))
+    ∙ ap (λ (nodes : List Node). Makes (record s
+    { wires = with_sent (midst_after_arrival name packet (nothing_sent nodes)) off }))
     (sym (nodes-same name k s.wires))
 
 pub repeats : (s : Packeted) (y : Bool) (k : ℕ) (packet : Packet) → packet_at s (bus_named y) k ≡ Some packet
-    → play s (Repeat y k) ≡ Makes (record s { wires = repeated (bus_named y) (Some packet) s.wires })
+    → play s (Repeat y k) ≡ Makes (record s { wires = wires_after_repeat (bus_named y) (Some packet) s.wires })
 repeats s y k packet found = ap (λ (o : Option Packet). ended s.wires (repeat_acted (bus_named y) (underway s) o)) found
 
 pub ticks : (s : Packeted) (node : ℕ) → is_running s.world.stopped node ≡ true
-    → option_and_then (line_pulled node) (slice_get (ticked s.site.processors node (nothing_sent s.wires.nodes)).nodes
+    → option_and_then (line_pulled node) (slice_get
+    (midst_after_tick s.site.processors node (nothing_sent s.wires.nodes)).nodes
     node) ≡ None
-    → play s (Tick node) ≡ Makes (record s { wires = carried_out (ticked s.site.processors node) s.wires })
+    → play s (Tick node) ≡ Makes (record s { wires = carried_out (midst_after_tick s.site.processors node) s.wires })
 ticks s node runs none =
-    let after : Underway = record (underway s) { wires = ticked s.site.processors node (nothing_sent s.wires.nodes) } in
+    let after : Underway =
+    record (underway s) { wires = midst_after_tick s.site.processors node (nothing_sent s.wires.nodes) } in
     ap (λ (b : Bool). ended s.wires (if b then pulls_its node after else Skips)) runs
     ∙ ap (λ (line : Option ℕ). ended s.wires (pulls node after line)) none
 

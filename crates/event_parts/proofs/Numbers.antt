@@ -24,7 +24,8 @@ use Rattle.packet_wires.specs.Parcels.{Parcel}
 use Rattle.packet_wires.specs.Wires as wires
 use Rattle.packet_wires.specs.Wires.{Midst, goes_over, any_goes_over, goes_again, at_node, at_end_of, at_end}
 use Rattle.packet_wires.specs.Wires.{end_changed, watch_changed, learns, for_each, push_at, sends, sends_all, posted}
-use Rattle.packet_wires.specs.Wires.{all_posted, bus_of_answer, heard_of, arrive_at, arrived, alive_at, tells_alive}
+use Rattle.packet_wires.specs.Wires.{all_posted, bus_of_answer, heard_of, arrive_at, midst_after_arrival, alive_at}
+use Rattle.packet_wires.specs.Wires.{tells_alive}
 use Rattle.packet_wires.specs.Wires.{reports, check_at, checks, tick_at, down_at, cut_off, declares, loaded_again}
 use Rattle.event_parts.specs.Numbers.{CanPush, HasNumbersAt, NodeCanPush}
 
@@ -199,7 +200,7 @@ can-arrive name packet midst left can =
 
 pub can-arrived : (name : BusName) (packet : Packet) (midst : Midst)
     → HasNumbersAt packet.receiver packet.sender midst.nodes → CanPush midst.nodes
-    → CanPush (arrived name packet midst).nodes
+    → CanPush (midst_after_arrival name packet midst).nodes
 can-arrived name packet midst left can =
     can-learns packet.receiver (heard_of packet.sender packet.kind)
     (at_end packet.receiver packet.sender (arrive_at name packet) midst)
@@ -243,7 +244,7 @@ can-checks processors x midst can = by (slice_get midst.nodes x) refl
         can-reports processors x (told_by_tick node.watch) (watch_changed x watching.after_tick node midst)
         (can-watch x node (watching.after_tick node.watch) midst.nodes is can)
 
-pub can-ticked : (processors x : ℕ) → Keeps (wires.ticked processors x)
+pub can-ticked : (processors x : ℕ) → Keeps (wires.midst_after_tick processors x)
 can-ticked processors x midst can =
     can-for-each (λ y. at_end x y (tick_at x y)) (λ y. can-tick x y) all_nodes
     (checks processors x (tells_alive processors x midst))

@@ -18,7 +18,7 @@ use Rattle.packet_wires.specs.message_layout.specs.Layout.{words_of}
 use Rattle.packet_wires.specs.Nodes.{Node, all_nodes, others, with_end}
 use Rattle.packet_wires.specs.Wires.{Midst, goes_over, any_goes_over, goes_again, at_node, at_end_of, at_end}
 use Rattle.packet_wires.specs.Wires.{end_changed, watch_changed, for_each, push_at, sends, alive_at}
-use Rattle.packet_wires.specs.Wires.{tells_alive, reports, check_at, checks, tick_at, ticked}
+use Rattle.packet_wires.specs.Wires.{tells_alive, reports, check_at, checks, tick_at, midst_after_tick}
 use Rattle.event_parts.specs.Parts.{watch_at}
 
 any-nodes : (name : BusName) (told : Option Packet) (midst : Midst)
@@ -115,7 +115,7 @@ module _ (x : ℕ) where
           ∙ sym (ap (λ (f : Option Node). option_map watching.after_tick (option_map (λ (one : Node). one.watch) f)) is)
 
   pub ticked-once : (processors : ℕ) (midst : Midst)
-      → watch_at (ticked processors x midst).nodes x ≡ option_map watching.after_tick (watch_at midst.nodes x)
+      → watch_at (midst_after_tick processors x midst).nodes x ≡ option_map watching.after_tick (watch_at midst.nodes x)
   ticked-once processors midst =
       each-stays (λ y. at_end x y (tick_at x y)) tick-stays all_nodes
       (checks processors x (tells_alive processors x midst))

@@ -5,9 +5,9 @@ use Rattle.packet_words.specs.declared.bus_name.BusName.{BusName}
 use Rattle.packet_words.specs.declared.packet.Packet.{Packet}
 use Rattle.alive_regroup.specs.Watching.{Watching}
 use Rattle.packet_wires.specs.Nodes.{Node, end_at}
-use Rattle.packet_wires.specs.Play.{completed, is_current_at}
+use Rattle.packet_wires.specs.Play.{message_at_end, is_current_at}
 use Rattle.packet_wires.specs.Wires.{Wires, Outgoing, Midst, nothing_sent, with_sent, without_packet, goes_over}
-use Rattle.packet_wires.specs.Wires.{arrived}
+use Rattle.packet_wires.specs.Wires.{midst_after_arrival}
 
 -- the wires after a part of an event that began with them: the nodes as it left them, and on the buses what it sent
 abbrev pub carried_out : (Midst → Midst) → Wires → Wires
@@ -28,19 +28,20 @@ watch_at nodes x = option_map (λ node. node.watch) (slice_get nodes x)
 -- What is done with the packet that was looked for at a position of a bus, where one is there
 
 -- it is taken off, and comes at its receiver
-abbrev pub delivered : BusName → ℕ → Option Packet → Wires → Wires
-delivered name k None wires = wires
-delivered name k (Some packet) wires = carried_out (arrived name packet) (without_packet name k wires)
+abbrev pub wires_after_delivery : BusName → ℕ → Option Packet → Wires → Wires
+wires_after_delivery name k None wires = wires
+wires_after_delivery name k (Some packet) wires =
+    carried_out (midst_after_arrival name packet) (without_packet name k wires)
 
 -- the message that is whole with it
 abbrev pub completed_by : Option Packet → List Node → Option (List ℤ)
 completed_by found nodes =
-    option_and_then (λ packet. completed packet (end_at nodes packet.receiver packet.sender)) found
+    option_and_then (λ packet. message_at_end packet (end_at nodes packet.receiver packet.sender)) found
 
 -- it is sent once more over its bus
-abbrev pub repeated : BusName → Option Packet → Wires → Wires
-repeated name None wires = wires
-repeated name (Some packet) wires = carried_out (goes_over name packet) wires
+abbrev pub wires_after_repeat : BusName → Option Packet → Wires → Wires
+wires_after_repeat name None wires = wires
+wires_after_repeat name (Some packet) wires = carried_out (goes_over name packet) wires
 
 -- whether it bears the incarnations that the end knows to which it comes
 abbrev pub is_current_in : Option Packet → List Node → Bool

@@ -14,10 +14,13 @@ ghost use Rattle.packet_wires.specs.message_layout.specs.Messages.{NodeMessage};
 ghost use Rattle.packet_wires.specs.Lines.{line_pulled};
 ghost use Rattle.packet_wires.specs.Nodes.{end_at};
 ghost use Rattle.packet_wires.specs.Play.{Packeted, underway, is_current_at, over, packet_at, play};
-ghost use Rattle.packet_wires.specs.Wires.{Midst, Wires, all_posted, arrived, at_end, bus_named, cut_off, declares};
-ghost use Rattle.packet_wires.specs.Wires.{goes_over, learns, loaded_again, nothing_sent, push_at, sends, ticked};
+ghost use Rattle.packet_wires.specs.Wires.{Midst, Wires, all_posted, midst_after_arrival, at_end, bus_named, cut_off};
+ghost use Rattle.packet_wires.specs.Wires.{declares};
+ghost use Rattle.packet_wires.specs.Wires.{goes_over, learns, loaded_again, nothing_sent, push_at, sends};
+ghost use Rattle.packet_wires.specs.Wires.{midst_after_tick};
 ghost use Rattle.event_parts.specs.Numbers.{CanPush, HasNumbersAt};
-ghost use Rattle.event_parts.specs.Parts.{OnlyAdds, carried_out, completed_by, delivered, repeated, watch_at};
+ghost use Rattle.event_parts.specs.Parts.{OnlyAdds, carried_out, completed_by, wires_after_delivery};
+ghost use Rattle.event_parts.specs.Parts.{wires_after_repeat, watch_at};
 
 /// An event that is one part makes of the wires what is made where that part is carried out, after the event took its
 /// packet off.
@@ -33,13 +36,17 @@ pub fn events_of_packets_are_parts()
         → is_running s.world.stopped packet.receiver ≡ true
         → is_current_at packet (end_at s.wires.nodes packet.receiver packet.sender) ≡ true
         → completed_by (Some packet) s.wires.nodes ≡ None
-        → play s (Deliver y k) ≡ Makes (record s { wires = delivered (bus_named y) k (Some packet) s.wires }) }
+        → play s (Deliver y k) ≡ Makes (record s
+        { wires = wires_after_delivery (bus_named y) k (Some packet) s.wires }) }
     ensures repeats { (s : Packeted) (y : Bool) (k : ℕ) (packet : Packet) → packet_at s (bus_named y) k ≡ Some packet
-        → play s (Repeat y k) ≡ Makes (record s { wires = repeated (bus_named y) (Some packet) s.wires }) }
+        → play s (Repeat y k) ≡ Makes (record s { wires = wires_after_repeat (bus_named y) (Some packet) s.wires }) }
     ensures ticks { (s : Packeted) (node : ℕ) → is_running s.world.stopped node ≡ true
         → option_and_then (line_pulled node) (slice_get
-        (ticked s.site.processors node (nothing_sent s.wires.nodes)).nodes node) ≡ None
-        → play s (Tick node) ≡ Makes (record s { wires = carried_out (ticked s.site.processors node) s.wires }) }
+        (midst_after_tick s.site.processors node (nothing_sent s.wires.nodes)).nodes node) ≡ None
+        → play s (Tick node) ≡ Makes (record s {
+          wires =
+              carried_out (midst_after_tick s.site.processors node) s.wires;
+        }) }
     ensures reloads { (s : Packeted) (processor : ℕ) (done : Done) → reload_done s.site processor s.world ≡ Some done
         → play s (Reload processor) ≡ Makes (record s {
           world = done.world;
@@ -63,8 +70,8 @@ pub fn what_nodes_do_only_adds()
     ensures pushes { (x y : ℕ) (words : List ℤ) → OnlyAdds (at_end x y (push_at x y words)) }
     ensures sends { (x y : ℕ) (message : NodeMessage) → OnlyAdds (sends x y message) }
     ensures posts { (stopped : List Bool) (parcels : List Parcel) → OnlyAdds (all_posted stopped parcels) }
-    ensures arrives { (name : BusName) (packet : Packet) → OnlyAdds (arrived name packet) }
-    ensures ticks { (processors x : ℕ) → OnlyAdds (ticked processors x) }
+    ensures arrives { (name : BusName) (packet : Packet) → OnlyAdds (midst_after_arrival name packet) }
+    ensures ticks { (processors x : ℕ) → OnlyAdds (midst_after_tick processors x) }
     ensures cuts { (x y : ℕ) → OnlyAdds (cut_off x y) }
     ensures declares { (processors x processor : ℕ) → OnlyAdds (declares processors x processor) }
     ensures loads { (processors x : ℕ) → OnlyAdds (loaded_again processors x) }
@@ -81,9 +88,9 @@ pub fn each_push_finds_a_number()
         → CanPush (all_posted stopped parcels midst).nodes }
     ensures arrives { (name : BusName) (packet : Packet) (midst : Midst)
         → HasNumbersAt packet.receiver packet.sender midst.nodes → CanPush midst.nodes
-        → CanPush (arrived name packet midst).nodes }
+        → CanPush (midst_after_arrival name packet midst).nodes }
     ensures ticks { (processors x : ℕ) (midst : Midst) → CanPush midst.nodes
-        → CanPush (ticked processors x midst).nodes }
+        → CanPush (midst_after_tick processors x midst).nodes }
     ensures cuts { (x y : ℕ) (midst : Midst) → CanPush midst.nodes → CanPush (cut_off x y midst).nodes }
     ensures declares { (processors x processor : ℕ) (midst : Midst) → CanPush midst.nodes
         → CanPush (declares processors x processor midst).nodes }
@@ -94,5 +101,5 @@ pub fn each_push_finds_a_number()
 /// What a node knows of the processors changes in its tick as a tick of its watch changes it.
 pub fn a_tick_is_one_of_its_watch()
     ensures { (processors x : ℕ) (midst : Midst)
-        → watch_at (ticked processors x midst).nodes x ≡ option_map after_tick (watch_at midst.nodes x) }
+        → watch_at (midst_after_tick processors x midst).nodes x ≡ option_map after_tick (watch_at midst.nodes x) }
 {}

@@ -3,7 +3,7 @@ use Rattle.std.specs.Prelude.{ℕ, ◌<◌, if◌then◌else◌, List, [], ◌�
 use Rattle.gd_words.specs.declared.message.Reply.{Reply}
 use Rattle.gd_words.specs.declared.message.Request.{Request}
 use Rattle.gd_words.specs.Members.{AreDistinct}
-use Rattle.checkpoint_image.specs.Receive.{Chosen, is_outdone, reply_to, standing}
+use Rattle.checkpoint_image.specs.Receive.{Chosen, is_outdone, reply_to, request_standing}
 use Rattle.checkpoint_image.specs.declared.receive.ReceiveBlock.{ReceiveBlock}
 use Rattle.checkpoint_image.specs.declared.receive.RequestStanding.{RequestStanding}
 use Rattle.checkpoint_image.specs.declared.receive.RequestStanding.TheVariants.{Next, InHand, Kept, Old, Ahead}
@@ -45,7 +45,7 @@ arrival_by Old waiting request = Dropped
 -- a request that comes to a copy that acts may wait where it stands Next or Ahead; a reply that is kept to it is sent
 -- again; any other is dropped
 abbrev pub arrival_of : ReceiveBlock → List Request → Request → Arrival
-arrival_of table waiting request = arrival_by (standing table request) waiting request
+arrival_of table waiting request = arrival_by (request_standing table request) waiting request
 
 -- the reply that is sent again
 abbrev pub sent_again : Arrival → List Reply

@@ -2,7 +2,7 @@
 use Rattle.std.specs.Prelude.{◌≡◌, List, [], ◌∷◌, Option, None, Some}
 use Rattle.gd_words.specs.declared.message.Reply.{Reply}
 use Rattle.gd_words.specs.declared.message.Request.{Request}
-use Rattle.checkpoint_image.specs.Receive.{reply_to, standing}
+use Rattle.checkpoint_image.specs.Receive.{reply_to, request_standing}
 use Rattle.checkpoint_image.specs.declared.receive.ReceiveBlock.{ReceiveBlock}
 use Rattle.checkpoint_image.specs.declared.receive.RequestStanding.{RequestStanding}
 use Rattle.checkpoint_image.specs.declared.receive.RequestStanding.TheVariants.{Next, InHand, Kept, Old, Ahead}
@@ -26,14 +26,15 @@ settled_by (Kept words) request rest later = record { reply = Some (reply_to req
 
 -- the reply is that kept to the first request that has one. This request goes, and so does each before it that stands
 -- InHand or Old; where no reply is kept, all that stand InHand or Old go
-abbrev pub settled : ReceiveBlock → List Request → Settled
-settled table [] = record { reply = None; rest = [] }
-settled table (request ∷ rest) = settled_by (standing table request) request rest (settled table rest)
+abbrev pub settlement_of : ReceiveBlock → List Request → Settled
+settlement_of table [] = record { reply = None; rest = [] }
+settlement_of table (request ∷ rest) =
+    settled_by (request_standing table request) request rest (settlement_of table rest)
 
 -- the replies that are sent again until there is none, and the requests that wait then
 pub data Settles (table : ReceiveBlock) : List Request → List Reply → List Request → Type 0 where
-  no_more : {waiting : List Request} → (settled table waiting).reply ≡ None
-      → Settles table waiting [] (settled table waiting).rest
+  no_more : {waiting : List Request} → (settlement_of table waiting).reply ≡ None
+      → Settles table waiting [] (settlement_of table waiting).rest
   one_more : {waiting end : List Request} {reply : Reply} {replies : List Reply}
-      → (settled table waiting).reply ≡ Some reply
-      → Settles table (settled table waiting).rest replies end → Settles table waiting (reply ∷ replies) end
+      → (settlement_of table waiting).reply ≡ Some reply
+      → Settles table (settlement_of table waiting).rest replies end → Settles table waiting (reply ∷ replies) end

@@ -1,10 +1,11 @@
 ghost use Rattle.std.specs.Prelude.{◌≡◌, ◌<◌, ◌↔◌, not, [], filter, length, slice_get, vec_capacity, IfOk, IsSome};
 ghost use Rattle.std.specs.Prelude.{IsTrue};
 ghost use Rattle.std.specs.Option.{option_copied, option_map};
-ghost use Rattle.checkpoint_image.specs.Receive.{came, chosen, is_next, is_outdone, is_same_opener, repeated, reply_to};
-ghost use Rattle.checkpoint_image.specs.Receive.{standing, waits};
+ghost use Rattle.checkpoint_image.specs.Receive.{came, choice_among, is_next, is_outdone, is_same_opener};
+ghost use Rattle.checkpoint_image.specs.Receive.{reply_sent_again, reply_to};
+ghost use Rattle.checkpoint_image.specs.Receive.{request_standing, waits};
 ghost use Rattle.file_calls.specs.Queue.{IsOnePerOpener, arrival_of, left_by, queue_of, sent_again, watched_arrival};
-ghost use Rattle.file_calls.specs.Takeover.{settled};
+ghost use Rattle.file_calls.specs.Takeover.{settlement_of};
 
 use checkpoint_image::RequestStanding;
 use gd_words::{NoMemory, Reply, Request, Words};
@@ -72,7 +73,7 @@ impl Waiting {
         requires known { request.opener < self.old.openers }
         requires table { length receive.now.depths ≡ self.old.openers }
         ensures arrival { result ≡ arrival_of receive.now.table self.old.requests request }
-        ensures again { sent_again result ≡ repeated receive.now.table request }
+        ensures again { sent_again result ≡ reply_sent_again receive.now.table request }
         ensures requests { self.new.requests ≡ came receive.now.table self.old.requests request }
         ensures openers { self.new.openers ≡ self.old.openers }
     {
@@ -101,8 +102,10 @@ impl Waiting {
     /// Takes out the first request that stands Next.
     pub fn choose(&mut self, receive: &Receive) -> Option<Request>
         requires { length receive.now.depths ≡ self.old.openers }
-        ensures request { result ≡ option_map (λ found. found.request) (chosen receive.now.table self.old.requests) }
-        ensures requests { self.new.requests ≡ left_by self.old.requests (chosen receive.now.table self.old.requests) }
+        ensures request { result ≡ option_map (λ found. found.request)
+            (choice_among receive.now.table self.old.requests) }
+        ensures requests { self.new.requests ≡ left_by self.old.requests
+            (choice_among receive.now.table self.old.requests) }
         ensures openers { self.new.openers ≡ self.old.openers }
     {
         for place in 0..self.requests.len() {
@@ -116,7 +119,7 @@ impl Waiting {
     /// Whether a request stands Next.
     pub fn wakes(&self, receive: &Receive) -> bool
         requires { length receive.now.depths ≡ self.now.openers }
-        ensures { IsTrue result ↔ IsSome (chosen receive.now.table self.now.requests) }
+        ensures { IsTrue result ↔ IsSome (choice_among receive.now.table self.now.requests) }
     {
         for request in &self.requests {
             if is_next(request, receive) {
@@ -130,8 +133,8 @@ impl Waiting {
     /// Old goes too. Where none stands Kept, all that stand InHand or Old go.
     pub fn settle(&mut self, receive: &Receive) -> Option<Reply>
         requires { length receive.now.depths ≡ self.old.openers }
-        ensures reply { result ≡ (settled receive.now.table self.old.requests).reply }
-        ensures requests { self.new.requests ≡ (settled receive.now.table self.old.requests).rest }
+        ensures reply { result ≡ (settlement_of receive.now.table self.old.requests).reply }
+        ensures requests { self.new.requests ≡ (settlement_of receive.now.table self.old.requests).rest }
         ensures openers { self.new.openers ≡ self.old.openers }
     {
         let mut place = 0;
@@ -154,7 +157,7 @@ impl Waiting {
 /// How a request stands to a receive table.
 fn standing(request: &Request, receive: &Receive) -> RequestStanding
     requires { request.now.opener < length receive.now.depths }
-    ensures { result ≡ standing receive.now.table request.now }
+    ensures { result ≡ request_standing receive.now.table request.now }
 {
     receive.standing(request.opener, request.number)
 }
@@ -162,7 +165,7 @@ fn standing(request: &Request, receive: &Receive) -> RequestStanding
 /// Whether a request stands Next.
 fn is_next(request: &Request, receive: &Receive) -> bool
     requires { request.now.opener < length receive.now.depths }
-    ensures { result ≡ is_next (standing receive.now.table request.now) }
+    ensures { result ≡ is_next (request_standing receive.now.table request.now) }
 {
     match standing(request, receive) {
         RequestStanding::Next => true,

@@ -6,11 +6,11 @@ use Rattle.std.specs.Int.{from_be_bytes, w64}
 use Rattle.std.specs.Cmp.{IsTotalOrder, on_total, nat_cmp_total, nat_eq_equiv, then_total, both_tied, unsigned_ties}
 use Rattle.std.specs.Cmp.Lexicographic.{pointwise, slice_cmp, nat_list_cmp_total, texts_ties, bytes_decides}
 use Rattle.std.proofs.Common.{ap, sym, subst, ◌∙◌, refl}
-use Rattle.gd_words.specs.Spelling.{padded}
+use Rattle.gd_words.specs.Spelling.{text_with_zeros}
 
 -- the first eight signs as one number, with zeros after the last sign
 abbrev pub front : List ℕ → ℕ
-front text = from_be_bytes w64 (padded 31 text)
+front text = from_be_bytes w64 (text_with_zeros 31 text)
 
 abbrev pub ident_cmp : List ℕ → List ℕ → Ordering
 ident_cmp a b = ordering_then (nat_cmp (front a) (front b)) (slice_cmp nat_cmp a b)

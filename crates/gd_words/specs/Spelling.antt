@@ -34,5 +34,5 @@ abbrev pub ident_of : List ℕ → Option (List ℕ)
 ident_of text = if is_ident text then Some (upper text) else None
 
 -- a text in n places, zeros after it
-abbrev pub padded : ℕ → List ℕ → List ℕ
-padded n text = text ++ replicate (n - length text) 0
+abbrev pub text_with_zeros : ℕ → List ℕ → List ℕ
+text_with_zeros n text = text ++ replicate (n - length text) 0

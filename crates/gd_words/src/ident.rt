@@ -18,15 +18,15 @@ pub struct Ident {
 
 impl Model for Ident {
     ghost use Rattle.std.specs.Prelude.{◌≡◌, ◌≤◌, List, ℕ, length, take};
-    ghost use Rattle.gd_words.specs.Spelling.{padded};
+    ghost use Rattle.gd_words.specs.Spelling.{text_with_zeros};
 
     ghost Value = { List ℕ };
 
     ghost view = { λ ident. take ident.len ident.bytes };
 
-    ghost invariant = { λ ident. (ident.len ≤ 31) × (ident.bytes ≡ padded 31 (take ident.len ident.bytes)) };
+    ghost invariant = { λ ident. (ident.len ≤ 31) × (ident.bytes ≡ text_with_zeros 31 (take ident.len ident.bytes)) };
 
-    ghost inverse = { λ text. record { bytes = padded 31 text; len = length text } };
+    ghost inverse = { λ text. record { bytes = text_with_zeros 31 text; len = length text } };
 
     ghost use Rattle.gd_words.specs.PaddedIdent.{ident_again};
 

@@ -14,15 +14,15 @@ pub struct Name {
 
 impl Model for Name {
     ghost use Rattle.std.specs.Prelude.{◌≡◌, ◌≤◌, List, ℕ, length, take};
-    ghost use Rattle.gd_words.specs.Spelling.{padded};
+    ghost use Rattle.gd_words.specs.Spelling.{text_with_zeros};
 
     ghost Value = { List ℕ };
 
     ghost view = { λ name. take name.len name.bytes };
 
-    ghost invariant = { λ name. (name.len ≤ 6) × (name.bytes ≡ padded 6 (take name.len name.bytes)) };
+    ghost invariant = { λ name. (name.len ≤ 6) × (name.bytes ≡ text_with_zeros 6 (take name.len name.bytes)) };
 
-    ghost inverse = { λ text. record { bytes = padded 6 text; len = length text } };
+    ghost inverse = { λ text. record { bytes = text_with_zeros 6 text; len = length text } };
 
     ghost use Rattle.gd_words.specs.PaddedName.{name_again};
 

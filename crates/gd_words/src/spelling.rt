@@ -1,12 +1,12 @@
 ghost use Rattle.std.specs.Prelude.{◌≡◌, ◌≤◌, length};
 ghost use Rattle.std.specs.List.{list_all};
 ghost use Rattle.std.specs.Char.{is_ascii_alphanumeric};
-ghost use Rattle.gd_words.specs.Spelling.{padded, upper};
+ghost use Rattle.gd_words.specs.Spelling.{text_with_zeros, upper};
 
 /// A text's bytes in upper case in N places, zeros after them.
 pub fn upper_padded<const N: usize>(text: &[u8]) -> [u8; N]
     requires { length text.now ≤ N }
-    ensures { result ≡ padded N (upper text.now) }
+    ensures { result ≡ text_with_zeros N (upper text.now) }
 {
     let mut bytes = [0; N];
     for (k, byte) in text.iter().enumerate() {

@@ -16,7 +16,7 @@ use Rattle.plain_semantics.specs.declared.slot.Slot.{Slot}
 use Rattle.plain_semantics.specs.Openers.{opener_of}
 use Rattle.checkpoint_image.specs.declared.receive.ReceiveBlock.{ReceiveBlock}
 use Rattle.checkpoint_image.specs.declared.receive.RequestStanding.TheVariants.{Next, InHand}
-use Rattle.checkpoint_image.specs.Receive.{is_place, standing_by, standing_at, standing}
+use Rattle.checkpoint_image.specs.Receive.{is_place, standing_by, standing_at, request_standing}
 use Rattle.world_semantics.specs.Core.{takes}
 use Rattle.world_semantics.specs.Own.{by_take}
 use Rattle.world_semantics.specs.Rules.{by_own}
@@ -171,7 +171,7 @@ module _ {site : Site} {events : ℕ} {post : Post} (end : IsEnd site events pos
           → WaitsFor (copy_of (who_acts pair) pair).waiting (record { server = number; place = place }) n → ⊥
       takes-none n next (request, among, server, placed, numbered) =
           let table : ReceiveBlock = (copy_of (who_acts pair) pair).core.receive in
-          let stands : standing table request ≡ Next = rw (placed, numbered) next in
+          let stands : request_standing table request ≡ Next = rw (placed, numbered) next in
           let found = chosen-there table (copy_of (who_acts pair) pair).waiting request among stands in
           let is = chosen-is table (copy_of (who_acts pair) pair).waiting found.0 found.1 in
           end.idle.runs number _ _ (by_own number (who_acts pair) pair there (acting end number pair there)

@@ -9,7 +9,8 @@ use Rattle.checkpoint_image.specs.declared.receive.OpenerBlock.{OpenerBlock}
 use Rattle.checkpoint_image.specs.declared.receive.RequestStanding.{RequestStanding}
 use Rattle.checkpoint_image.specs.declared.receive.RequestStanding.TheVariants.{Next, Ahead, InHand}
 use Rattle.checkpoint_image.specs.Receive.{holds, answered as last_answered, reply_kept, kept_or_old, standing_in}
-use Rattle.checkpoint_image.specs.Receive.{standing_by, standing_at, standing, Chosen, chosen, chosen_by, chosen_after}
+use Rattle.checkpoint_image.specs.Receive.{standing_by, standing_at, request_standing, Chosen, choice_among, chosen_by}
+use Rattle.checkpoint_image.specs.Receive.{chosen_after}
 use Rattle.checkpoint_image.specs.Receive.{is_next}
 use Rattle.world_semantics.specs.Core.{Core, Deed}
 use Rattle.process_histories.specs.Histories.{HasDone}
@@ -80,20 +81,21 @@ none-in-hand (Some block) n is =
 
 -- where a request waits that stands next, one is taken
 pub chosen-there : (table : ReceiveBlock) (waiting : List Request) (request : Request) → IsAmong request waiting
-    → standing table request ≡ Next
-    → (found : Chosen) × (chosen table waiting ≡ Some found)
+    → request_standing table request ≡ Next
+    → (found : Chosen) × (choice_among table waiting ≡ Some found)
 chosen-there table [] request among next = absurd among
 chosen-there table (first ∷ rest) request among next =
-    by (is_next (standing table first)) refl (chosen table rest) refl among
+    by (is_next (request_standing table first)) refl (choice_among table rest) refl among
     (λ later. chosen-there table rest request later next)
   where
-    by : (test : Bool) → is_next (standing table first) ≡ test → (later : Option Chosen) → chosen table rest ≡ later
+    by : (test : Bool) → is_next (request_standing table first) ≡ test → (later : Option Chosen)
+        → choice_among table rest ≡ later
         → (request ≡ first) ⊎ IsAmong request rest
-        → (IsAmong request rest → (found : Chosen) × (chosen table rest ≡ Some found))
+        → (IsAmong request rest → (found : Chosen) × (choice_among table rest ≡ Some found))
         → (found : Chosen) × (chosen_by test first rest later ≡ Some found)
     by true is later found among deeper = (record { request = first; rest = rest }, refl)
     by false is (Some later) found among deeper = (chosen_after first later, refl)
     by false is None found (inl same) deeper =
-        let here : is_next (standing table first) ≡ true =
-        subst (λ r. is_next (standing table r) ≡ true) same (rw next refl) in absurd (cc)
+        let here : is_next (request_standing table first) ≡ true =
+        subst (λ r. is_next (request_standing table r) ≡ true) same (rw next refl) in absurd (cc)
     by false is None found (inr among) deeper = let some = deeper among in absurd (let none = sym found ∙ some.1 in cc)

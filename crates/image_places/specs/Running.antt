@@ -12,8 +12,8 @@ pub record Running : Type 0 where
   pub next : ℕ
   pub locals : List ℤ
 
-abbrev pub seen : RunningFrame → Running
-seen frame = record { procedure = frame.procedure; next = frame.next; locals = frame.locals.now }
+abbrev pub running_now : RunningFrame → Running
+running_now frame = record { procedure = frame.procedure; next = frame.next; locals = frame.locals.now }
 
 -- what a call gives is, as it is seen, what a definition gives
 abbrev pub Gives : {A B : Type 0} → (A → B) → Option A → Option B → Type 0

@@ -1,7 +1,7 @@
 ghost use Rattle.std.specs.Prelude.{◌≡◌, None};
 ghost use Rattle.process_semantics.specs.Words.{count_in, words_in};
 ghost use Rattle.image_places.specs.Running.{Gives, caller_in, frame_in, frame_of, last_of};
-ghost use Rattle.image_places.specs.Running.{next_in, running_in, seen};
+ghost use Rattle.image_places.specs.Running.{next_in, running_in, running_now};
 
 use tal_tree::{Procedure, Program};
 
@@ -16,7 +16,7 @@ pub struct RunningFrame<'a> {
 /// The procedure that runs in a program, by the words of its image, and the words behind those of the frames. None
 /// where the words are no image of the program, or it has ended.
 pub fn running_in<'a>(program: &Program, words: &'a [i16]) -> Option<(RunningFrame<'a>, &'a [i16])>
-    ensures { Gives (λ r. (seen r.0, r.1.now)) result (running_in program.now words.now) }
+    ensures { Gives (λ r. (running_now r.0, r.1.now)) result (running_in program.now words.now) }
 {
     let (count, left) = number_in(words)?;
     last_of(program, count, left)
@@ -36,7 +36,7 @@ pub fn next_in(program: &Program, words: &[i16]) -> u16
 /// The procedure that has called the one that runs in a program, by the words of its image, and the words behind its
 /// own. None where MAIN runs, the words are no image of the program, or it has ended.
 pub fn caller_in<'a>(program: &Program, words: &'a [i16]) -> Option<(RunningFrame<'a>, &'a [i16])>
-    ensures { Gives (λ r. (seen r.0, r.1.now)) result (caller_in program.now words.now) }
+    ensures { Gives (λ r. (running_now r.0, r.1.now)) result (caller_in program.now words.now) }
 {
     let (count, left) = number_in(words)?;
     last_of(program, count.saturating_sub(1), left)
@@ -48,7 +48,7 @@ fn last_of<'a>(
     count: u16,
     words: &'a [i16],
 ) -> Option<(RunningFrame<'a>, &'a [i16])>
-    ensures { Gives (λ r. (seen r.0, r.1.now)) result (last_of program.now count words.now None) }
+    ensures { Gives (λ r. (running_now r.0, r.1.now)) result (last_of program.now count words.now None) }
 {
     let mut last = None;
     let mut left = words;
@@ -62,7 +62,7 @@ fn last_of<'a>(
 }
 
 fn frame_in<'a>(program: &Program, words: &'a [i16]) -> Option<(RunningFrame<'a>, &'a [i16])>
-    ensures { Gives (λ r. (seen r.0, r.1.now)) result (frame_in program.now words.now) }
+    ensures { Gives (λ r. (running_now r.0, r.1.now)) result (frame_in program.now words.now) }
 {
     let (procedure, left) = number_in(words)?;
     let (next, left) = number_in(left)?;
@@ -77,7 +77,7 @@ fn frame_of<'a>(
     body: &Procedure,
     words: &'a [i16],
 ) -> Option<(RunningFrame<'a>, &'a [i16])>
-    ensures { Gives (λ r. (seen r.0, r.1.now)) result (frame_of procedure next body.now words.now) }
+    ensures { Gives (λ r. (running_now r.0, r.1.now)) result (frame_of procedure next body.now words.now) }
 {
     let (locals, rest) = words_in(body.locals.len(), words)?;
     Some((

@@ -11,7 +11,7 @@ use Rattle.process_semantics.specs.Process as process
 use Rattle.plain_semantics.specs.Machine.{next_request}
 use Rattle.plain_semantics.specs.declared.slot.Opener.{Opener}
 use Rattle.plain_semantics.specs.Openers.{openers_of, opener_of}
-use Rattle.world_semantics.specs.checkpoint_image.specs.Receive.{repeated, all_repeated}
+use Rattle.world_semantics.specs.checkpoint_image.specs.Receive.{reply_sent_again, all_repeated}
 use Rattle.world_semantics.specs.disc_device.specs.Sectors.{Stored}
 use Rattle.world_semantics.specs.declared.role.Role.TheVariants.{Acting}
 use Rattle.world_semantics.specs.declared.which.Which.{Which}
@@ -161,7 +161,7 @@ module _ (site : Site) (regular : AreRegular site) (events : ℕ) (w : World) (g
   change-asker next cause sendings (by_checkpoint number pair there passes) sending request among asks =
       absurd (passes-ask-none sending request passes among asks)
   change-asker next cause sendings (by_request one k pair sent there role) sending request among asks =
-      absurd (reply-asks-none (repeated (copy_of k pair).core.receive one) sending.message request
+      absurd (reply-asks-none (reply_sent_again (copy_of k pair).core.receive one) sending.message request
       (message-of _ _ sending among) asks)
   change-asker next cause sendings (by_early_request one k pair sent there role) sending request among asks =
       absurd among

@@ -74,7 +74,8 @@ disc-rests sectors true request number [] t is = subst (λ u. Rests (Serves sect
 disc-rests sectors true request number (word ∷ words) t is =
     subst (λ u. Rests (Serves sectors u)) (some-same is) (λ same. cc)
 
-restored-rests : (s t : ProcessState) (hand : Bool) (words : List ℤ) → image.restored s hand words ≡ Some t → Rests t
+restored-rests : (s t : ProcessState) (hand : Bool) (words : List ℤ)
+    → image.state_from_words s hand words ≡ Some t → Rests t
 restored-rests (Runs program s) t hand words is =
     map-some (Runs program) Rests (image.restored_program program s hand words) t
     (λ u there. free-rests program u (option_and_then_some _ _ u there
@@ -82,7 +83,7 @@ restored-rests (Runs program s) t hand words is =
 restored-rests (Serves sectors s) t hand words is =
     map-some (Serves sectors) Rests (image.restored_disc hand words) t
     (λ u there.
-    option_and_then_some _ (reading.counted_in words) u there (λ (request : List ℤ × List ℤ) _ next.
+    option_and_then_some _ (reading.with_count_in words) u there (λ (request : List ℤ × List ℤ) _ next.
     option_and_then_some _ (reading.long_in request.1) u next (λ (number : ℕ × List ℤ) _ last.
     option_and_then_some _ _ u last (λ (reply : List ℤ) _ disc.
     disc-rests sectors hand request.0 number.0 reply u disc)))) is

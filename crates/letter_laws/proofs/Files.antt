@@ -30,7 +30,7 @@ use Rattle.world_semantics.proofs.Members.{among-map}
 use Rattle.world_semantics.proofs.Roles.{reload-all}
 use Rattle.world_semantics.specs.process_images.specs.Images.{all_files_of}
 use Rattle.world_semantics.specs.process_images.proofs.Everything.{whole-listed}
-use Rattle.awaited_requests.specs.process_histories.specs.Histories.{kind_of, unmirrored}
+use Rattle.awaited_requests.specs.process_histories.specs.Histories.{kind_of, kind_without_mirror}
 use Rattle.awaited_requests.specs.process_histories.proofs.OneKind.{done-kind, same-files}
 use Rattle.awaited_requests.specs.process_histories.proofs.Steady.{IsSteady, done-steady}
 use Rattle.awaited_requests.specs.plain_histories.specs.Agreeing.{AreRegular}
@@ -76,8 +76,8 @@ module _ (site : Site) (regular : AreRegular site) where
       (files_for everything core.state) named among in
       let within =
       named-within everything core.state (done-steady (regular number is.spec is.there) is.done) from.item from.among in
-      let same : kind_of core.state ≡ unmirrored spec.what =
-      done-kind is.done ∙ ap (λ (s : ProcessSpec). unmirrored s.what) (some-same (sym is.there ∙ there)) in
+      let same : kind_of core.state ≡ kind_without_mirror spec.what =
+      done-kind is.done ∙ ap (λ (s : ProcessSpec). kind_without_mirror s.what) (some-same (sym is.there ∙ there)) in
       rw (ap (λ (f : FileNumber). f.file) from.same, ← same-files spec.what, ← same) within
 
   one-more : (number : ℕ) (copy : Copy) (pair : Pair) → IsDone site number copy.core → PairNames site number pair

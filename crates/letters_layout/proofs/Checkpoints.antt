@@ -31,7 +31,7 @@ use Rattle.world_semantics.specs.Core.{Core, Deed, next_on, carried_by, files_fo
 use Rattle.world_semantics.specs.Follows.{IsRun}
 use Rattle.world_semantics.specs.Messages.{Checkpointing, Taking}
 use Rattle.world_semantics.specs.World.{Pair, World}
-use Rattle.letter_laws.specs.process_histories.specs.Histories.{HasDone, kind_of, unmirrored}
+use Rattle.letter_laws.specs.process_histories.specs.Histories.{HasDone, kind_of, kind_without_mirror}
 use Rattle.letter_laws.specs.process_histories.specs.Words.{answered_to, take_from, ask_on}
 use Rattle.letter_laws.specs.process_histories.proofs.Counts.{taken-number, next-number}
 use Rattle.letter_laws.specs.process_histories.proofs.OneKind.{done-kind, openers-same, same-pair}
@@ -129,7 +129,7 @@ module _ (site : Site) (fit : IsFit site) (small : IsSmall site) (n before numbe
   within : IsWithinProcess core.state
   within = by core.state (done-kind made.done)
     where
-      by : (s : ProcessState) → kind_of s ≡ unmirrored made.spec.what → IsWithinProcess s
+      by : (s : ProcessState) → kind_of s ≡ kind_without_mirror made.spec.what → IsWithinProcess s
       by (Runs program s) same =
           small.programs number made.spec program made.there (same-pair made.spec.what program same)
       by (Serves sectors s) same = tt

@@ -15,7 +15,7 @@ use Rattle.packet_words.specs.declared.packet.Incarnation.{Incarnation}
 use Rattle.packet_words.specs.declared.packet.PacketKind.{PacketKind}
 use Rattle.packet_words.specs.declared.packet.PacketKind.TheVariants as kind
 use Rattle.packet_words.specs.Buses.{other_bus}
-use Rattle.packet_words.specs.Pieces.{piece_at, joined, completed}
+use Rattle.packet_words.specs.Pieces.{piece_at, words_with_piece, message_with_piece}
 use Rattle.link_control.specs.declared.channel.Resent.{Resent}
 
 -- the sender's end of one direction: the messages that aren't acknowledged whole, the oldest first; which piece of the
@@ -123,11 +123,11 @@ is_next number r = number == r.kept + 1
 
 -- a piece came
 abbrev pub kept : ℕ → Piece → Receiving → Receiving
-kept number piece r = if is_next number r then record { kept = r.kept + 1; part = joined piece r.part } else r
+kept number piece r = if is_next number r then record { kept = r.kept + 1; part = words_with_piece piece r.part } else r
 
 -- the message that is handed over as a piece comes: it is whole where the piece is kept and the last
 abbrev pub message_of_piece : ℕ → Piece → Receiving → Option (List ℤ)
-message_of_piece number piece r = if is_next number r then completed piece r.part else None
+message_of_piece number piece r = if is_next number r then message_with_piece piece r.part else None
 
 -- whether the piece of this number is kept, now or before
 abbrev pub is_kept : ℕ → Receiving → Bool

@@ -35,7 +35,7 @@ use Rattle.world_semantics.specs.Rules.{takeover_sendings}
 use Rattle.world_semantics.specs.Rules.{told_at_down}
 use Rattle.world_semantics.specs.World.{Copy, Down, Pair, Terminal, World, copy_of, terminal_node}
 use Rattle.world_semantics.proofs.Members.{among-filter, among-flat_map, among-map}
-use Rattle.checkpoint_image.specs.Receive.{all_repeated, repeated}
+use Rattle.checkpoint_image.specs.Receive.{all_repeated, reply_sent_again}
 use Rattle.letters.specs.Again as again
 use Rattle.letters.specs.Again.{asks_again, awaited_by, awaited_from, entered_last, if_acts_on, rerouted, sent_again}
 use Rattle.letters.specs.Again.{kept_from, tells_again, terminals_ask}
@@ -220,9 +220,9 @@ module _ (site : Site) (fit : IsFit site) (events : List Event) (w : World) (few
       own-linked number k pair there role causes advances enters among
   sent-linked next cause sendings (by_checkpoint number pair there passes) among = absurd (passes-none passes among)
   sent-linked next cause sendings (by_request asked k pair known there role) among =
-      absurd (no-request request (repeated (copy_of k pair).core.receive asked)
+      absurd (no-request request (reply_sent_again (copy_of k pair).core.receive asked)
       (sent-one (copy_of k pair).processor node (Asking request)
-      (map Replying (repeated (copy_of k pair).core.receive asked)) among).among)
+      (map Replying (reply_sent_again (copy_of k pair).core.receive asked)) among).among)
   sent-linked next cause sendings (by_early_request asked k pair known there role) among = absurd among
   sent-linked next cause sendings (by_enter {words = words} number terminal opener there even asked opens) among =
       enter-linked next words number terminal opener there even asked opens refl refl among

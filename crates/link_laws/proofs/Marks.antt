@@ -7,7 +7,7 @@ use Rattle.gd_words.specs.declared.message.Request.{Request}
 use Rattle.gd_words.proofs.Among.{among-either, among-left, among-right}
 use Rattle.tal_tree.specs.declared.site.Site.{Site}
 use Rattle.checkpoint_image.specs.declared.receive.ReceiveBlock.{ReceiveBlock}
-use Rattle.checkpoint_image.specs.Receive.{is_waiting, standing, still_waiting}
+use Rattle.checkpoint_image.specs.Receive.{is_waiting, request_standing, still_waiting}
 use Rattle.world_semantics.specs.declared.role.Role.{Role}
 use Rattle.world_semantics.specs.declared.role.Role.TheVariants.{Acting}
 use Rattle.world_semantics.specs.declared.which.Which.{Which}
@@ -30,18 +30,18 @@ module _ (w : World) (node processor at : ℕ) (one : Request) where
   taken-over : (role : Role) (there : ℕ) (table : ReceiveBlock) (waiting : List Request)
       → IsAmong one (if_there at role there waiting)
       → IsAmong one (if_there at Acting there (still_waiting table waiting))
-      ⊎ (IsAmong one waiting × (is_waiting (standing table one) ≡ false))
+      ⊎ (IsAmong one waiting × (is_waiting (request_standing table one) ≡ false))
   taken-over role there table waiting among =
       let is = there-is at role there waiting one among in
-      by (is_waiting (standing table one)) refl is.here is.among
+      by (is_waiting (request_standing table one)) refl is.here is.among
     where
-      by : (on : Bool) → is_waiting (standing table one) ≡ on → there ≡ at → IsAmong one waiting
+      by : (on : Bool) → is_waiting (request_standing table one) ≡ on → there ≡ at → IsAmong one waiting
           → IsAmong one (if_there at Acting there (still_waiting table waiting))
-          ⊎ (IsAmong one waiting × (is_waiting (standing table one) ≡ false))
+          ⊎ (IsAmong one waiting × (is_waiting (request_standing table one) ≡ false))
       by true on here waits =
           inl (subst (IsAmong one)
           (sym (ap (λ (b : Bool). if b then still_waiting table waiting else []) (eq-eqb there at here)))
-          (filter-in (λ (r : Request). is_waiting (standing table r)) one waiting on waits))
+          (filter-in (λ (r : Request). is_waiting (request_standing table r)) one waiting on waits))
       by false off here waits = inr (waits, off)
 
   abbrev Waiting : Pair → List Request
@@ -52,7 +52,7 @@ module _ (w : World) (node processor at : ℕ) (one : Request) where
   pair-kept number pair there among = by (taker node processor pair) refl
     where
       dropped : (k : Which) → taker node processor pair ≡ Some k → IsAmong one (copy_of k pair).waiting
-          → is_waiting (standing (copy_of k pair).core.receive one) ≡ false → IsDropped w one
+          → is_waiting (request_standing (copy_of k pair).core.receive one) ≡ false → IsDropped w one
       dropped k is waits out = record {
         number = number;
         pair = pair;

@@ -9,7 +9,8 @@ use Rattle.world_semantics.specs.declared.role.Role.{Role}
 use Rattle.world_semantics.specs.declared.role.Role.TheVariants.{Acting, Watching, Blank, Gone}
 use Rattle.world_semantics.specs.Core.{Core}
 use Rattle.world_semantics.specs.Messages.{Reloading, Sending, Stopping}
-use Rattle.world_semantics.specs.Rules.{Change, new_core, blank_copy, most_reloads, reloaded_by, reloaded_from, renewed}
+use Rattle.world_semantics.specs.Rules.{Change, new_core, blank_copy, most_reloads, reloaded_by, reloaded_from}
+use Rattle.world_semantics.specs.Rules.{copy_with_renewal}
 use Rattle.world_semantics.specs.Rules.{stopped_copy, stopped_pair}
 use Rattle.world_semantics.specs.Running.{Done}
 use Rattle.world_semantics.specs.World.{Copy, Pair, World, is_marked_by_all, is_whole, terminal_node}
@@ -133,9 +134,9 @@ module _ {A : Type 0} (x : ℕ) (f : ℕ → Copy → List A)
       both-none n (reloaded_by core pair false false) rest (away n pair.first one) (away n pair.second two)
   pair-none core n pair rest true false one two =
       both-none n (reloaded_by core pair true false) rest
-      (blank n pair.first.processor (pair.second.era + 1) core) (away n (renewed pair.second) two)
+      (blank n pair.first.processor (pair.second.era + 1) core) (away n (copy_with_renewal pair.second) two)
   pair-none core n pair rest false true one two =
-      both-none n (reloaded_by core pair false true) rest (away n (renewed pair.first) one)
+      both-none n (reloaded_by core pair false true) rest (away n (copy_with_renewal pair.first) one)
       (blank n pair.second.processor (pair.first.era + 1) core)
   pair-none core n pair rest true true one two =
       both-none n (reloaded_by core pair true true) rest (blank n pair.first.processor (pair.first.era + 1) core)

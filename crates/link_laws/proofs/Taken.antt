@@ -10,7 +10,7 @@ use Rattle.schedule.specs.declared.event.Event.{Event}
 use Rattle.checkpoint_image.specs.declared.message.ImageMessage.{ImageMessage}
 use Rattle.checkpoint_image.specs.declared.receive.OpenerBlock.{OpenerBlock}
 use Rattle.checkpoint_image.specs.declared.receive.ReceiveBlock.{ReceiveBlock}
-use Rattle.checkpoint_image.specs.Receive.{Chosen, chosen, chosen_after, chosen_by, is_next, standing}
+use Rattle.checkpoint_image.specs.Receive.{Chosen, choice_among, chosen_after, chosen_by, is_next, request_standing}
 use Rattle.plain_semantics.specs.Openers.{openers_of}
 use Rattle.world_semantics.specs.declared.role.Role.{Role}
 use Rattle.world_semantics.specs.declared.role.Role.TheVariants.{Acting, Watching, Blank, Gone}
@@ -42,25 +42,26 @@ use Rattle.link_laws.proofs.Lists.{among-new, among-old, same-put}
 
 -- a request that waits is the one that is taken, or one of the rest
 chosen-or-rest : (table : ReceiveBlock) (waiting : List Request) (found : Chosen) (request : Request)
-    → chosen table waiting ≡ Some found → IsAmong request waiting
+    → choice_among table waiting ≡ Some found → IsAmong request waiting
     → (request ≡ found.request) ⊎ IsAmong request found.rest
 chosen-or-rest table [] found request is among = absurd among
 chosen-or-rest table (first ∷ rest) found request is among =
-    by (λ later there deeper. chosen-or-rest table rest later request there deeper) (is_next (standing table first))
-    (chosen table rest) refl is
+    by (λ later there deeper. chosen-or-rest table rest later request there deeper)
+    (is_next (request_standing table first))
+    (choice_among table rest) refl is
   where
-    up : ((later : Chosen) → chosen table rest ≡ Some later → IsAmong request rest
+    up : ((later : Chosen) → choice_among table rest ≡ Some later → IsAmong request rest
         → (request ≡ later.request) ⊎ IsAmong request later.rest)
-        → (later : Chosen) → chosen table rest ≡ Some later
+        → (later : Chosen) → choice_among table rest ≡ Some later
         → (request ≡ first) ⊎ IsAmong request rest
         → (request ≡ (chosen_after first later).request) ⊎ IsAmong request (chosen_after first later).rest
     up deeper later there (inl same) = inr (inl same)
     up deeper later there (inr more) =
         elim (deeper later there more) [ inl taken ↦ inl taken | inr waits ↦ inr (inr waits) ]
 
-    by : ((later : Chosen) → chosen table rest ≡ Some later → IsAmong request rest
+    by : ((later : Chosen) → choice_among table rest ≡ Some later → IsAmong request rest
         → (request ≡ later.request) ⊎ IsAmong request later.rest)
-        → (next : Bool) (later : Option Chosen) → chosen table rest ≡ later
+        → (next : Bool) (later : Option Chosen) → choice_among table rest ≡ later
         → chosen_by next first rest later ≡ Some found
         → (request ≡ found.request) ⊎ IsAmong request found.rest
     by deeper true later there is =
@@ -139,7 +140,7 @@ module _ (site : Site) (events : List Event) (w : World) (run : IsRun site event
     -- a copy takes the first request that stands next
     take-kept : (number : ℕ) (k : Which) (pair : Pair) → slice_get w.processes number ≡ Some pair
         → (copy_of k pair).role ≡ Acting → (found : Chosen) (block : OpenerBlock)
-        → chosen (copy_of k pair).core.receive (copy_of k pair).waiting ≡ Some found
+        → choice_among (copy_of k pair).core.receive (copy_of k pair).waiting ≡ Some found
         → slice_get (copy_of k pair).core.receive.openers found.request.opener ≡ Some block
         → (entered : Copy) (kept : List Act) (after : Around) → IsSeatedAs (copy_of k pair) entered
         → after.waiting ≡ found.rest → Waits w

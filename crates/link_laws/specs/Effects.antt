@@ -3,7 +3,7 @@ use Rattle.std.specs.Prelude.{◌≡◌, ℕ, ℤ, false, List, [], ◌∷◌, �
 use Rattle.gd_words.specs.Members.{IsAmong}
 use Rattle.gd_words.specs.declared.message.Reply.{Reply}
 use Rattle.gd_words.specs.declared.message.Request.{Request}
-use Rattle.checkpoint_image.specs.Receive.{is_waiting, standing}
+use Rattle.checkpoint_image.specs.Receive.{is_waiting, request_standing}
 use Rattle.standing_links.specs.Needs.{Name, Needs}
 use Rattle.world_semantics.specs.declared.role.Role.TheVariants.{Watching}
 use Rattle.world_semantics.specs.declared.which.Which.{Which}
@@ -51,4 +51,4 @@ pub record IsDropped (w : World) (request : Request) : Type 0 where
   pub there : slice_get w.processes number ≡ Some pair
   pub watching : (copy_of k pair).role ≡ Watching
   pub waited : IsAmong request (copy_of k pair).waiting
-  pub out : is_waiting (standing (copy_of k pair).core.receive request) ≡ false
+  pub out : is_waiting (request_standing (copy_of k pair).core.receive request) ≡ false

@@ -8,7 +8,7 @@ use Rattle.std.proofs.lemmas.List.{append_assoc, length-append}
 use Rattle.load_deck.specs.LoadText.{request_text, requests}
 use Rattle.deck_lines.specs.Lines.{lines_of, before_first}
 use Rattle.deck_lines.specs.SayingOf.{saying_of}
-use Rattle.deck_reader.specs.Outlined.{told_after, led_on, in_requests, broken}
+use Rattle.deck_reader.specs.Outlined.{told_after, led_on, in_requests, breach_at}
 use Rattle.deck_reader.specs.declared.outline.Outline.{Outline}
 use Rattle.deck_reader.specs.declared.outline.TerminalLines.{TerminalLines}
 use Rattle.deck_lines.specs.declared.saying.Saying.{Saying}
@@ -98,7 +98,7 @@ module _ (outline : Outline) (name : List ℕ) (terminal : TerminalLines) (numbe
       ∙ ap (λ (saying : Saying). led_on on (in_requests outline name (asked_so_far terminal number before) (line + 1)
       saying)) (request-said number before)
       ∙ ap (λ (full : Bool). led_on on (if full then step.Broken
-      (broken outline (line + 1) (fault.Limit deck_limit.Requests)) else
+      (breach_at outline (line + 1) (fault.Limit deck_limit.Requests)) else
       step.Next (after_requests (suc before))))
       (lt-leb 1000 (length (each_below (request number) before))
       (subst (λ (n : ℕ). n < 1000) (sym (length-each (request number) before)) few))

@@ -3,7 +3,7 @@
 use Rattle.std.specs.Prelude.{ℕ, ◌==◌, ◌&&◌, Bool, nat_lt, if◌then◌else◌, List, length, map, replicate, slice_get}
 use Rattle.std.specs.Prelude.{Option, Some, None, true, false}
 use Rattle.world_semantics.specs.disc_device.specs.mirror.specs.Mirror.{is_failed, is_reviving}
-use Rattle.world_semantics.specs.disc_device.specs.mirror.specs.States.{failing_of, standing, states_copied}
+use Rattle.world_semantics.specs.disc_device.specs.mirror.specs.States.{failing_of, drive_state_at, states_copied}
 use Rattle.world_semantics.specs.disc_device.specs.mirror.specs.States.{states_failed, states_revived}
 use Rattle.world_semantics.specs.disc_device.specs.mirror.specs.declared.state.DriveState.{DriveState}
 use Rattle.world_semantics.specs.disc_device.specs.mirror.specs.declared.state.DriveState.TheVariants.{Working}
@@ -43,22 +43,24 @@ turned_by_failing LastOne drive states = Loses
 abbrev pub turned_by : DriveChange → ℕ → ℕ → List DriveState → Turned
 turned_by Break count drive states = turned_by_failing (failing_of states drive) drive states
 turned_by Revive count drive states =
-    if is_failed (standing states drive) then Turns (states_revived drive states) else Rests
+    if is_failed (drive_state_at states drive) then Turns (states_revived drive states) else Rests
 turned_by Copy count drive states =
-    if is_reviving (standing states drive) then Turns (states_copied count drive states) else Rests
+    if is_reviving (drive_state_at states drive) then Turns (states_copied count drive states) else Rests
 
 -- whether there are two drives, and this is one of them
 abbrev pub is_of_two : ℕ → List DriveState → Bool
 is_of_two drive states = length states == 2 && nat_lt drive 2
 
 -- the same of any drives: nothing where they aren't two
-abbrev pub turned : DriveChange → ℕ → ℕ → List DriveState → Turned
-turned change count drive states = if is_of_two drive states then turned_by change count drive states else Rests
+abbrev pub outcome_of_drive_change : DriveChange → ℕ → ℕ → List DriveState → Turned
+outcome_of_drive_change change count drive states =
+    if is_of_two drive states then turned_by change count drive states else Rests
 
 abbrev pub turned_at : DriveEvent → Option Pair → Option (List DriveState) → Turned
 turned_at event None states = Rests
 turned_at event (Some pair) None = Rests
-turned_at event (Some pair) (Some states) = turned event.change (length pair.sectors) event.drive states
+turned_at event (Some pair) (Some states) =
+    outcome_of_drive_change event.change (length pair.sectors) event.drive states
 
 -- what an event makes of the drives of the process that it names
 abbrev pub drives_turned : DriveEvent → List Pair → List (List DriveState) → Turned

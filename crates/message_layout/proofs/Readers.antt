@@ -1,7 +1,7 @@
 -- Each part of a message is read as it is written, and only so.
 use Rattle.std.proofs.Common.{◌≤◌, ◌<◌, ◌^◌, ◌≡◌, ℕ, ℤ, pos, List, [], ◌∷◌, ◌++◌, length, Some, None, refl, ap, sym}
 use Rattle.std.proofs.Common.{subst, ◌∙◌, append-nil}
-use Rattle.world_semantics.specs.process_semantics.specs.Words.{Front, whole, words_in, long, counted}
+use Rattle.world_semantics.specs.process_semantics.specs.Words.{Front, whole, words_in, long, with_count}
 use Rattle.world_semantics.specs.checkpoint_image.specs.Reading.{reply_in, longs_in}
 use Rattle.world_semantics.specs.checkpoint_image.proofs.Readers.{WasWritten, IsReader, number-reads, words-reads}
 use Rattle.world_semantics.specs.checkpoint_image.proofs.Readers.{sized-reads, both-reads}
@@ -19,7 +19,7 @@ IsAddress (process, opener) = (process ≤ 255) × (opener ≤ 32767)
 abbrev IsBody : ℕ × List ℤ → Type 0
 IsBody (number, words) = (number < 2 ^ 32) × IsShort words
 
-counted-reads : IsReader counted IsShort reply_in
+counted-reads : IsReader with_count IsShort reply_in
 counted-reads = sized-reads (λ words. words) (λ words. Unit {0}) length words_in 16 words-reads
 
 address-reads : IsReader (λ (process, opener). pos process ∷ pos opener ∷ []) IsAddress address_in
@@ -28,7 +28,7 @@ address-reads =
     (λ address. address.1)
     (λ address. refl) (λ process opener. refl) (λ process opener. refl)
 
-body-reads : IsReader (λ (number, words). long number ++ counted words) IsBody body_in
+body-reads : IsReader (λ (number, words). long number ++ with_count words) IsBody body_in
 body-reads =
     both-reads pair-reads counted-reads (λ number words. (number, words)) (λ body. body.0) (λ body. body.1)
     (λ body. refl) (λ number words. refl) (λ number words. refl)

@@ -7,7 +7,7 @@ use Rattle.change_layout.specs.gd_words.specs.declared.limits.TheConstants.{MOST
 use Rattle.change_layout.specs.tal_tree.specs.declared.site.Site.{Site}
 use Rattle.change_layout.specs.gd_words.specs.declared.message.Request.{Request}
 use Rattle.change_layout.specs.gd_words.specs.declared.message.Reply.{Reply}
-use Rattle.world_semantics.specs.process_semantics.specs.Words.{long, counted}
+use Rattle.world_semantics.specs.process_semantics.specs.Words.{long, with_count}
 use Rattle.alive_regroup.specs.declared.set.ProcessorSet.{ProcessorSet}
 use Rattle.world_semantics.specs.checkpoint_image.specs.declared.message.TakenMessage.{TakenMessage}
 use Rattle.world_semantics.specs.checkpoint_image.specs.Layout.{message_words, IsWithinLayout}
@@ -17,11 +17,11 @@ use Rattle.message_layout.specs.Messages.{NodeMessage, Carrying, Changing, Repor
 
 -- a request: the process that serves it, the opener's place there, its number, and its words with their count
 abbrev pub request_words : Request → List ℤ
-request_words request = pos request.process ∷ pos request.opener ∷ long request.number ++ counted request.words
+request_words request = pos request.process ∷ pos request.opener ∷ long request.number ++ with_count request.words
 
 -- a reply has the places of its request
 abbrev pub reply_words : Reply → List ℤ
-reply_words reply = pos reply.process ∷ pos reply.opener ∷ long reply.number ++ counted reply.words
+reply_words reply = pos reply.process ∷ pos reply.opener ∷ long reply.number ++ with_count reply.words
 
 -- that a checkpoint was taken: its process, era and number
 abbrev pub taken_words : TakenMessage → List ℤ

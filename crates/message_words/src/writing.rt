@@ -1,5 +1,5 @@
 ghost use Rattle.std.specs.Prelude.{◌≡◌, ◌≤◌, ◌∷◌, ◌++◌, length, pos, IfOk, OnOk};
-ghost use Rattle.message_layout.specs.process_semantics.specs.Words.{counted, long};
+ghost use Rattle.message_layout.specs.process_semantics.specs.Words.{with_count, long};
 ghost use Rattle.message_layout.specs.checkpoint_image.specs.Layout.{HasShortLists};
 ghost use Rattle.message_layout.specs.world_semantics.specs.Messages.{Asking, Checkpointing, Replying, Taking};
 ghost use Rattle.message_layout.specs.Layout.{words_of};
@@ -27,7 +27,7 @@ fn put_call(
     out: &mut List<i16>,
 ) -> Result<(), NoMemory>
     requires { opener ≤ 32767 }
-    ensures { OnOk result (out.new ≡ out.old ++ (pos process ∷ pos opener ∷ long number ++ counted words.now)) }
+    ensures { OnOk result (out.new ≡ out.old ++ (pos process ∷ pos opener ∷ long number ++ with_count words.now)) }
 {
     out.push(i16::from(process))?;
     out.push(opener as i16)?;

@@ -8,9 +8,11 @@ use Rattle.std.proofs.lemmas.List.{length-set, take-set-le, take_all, take_more_
 use Rattle.std.proofs.Math.Seq.{take-set-lt}
 use Rattle.std.proofs.lemmas.Option.{get_or_from_slice_get, slice_get_within}
 use Rattle.std.proofs.lemmas.List.Elements.{All-head, All-tail, All-cons, All-weaker, All-map}
-use Rattle.mirror.specs.Mirror.{DriveHeld, HasOf, IsMirror, Mirrors, after_copy, after_write, changed, content}
+use Rattle.mirror.specs.Mirror.{DriveHeld, HasOf, IsMirror, Mirrors, after_copy, after_write, drives_with_change}
+use Rattle.mirror.specs.Mirror.{content}
 use Rattle.mirror.specs.Mirror.{is_alive}
-use Rattle.mirror.specs.Mirror.{copied, copied_by, drives_of, is_working, state_at, state_in, state_of, takes_write}
+use Rattle.mirror.specs.Mirror.{drives_after_copy, copied_by, drives_of, is_working, state_at, state_in, state_of}
+use Rattle.mirror.specs.Mirror.{takes_write}
 use Rattle.mirror.specs.Sectors.{blank, blanks}
 use Rattle.mirror.specs.declared.state.DriveState.{DriveState}
 use Rattle.mirror.specs.declared.state.DriveState.TheVariants.{Working, Failed, Reviving}
@@ -110,7 +112,7 @@ mirror-written sector stored drives there mirror =
 -- the content stays where a drive that didn't work has all of it if it works then
 content-changed : (change : DriveHeld → DriveHeld) (all : List Stored) (drives : List DriveHeld) (drive : ℕ)
     (held : DriveHeld) → slice_get drives drive ≡ Some held → is_working held.state ≡ false
-    → Mirrors all (change held) → content drives ≡ all → content (changed change drive drives) ≡ all
+    → Mirrors all (change held) → content drives ≡ all → content (drives_with_change change drive drives) ≡ all
 content-changed change all [] drive held at idle part is = is
 content-changed change all (one ∷ others) zero held at idle part is =
     let same : one ≡ held = cc in
@@ -129,14 +131,14 @@ content-changed change all (one ∷ others) (suc drive) held at idle part is =
     by (is_working one.state) is (content-changed change all others drive held at idle part)
   where
     by : (b : Bool) → (if b then one.sectors else content others) ≡ all
-        → (content others ≡ all → content (changed change drive others) ≡ all)
-        → (if b then one.sectors else content (changed change drive others)) ≡ all
+        → (content others ≡ all → content (drives_with_change change drive others) ≡ all)
+        → (if b then one.sectors else content (drives_with_change change drive others)) ≡ all
     by true is rest = is
     by false is rest = rest is
 
 alive-changed : (change : DriveHeld → DriveHeld) (drives : List DriveHeld) (drive : ℕ) (held : DriveHeld)
     → slice_get drives drive ≡ Some held → is_working held.state ≡ false → is_alive drives ≡ true
-    → is_alive (changed change drive drives) ≡ true
+    → is_alive (drives_with_change change drive drives) ≡ true
 alive-changed change [] drive held at idle alive = alive
 alive-changed change (one ∷ others) zero held at idle alive =
     let same : one ≡ held = cc in
@@ -151,38 +153,39 @@ alive-changed change (one ∷ others) (suc drive) held at idle alive =
     by (is_working one.state) alive (alive-changed change others drive held at idle)
   where
     by : (b : Bool) → (b || is_alive others) ≡ true
-        → (is_alive others ≡ true → is_alive (changed change drive others) ≡ true)
-        → (b || is_alive (changed change drive others)) ≡ true
+        → (is_alive others ≡ true → is_alive (drives_with_change change drive others) ≡ true)
+        → (b || is_alive (drives_with_change change drive others)) ≡ true
     by true is rest = refl
     by false is rest = rest is
 
 parts-changed : (change : DriveHeld → DriveHeld) (all : List Stored) (drives : List DriveHeld) (drive : ℕ)
     (held : DriveHeld) → slice_get drives drive ≡ Some held → Mirrors all (change held) → All (Mirrors all) drives
-    → All (Mirrors all) (changed change drive drives)
+    → All (Mirrors all) (drives_with_change change drive drives)
 parts-changed change all [] drive held at part parts = parts
 parts-changed change all (one ∷ others) zero held at part parts =
     let same : one ≡ held = cc in
     All-cons (Mirrors all) (change one) others (subst (λ (h : DriveHeld). Mirrors all (change h)) (sym same) part)
     (All-tail (Mirrors all) one others parts)
 parts-changed change all (one ∷ others) (suc drive) held at part parts =
-    All-cons (Mirrors all) one (changed change drive others) (All-head (Mirrors all) one others parts)
+    All-cons (Mirrors all) one (drives_with_change change drive others) (All-head (Mirrors all) one others parts)
     (parts-changed change all others drive held at part (All-tail (Mirrors all) one others parts))
 
 -- the drives stay a mirror with the same content where one that didn't work changes to what has its part
 pub mirror-changed : (change : DriveHeld → DriveHeld) (drives : List DriveHeld) (drive : ℕ) (held : DriveHeld)
     → slice_get drives drive ≡ Some held → is_working held.state ≡ false → Mirrors (content drives) (change held)
     → IsMirror drives
-    → (content (changed change drive drives) ≡ content drives) × IsMirror (changed change drive drives)
+    → (content (drives_with_change change drive drives) ≡ content drives)
+    × IsMirror (drives_with_change change drive drives)
 mirror-changed change drives drive held at idle part mirror =
     let all = content drives in
-    let now : content (changed change drive drives) ≡ all =
+    let now : content (drives_with_change change drive drives) ≡ all =
     content-changed change all drives drive held at idle part refl in (
       now,
       record {
         alive = alive-changed change drives drive held at idle mirror.alive;
         some = subst (λ (xs : List Stored). 1 ≤ length xs) (sym now) mirror.some;
         few = subst (λ (xs : List Stored). length xs ≤ 64) (sym now) mirror.few;
-        parts = subst (λ (xs : List Stored). All (Mirrors xs) (changed change drive drives)) (sym now)
+        parts = subst (λ (xs : List Stored). All (Mirrors xs) (drives_with_change change drive drives)) (sym now)
             (parts-changed change all drives drive held at part mirror.parts);
       },
     )
@@ -222,20 +225,20 @@ part-at all drives drive held at parts =
 
 -- what a copied sector leaves: the drives that the definition says, with the same content, and still a mirror
 pub record IsCopied (now : List DriveHeld) (drive : ℕ) (after : List DriveHeld) : Type 0 where
-  pub drives : after ≡ copied drive now
+  pub drives : after ≡ drives_after_copy drive now
   pub kept : content after ≡ content now
   pub mirror : IsMirror after
 
 mirror-copied : (now : List DriveHeld) (drive next : ℕ) (stored : Stored) → Reviving next ≡ state_of now drive
     → slice_get (content now) next ≡ Some stored → IsMirror now
-    → IsCopied now drive (changed (after_copy next stored) drive now)
+    → IsCopied now drive (drives_with_change (after_copy next stored) drive now)
 mirror-copied now drive next stored reviving got mirror = by (slice_get now drive) refl reviving
   where
     same : get_or (content now) next blank ≡ stored
     same = get_or_from_slice_get (content now) next stored blank got
 
     by : (found : Option DriveHeld) → slice_get now drive ≡ found → Reviving next ≡ state_in found
-        → IsCopied now drive (changed (after_copy next stored) drive now)
+        → IsCopied now drive (drives_with_change (after_copy next stored) drive now)
     by None at is = absurd (cc)
     by (Some held) at is =
         let part : Mirrors (content now) held = part-at (content now) now drive held at mirror.parts in
@@ -247,13 +250,13 @@ mirror-copied now drive next stored reviving got mirror = by (slice_get now driv
         let left = mirror-changed (after_copy next stored) now drive held at (ap is_working (sym is)) holds mirror in
         record {
           drives = sym (ap (λ (s : DriveState). copied_by s drive now) (sym reviving)
-              ∙ ap (λ (x : Stored). changed (after_copy next x) drive now) same);
+              ∙ ap (λ (x : Stored). drives_with_change (after_copy next x) drive now) same);
           kept = left.0;
           mirror = left.1;
         }
 
 first-changed : (change : DriveHeld → DriveHeld) (first : DriveHeld) (second : Option DriveHeld)
-    → drives_of (change first) second ≡ changed change 0 (drives_of first second)
+    → drives_of (change first) second ≡ drives_with_change change 0 (drives_of first second)
 first-changed change first None = refl
 first-changed change first (Some second) = refl
 
@@ -264,7 +267,7 @@ pub first-copied : (now : List DriveHeld) (drive next : ℕ) (stored : Stored) (
     → IsMirror now → IsCopied now drive (drives_of after second)
 first-copied now drive next stored sectors first second after view place reviving whole got is mirror =
     subst (IsCopied now drive)
-    (ap₂ (λ (d : ℕ) (ds : List DriveHeld). changed (after_copy next stored) d ds) place (sym view)
+    (ap₂ (λ (d : ℕ) (ds : List DriveHeld). drives_with_change (after_copy next stored) d ds) place (sym view)
     ∙ sym (first-changed (after_copy next stored) first second) ∙ ap (λ (h : DriveHeld). drives_of h second) (sym is))
     (mirror-copied now drive next stored reviving (ap (λ (xs : List Stored). slice_get xs next) (sym whole) ∙ got)
     mirror)
@@ -276,7 +279,7 @@ pub second-copied : (now : List DriveHeld) (drive next : ℕ) (stored : Stored) 
     → IsMirror now → IsCopied now drive (first ∷ after ∷ [])
 second-copied now drive next stored sectors first second after view place reviving whole got is mirror =
     subst (IsCopied now drive)
-    (ap₂ (λ (d : ℕ) (ds : List DriveHeld). changed (after_copy next stored) d ds) place (sym view)
+    (ap₂ (λ (d : ℕ) (ds : List DriveHeld). drives_with_change (after_copy next stored) d ds) place (sym view)
     ∙ ap (λ (h : DriveHeld). first ∷ h ∷ []) (sym is))
     (mirror-copied now drive next stored reviving (ap (λ (xs : List Stored). slice_get xs next) (sym whole) ∙ got)
     mirror)

@@ -75,10 +75,10 @@ drives_of first None = first ∷ []
 drives_of first (Some second) = first ∷ second ∷ []
 
 -- the drives where one is changed
-abbrev pub changed : (DriveHeld → DriveHeld) → ℕ → List DriveHeld → List DriveHeld
-changed change drive [] = []
-changed change zero (held ∷ others) = change held ∷ others
-changed change (suc drive) (held ∷ others) = held ∷ changed change drive others
+abbrev pub drives_with_change : (DriveHeld → DriveHeld) → ℕ → List DriveHeld → List DriveHeld
+drives_with_change change drive [] = []
+drives_with_change change zero (held ∷ others) = change held ∷ others
+drives_with_change change (suc drive) (held ∷ others) = held ∷ drives_with_change change drive others
 
 -- The beginning
 
@@ -104,8 +104,8 @@ after_write sector stored held =
     if takes_write sector held.state then record held { sectors = slice_set held.sectors sector stored } else held
 
 -- the drives after a write, which changes nothing where the content has it already
-abbrev pub written : List DriveHeld → ℕ → List ℤ → ℕ → List DriveHeld
-written drives sector words number =
+abbrev pub drives_after_write : List DriveHeld → ℕ → List ℤ → ℕ → List DriveHeld
+drives_after_write drives sector words number =
     if is_written (content drives) sector number then drives else map
     (after_write sector (record { words = words; number = number })) drives
 
@@ -127,14 +127,14 @@ abbrev pub other_than : ℕ → ℕ
 other_than zero = 1
 other_than (suc drive) = 0
 
-abbrev pub failing : List DriveHeld → ℕ → Failing
-failing drives drive = failing_by (state_of drives drive) (state_of drives (other_than drive))
+abbrev pub outcome_of_failing : List DriveHeld → ℕ → Failing
+outcome_of_failing drives drive = failing_by (state_of drives drive) (state_of drives (other_than drive))
 
 -- the drives after that came of failing one
-abbrev pub failed : Failing → ℕ → List DriveHeld → List DriveHeld
-failed Done drive drives = changed after_fail drive drives
-failed AlreadyFailed drive drives = drives
-failed LastOne drive drives = drives
+abbrev pub drives_after_fail : Failing → ℕ → List DriveHeld → List DriveHeld
+drives_after_fail Done drive drives = drives_with_change after_fail drive drives
+drives_after_fail AlreadyFailed drive drives = drives
+drives_after_fail LastOne drive drives = drives
 
 abbrev pub is_failed : DriveState → Bool
 is_failed Failed = true
@@ -145,8 +145,9 @@ abbrev pub after_revive : DriveHeld → DriveHeld
 after_revive held = record { state = Reviving 0; sectors = blanks (length held.sectors) }
 
 -- the drives after one was revived, where it had failed
-abbrev pub revived : ℕ → List DriveHeld → List DriveHeld
-revived drive drives = if is_failed (state_of drives drive) then changed after_revive drive drives else drives
+abbrev pub drives_after_revive : ℕ → List DriveHeld → List DriveHeld
+drives_after_revive drive drives =
+    if is_failed (state_of drives drive) then drives_with_change after_revive drive drives else drives
 
 -- Copying
 
@@ -165,10 +166,10 @@ after_copy next stored held =
 
 abbrev pub copied_by : DriveState → ℕ → List DriveHeld → List DriveHeld
 copied_by (Reviving next) drive drives =
-    changed (after_copy next (get_or (content drives) next blank)) drive drives
+    drives_with_change (after_copy next (get_or (content drives) next blank)) drive drives
 copied_by Working drive drives = drives
 copied_by Failed drive drives = drives
 
 -- the drives after the next sector of one that is revived was put on it as the content has it
-abbrev pub copied : ℕ → List DriveHeld → List DriveHeld
-copied drive drives = copied_by (state_of drives drive) drive drives
+abbrev pub drives_after_copy : ℕ → List DriveHeld → List DriveHeld
+drives_after_copy drive drives = copied_by (state_of drives drive) drive drives

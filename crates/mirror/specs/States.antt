@@ -15,12 +15,12 @@ standing_in None = Failed
 standing_in (Some state) = state
 
 -- how the drive at a place stands; one that isn't there has failed
-abbrev pub standing : List DriveState → ℕ → DriveState
-standing states drive = standing_in (slice_get states drive)
+abbrev pub drive_state_at : List DriveState → ℕ → DriveState
+drive_state_at states drive = standing_in (slice_get states drive)
 
 -- what comes of failing a drive
 abbrev pub failing_of : List DriveState → ℕ → Failing
-failing_of states drive = failing_by (standing states drive) (standing states (other_than drive))
+failing_of states drive = failing_by (drive_state_at states drive) (drive_state_at states (other_than drive))
 
 -- how the drives stand after that came of failing one
 abbrev pub states_failed : Failing → ℕ → List DriveState → List DriveState
@@ -34,7 +34,7 @@ states_revived_by false drive states = states
 
 -- how they stand after one was revived, where it had failed
 abbrev pub states_revived : ℕ → List DriveState → List DriveState
-states_revived drive states = states_revived_by (is_failed (standing states drive)) drive states
+states_revived drive states = states_revived_by (is_failed (drive_state_at states drive)) drive states
 
 abbrev pub states_copied_by : DriveState → ℕ → ℕ → List DriveState → List DriveState
 states_copied_by (Reviving next) count drive states = slice_set states drive (state_at (next + 1) count)
@@ -43,4 +43,4 @@ states_copied_by Failed count drive states = states
 
 -- how they stand after the next sector of one that is revived was copied, of so many sectors
 abbrev pub states_copied : ℕ → ℕ → List DriveState → List DriveState
-states_copied count drive states = states_copied_by (standing states drive) count drive states
+states_copied count drive states = states_copied_by (drive_state_at states drive) count drive states

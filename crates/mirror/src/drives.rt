@@ -1,7 +1,9 @@
 ghost use Rattle.std.specs.Prelude.{◌≡◌, ◌≤◌, ◌<◌, ◌↔◌, All, length, map, not, slice_get, Some, IfSome, IsTrue};
 ghost use Rattle.std.specs.Option.{option_map};
-ghost use Rattle.mirror.specs.Mirror.{IsMirror, after_write, all_working, content, copied, drives_of, failed, failing};
-ghost use Rattle.mirror.specs.Mirror.{is_failed, is_reviving, revived, sectors_of, state_of, written};
+ghost use Rattle.mirror.specs.Mirror.{IsMirror, after_write, all_working, content, drives_after_copy, drives_of};
+ghost use Rattle.mirror.specs.Mirror.{drives_after_fail, outcome_of_failing};
+ghost use Rattle.mirror.specs.Mirror.{is_failed, is_reviving, drives_after_revive, sectors_of, state_of};
+ghost use Rattle.mirror.specs.Mirror.{drives_after_write};
 ghost use Rattle.mirror.specs.Sectors.{blanks, is_written, stored_after};
 ghost use Rattle.gd_words.specs.declared.limits.TheConstants.{MOST_SECTORS};
 
@@ -144,7 +146,7 @@ impl<D: Drive> Drives<D> {
     /// sector is a later one. It tells whether this is a new write: one whose number stands there was done already.
     pub fn write(&mut self, sector: u8, words: &Sector, number: u32) -> bool
         requires { sector < length (content self.old) }
-        ensures drives { self.new ≡ written self.old sector words.now number }
+        ensures drives { self.new ≡ drives_after_write self.old sector words.now number }
         ensures content { content self.new ≡ stored_after (content self.old) sector words.now number }
         ensures new { result ≡ not (is_written (content self.old) sector number) }
     {
@@ -163,8 +165,8 @@ impl<D: Drive> Drives<D> {
     pub fn fail(&mut self, drive: u8) -> Failing
         requires two { length self.old ≡ 2 }
         requires there { drive < 2 }
-        ensures told { result ≡ failing self.old drive }
-        ensures drives { self.new ≡ failed result drive self.old }
+        ensures told { result ≡ outcome_of_failing self.old drive }
+        ensures drives { self.new ≡ drives_after_fail result drive self.old }
         ensures content { content self.new ≡ content self.old }
     {
         if self.state(drive) == DriveState::Failed {
@@ -186,7 +188,7 @@ impl<D: Drive> Drives<D> {
         requires two { length self.old ≡ 2 }
         requires there { drive < 2 }
         ensures told { result ≡ is_failed (state_of self.old drive) }
-        ensures drives { self.new ≡ revived drive self.old }
+        ensures drives { self.new ≡ drives_after_revive drive self.old }
         ensures content { content self.new ≡ content self.old }
     {
         if self.state(drive) != DriveState::Failed {
@@ -205,7 +207,7 @@ impl<D: Drive> Drives<D> {
         requires two { length self.old ≡ 2 }
         requires there { drive < 2 }
         ensures told { result ≡ is_reviving (state_of self.old drive) }
-        ensures drives { self.new ≡ copied drive self.old }
+        ensures drives { self.new ≡ drives_after_copy drive self.old }
         ensures content { content self.new ≡ content self.old }
         ensures mirror { IsMirror self.old }
     {

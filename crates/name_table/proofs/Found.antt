@@ -10,29 +10,31 @@ use Rattle.std.specs.Cmp.Lexicographic.{pointwise, bytes_decides, nat_list_eq_eq
 use Rattle.std.specs.List.{position_or_len}
 use Rattle.std.specs.Map.{keys_of, lookup}
 use Rattle.std.specs.Str.{bytes_eq}
-use Rattle.gd_words.specs.Spelling.{padded}
+use Rattle.gd_words.specs.Spelling.{text_with_zeros}
 use Rattle.gd_words.specs.contracts.name.NamePartialEq.TheImpl.{ghosts}
 use Rattle.name_table.specs.Entries.{Named, has_name, place_of}
 
 -- what stands before the padding
-unpadded : (x : List ℕ) → take (length x) (padded 6 x) ≡ x
+unpadded : (x : List ℕ) → take (length x) (text_with_zeros 6 x) ≡ x
 unpadded x = take-append_seam x (replicate (6 - length x) 0)
 
 -- names that are kept alike have one text
-one_text : (x y : List ℕ) → padded 6 x ≡ padded 6 y → length x ≡ length y → x ≡ y
+one_text : (x y : List ℕ) → text_with_zeros 6 x ≡ text_with_zeros 6 y → length x ≡ length y → x ≡ y
 one_text x y bytes len = sym (unpadded x) ∙ ap₂ take len bytes ∙ unpadded y
 
 -- two names are the same where their texts are
 pub same_name : (x y : List ℕ) → ghosts.eq x y ≡ bytes_eq y x
 same_name x y =
-    by (pointwise nat_eq (padded 6 x) (padded 6 y)) (nat_eq (length x) (length y)) (bytes_eq y x) refl refl refl
+    by (pointwise nat_eq (text_with_zeros 6 x) (text_with_zeros 6 y)) (nat_eq (length x) (length y)) (bytes_eq y x)
+    refl refl refl
   where
-    by : (bytes len texts : Bool) → pointwise nat_eq (padded 6 x) (padded 6 y) ≡ bytes
+    by : (bytes len texts : Bool) → pointwise nat_eq (text_with_zeros 6 x) (text_with_zeros 6 y) ≡ bytes
         → nat_eq (length x) (length y) ≡ len → bytes_eq y x ≡ texts → (bytes && len) ≡ texts
     by true true true b l t = refl
     by true true false b l t =
         let one : x ≡ y =
-        one_text x y ((bytes_decides (padded 6 x) (padded 6 y)).0 b) (eqb-true (length x) (length y) l) in
+        one_text x y ((bytes_decides (text_with_zeros 6 x) (text_with_zeros 6 y)).0 b)
+        (eqb-true (length x) (length y) l) in
         absurd (true≢false (sym ((bytes_decides y x).1 (sym one)) ∙ t))
     by true false false b l t = refl
     by false len false b l t = refl
@@ -40,8 +42,9 @@ same_name x y =
         (sym (subst (λ z. nat_eq (length x) (length z) ≡ true) (sym ((bytes_decides y x).0 t))
         (nat_eq_equiv.refl (length x))) ∙ l))
     by false len true b l t = absurd (true≢false
-        (sym (subst (λ z. pointwise nat_eq (padded 6 x) (padded 6 z) ≡ true) (sym ((bytes_decides y x).0 t))
-        (nat_list_eq_equiv.refl (padded 6 x))) ∙ b))
+        (sym (subst (λ z. pointwise nat_eq (text_with_zeros 6 x) (text_with_zeros 6 z) ≡ true)
+        (sym ((bytes_decides y x).0 t))
+        (nat_list_eq_equiv.refl (text_with_zeros 6 x))) ∙ b))
 
 module _ {T : Type 0} (name : List ℕ) where
   -- as many names stand before it

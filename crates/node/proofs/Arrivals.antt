@@ -13,13 +13,14 @@ use Rattle.link_control.specs.Ends.{End, after_kind, handed_by_kind, sent_by_kin
 use Rattle.alive_regroup.specs.Watching as watching
 use Rattle.alive_regroup.specs.Watching.{Watching, changed_at}
 use Rattle.event_parts.specs.packet_wires.specs.Nodes.{Node, end_at}
-use Rattle.event_parts.specs.packet_wires.specs.Play.{completed}
-use Rattle.event_parts.specs.packet_wires.specs.Wires.{Wires, Midst, any_goes_over, arrive_at, arrived, at_end}
+use Rattle.event_parts.specs.packet_wires.specs.Play.{message_at_end}
+use Rattle.event_parts.specs.packet_wires.specs.Wires.{Wires, Midst, any_goes_over, arrive_at, midst_after_arrival}
+use Rattle.event_parts.specs.packet_wires.specs.Wires.{at_end}
 use Rattle.event_parts.specs.packet_wires.specs.Wires.{at_end_of, at_node}
 use Rattle.event_parts.specs.packet_wires.specs.Wires.{bus_of_answer, end_changed, heard_of, learns, nothing_sent}
 use Rattle.event_parts.specs.packet_wires.specs.Wires.{watch_changed}
 use Rattle.event_parts.specs.packet_wires.specs.Wires.{on_bus, with_bus, with_sent, without_packet}
-use Rattle.event_parts.specs.Parts.{carried_out, completed_by, delivered}
+use Rattle.event_parts.specs.Parts.{carried_out, completed_by, wires_after_delivery}
 use Rattle.node.specs.Calls.{address_if_alive, alive_address, arrive_by}
 use Rattle.node.proofs.Ends.{set-same}
 
@@ -68,13 +69,13 @@ module _ (name : BusName) (packet : Packet) where
 
     pub alive-arrived : (wires : Wires)
         → carried_out (learns packet.receiver (changed_at packet.sender watching.neighbour_after_alive)) wires
-        ≡ carried_out (arrived name packet) wires
+        ≡ carried_out (midst_after_arrival name packet) wires
     alive-arrived wires =
         ap (λ (midst : Midst). with_sent midst wires)
         (ap₂ (λ (k : PacketKind) (midst : Midst). learns packet.receiver (heard_of packet.sender k) midst) (sym alive)
         (sym (alive-node (nothing_sent wires.nodes) (slice_get wires.nodes packet.receiver) refl)))
 
-    pub alive-completed : (found : Option End) → None ≡ completed packet found
+    pub alive-completed : (found : Option End) → None ≡ message_at_end packet found
     alive-completed None = refl
     alive-completed (Some e) = sym (alive-handed e e.down)
 
@@ -82,7 +83,7 @@ module _ (name : BusName) (packet : Packet) where
   -- watch
   by-kind : (k : PacketKind) → packet.kind ≡ k → (heard_of packet.sender k ≡ (λ watch. watch)) → (wires : Wires)
       → carried_out (at_end packet.receiver packet.sender (arrive_by (bus_of_answer name k) packet)) wires
-      ≡ carried_out (arrived name packet) wires
+      ≡ carried_out (midst_after_arrival name packet) wires
   by-kind k is silent wires =
       ap (λ (midst : Midst). with_sent midst wires)
       (sym (ap (λ (heard : Watching → Watching). learns packet.receiver heard (at-end-by k)) silent
@@ -95,12 +96,12 @@ module _ (name : BusName) (packet : Packet) where
 
   pub piece-arrived : (number : ℕ) (piece : Piece) → packet.kind ≡ kind.Piece number piece → (wires : Wires)
       → carried_out (at_end packet.receiver packet.sender (arrive_by name packet)) wires
-      ≡ carried_out (arrived name packet) wires
+      ≡ carried_out (midst_after_arrival name packet) wires
   piece-arrived number piece is wires = by-kind (kind.Piece number piece) is refl wires
 
   pub receipt-arrived : (number : ℕ) → packet.kind ≡ kind.Acknowledgement number → (wires : Wires)
       → carried_out (at_end packet.receiver packet.sender (arrive_by bus.X packet)) wires
-      ≡ carried_out (arrived name packet) wires
+      ≡ carried_out (midst_after_arrival name packet) wires
   receipt-arrived number is wires = by-kind (kind.Acknowledgement number) is refl wires
 
 -- a packet that was looked at where it stood, and was an I'm-alive packet
@@ -116,7 +117,7 @@ module _ (name : BusName) (k : ℕ) (r s : ℕ) (wires : Wires) where
 
   pub delivered-alive : (found : Option Packet) → alive_address found ≡ Some (r, s)
       → (carried_out (learns r (changed_at s watching.neighbour_after_alive)) (without_packet name k wires)
-      ≡ delivered name k found wires) × (None ≡ completed_by found wires.nodes)
+      ≡ wires_after_delivery name k found wires) × (None ≡ completed_by found wires.nodes)
   delivered-alive None is = absurd cc
   delivered-alive (Some packet) is =
       let alive = address-alive packet packet.kind refl is in (

@@ -19,7 +19,7 @@ use Rattle.event_parts.specs.packet_wires.specs.Wires.{goes_over, learns, nothin
 use Rattle.event_parts.specs.packet_wires.specs.Wires.{with_bus}
 use Rattle.event_parts.specs.packet_wires.specs.Wires.{with_sent}
 use Rattle.event_parts.specs.Numbers.{CanPush}
-use Rattle.event_parts.specs.Parts.{carried_out, repeated}
+use Rattle.event_parts.specs.Parts.{carried_out, wires_after_repeat}
 use Rattle.event_parts.proofs.Numbers.{can-watch}
 use Rattle.node.specs.Calls.{both_go, told_at_end, with_end_changed, with_end_if, with_watch_changed}
 
@@ -129,7 +129,7 @@ can-checked x wires node there after is can =
 
 -- a packet that is repeated, where it was found
 pub repeated-is : (name : BusName) (found : Option Packet) (wires : Wires)
-    → with_bus name (sent_again found (on_bus name wires)) wires ≡ repeated name found wires
+    → with_bus name (sent_again found (on_bus name wires)) wires ≡ wires_after_repeat name found wires
 repeated-is bus.X None wires = refl
 repeated-is bus.X (Some packet) wires = refl
 repeated-is bus.Y None wires = refl

@@ -7,7 +7,7 @@ use Rattle.alive_regroup.specs.Watching as watching
 use Rattle.alive_regroup.specs.Watching.{Watching, is_held}
 use Rattle.event_parts.specs.packet_wires.specs.Lines.{first_held, line_pulled}
 use Rattle.event_parts.specs.packet_wires.specs.Nodes.{Node}
-use Rattle.event_parts.specs.packet_wires.specs.Wires.{nothing_sent, ticked}
+use Rattle.event_parts.specs.packet_wires.specs.Wires.{nothing_sent, midst_after_tick}
 use Rattle.event_parts.proofs.Watches.{ticked-once}
 use Rattle.node.specs.Calls.{with_watch_changed}
 
@@ -55,8 +55,8 @@ line-later x (Some node) = refl
 
 pub line-ticked : (processors x : ℕ) (nodes : List Node)
     → option_and_then (λ node. line_pulled x (with_watch_changed watching.after_tick node)) (slice_get nodes x)
-    ≡ option_and_then (line_pulled x) (slice_get (ticked processors x (nothing_sent nodes)).nodes x)
+    ≡ option_and_then (line_pulled x) (slice_get (midst_after_tick processors x (nothing_sent nodes)).nodes x)
 line-ticked processors x nodes =
     line-later x (slice_get nodes x)
     ∙ sym (ap (option_and_then (λ watch. first_held x watch 0 16)) (ticked-once x processors (nothing_sent nodes)))
-    ∙ sym (line-of x (slice_get (ticked processors x (nothing_sent nodes)).nodes x))
+    ∙ sym (line-of x (slice_get (midst_after_tick processors x (nothing_sent nodes)).nodes x))

@@ -9,16 +9,19 @@ ghost use Rattle.alive_regroup.specs.Watching.{changed_at};
 ghost use Rattle.event_parts.specs.packet_wires.specs.Idle.{holds_nothing};
 ghost use Rattle.event_parts.specs.packet_wires.specs.Lines.{line_pulled};
 ghost use Rattle.event_parts.specs.packet_wires.specs.Nodes.{Node, end_at, node_after_reload, others};
-ghost use Rattle.event_parts.specs.packet_wires.specs.Play.{completed, is_current_at};
-ghost use Rattle.event_parts.specs.packet_wires.specs.Wires.{alive_at, any_goes_over, arrived, at_end, checks, cut_off};
+ghost use Rattle.event_parts.specs.packet_wires.specs.Play.{message_at_end, is_current_at};
+ghost use Rattle.event_parts.specs.packet_wires.specs.Wires.{alive_at, any_goes_over, midst_after_arrival, at_end};
+ghost use Rattle.event_parts.specs.packet_wires.specs.Wires.{checks, cut_off};
 ghost use Rattle.event_parts.specs.packet_wires.specs.Wires.{declares};
 ghost use Rattle.event_parts.specs.packet_wires.specs.Wires.{down_at, for_each, goes_again, goes_over, learns};
 ghost use Rattle.event_parts.specs.packet_wires.specs.Wires.{nothing_sent, on_bus};
-ghost use Rattle.event_parts.specs.packet_wires.specs.Wires.{push_at, reports, resends, tells_alive, tick_at, ticked};
+ghost use Rattle.event_parts.specs.packet_wires.specs.Wires.{push_at, reports, resends, tells_alive, tick_at};
+ghost use Rattle.event_parts.specs.packet_wires.specs.Wires.{midst_after_tick};
 ghost use Rattle.event_parts.specs.packet_wires.specs.Wires.{wires_at_boot};
 ghost use Rattle.event_parts.specs.packet_wires.specs.Wires.{loaded_again, without_packet};
 ghost use Rattle.event_parts.specs.Numbers.{CanPush, CanReload, HasNumbersAt};
-ghost use Rattle.event_parts.specs.Parts.{carried_out, completed_by, delivered, is_current_in, repeated};
+ghost use Rattle.event_parts.specs.Parts.{carried_out, completed_by, wires_after_delivery, is_current_in};
+ghost use Rattle.event_parts.specs.Parts.{wires_after_repeat};
 ghost use Rattle.node.specs.Calls.{alive_address, arrive_by, both_go};
 
 use crate::node::Node;
@@ -98,7 +101,7 @@ impl PacketWires {
 
     /// Sends the packet at a position once more over its bus, where one is there.
     pub fn repeat(&mut self, bus: BusName, position: usize)
-        ensures { self.new ≡ repeated bus (slice_get (on_bus bus self.old) position) self.old }
+        ensures { self.new ≡ wires_after_repeat bus (slice_get (on_bus bus self.old) position) self.old }
     {
         match bus {
             BusName::X => {
@@ -233,7 +236,8 @@ impl PacketWires {
     pub fn hear_at(&mut self, bus: BusName, position: usize, receiver: u8, sender: u8)
         requires { alive_address (slice_get (on_bus bus self.old) position) ≡ Some (receiver, sender) }
         ensures completed { completed_by (slice_get (on_bus bus self.old) position) self.old.nodes ≡ None }
-        ensures after { self.new ≡ delivered bus position (slice_get (on_bus bus self.old) position) self.old }
+        ensures after { self.new ≡ wires_after_delivery bus position
+            (slice_get (on_bus bus self.old) position) self.old }
     {
         let _heard = self.take(bus, position);
         self.hear(receiver, sender);
@@ -243,8 +247,8 @@ impl PacketWires {
     pub fn arrive(&mut self, bus: BusName, packet: &Packet) -> Result<Option<List<i16>>, NoMemory>
         requires { HasNumbersAt packet.now.receiver packet.now.sender self.old.nodes }
         ensures completed { IfOk result (λ words. words
-            ≡ completed packet.now (end_at self.old.nodes packet.now.receiver packet.now.sender)) }
-        ensures after { OnOk result (self.new ≡ carried_out (arrived bus packet.now) self.old) }
+            ≡ message_at_end packet.now (end_at self.old.nodes packet.now.receiver packet.now.sender)) }
+        ensures after { OnOk result (self.new ≡ carried_out (midst_after_arrival bus packet.now) self.old) }
     {
         match &packet.kind {
             PacketKind::Alive => {
@@ -269,7 +273,7 @@ impl PacketWires {
     fn come_in(&mut self, bus: BusName, packet: &Packet) -> Result<Option<List<i16>>, NoMemory>
         requires { HasNumbersAt packet.now.receiver packet.now.sender self.old.nodes }
         ensures completed { IfOk result (λ words. words
-            ≡ completed packet.now (end_at self.old.nodes packet.now.receiver packet.now.sender)) }
+            ≡ message_at_end packet.now (end_at self.old.nodes packet.now.receiver packet.now.sender)) }
         ensures after { OnOk result (self.new ≡ carried_out
             (at_end packet.now.receiver packet.now.sender (arrive_by bus packet.now)) self.old) }
     {
@@ -307,7 +311,7 @@ impl PacketWires {
     #[inline(always)]
     pub fn tick(&mut self, from: u8, processors: u8) -> Result<(), NoMemory>
         requires { CanPush self.old.nodes }
-        ensures { OnOk result (self.new ≡ carried_out (ticked processors from) self.old) }
+        ensures { OnOk result (self.new ≡ carried_out (midst_after_tick processors from) self.old) }
     {
         self.tell_alive(from, processors);
         let holding = self.check(from, processors)?;
@@ -345,7 +349,8 @@ impl PacketWires {
         self.put_both(packet);
     }
 
-    /// A node checks, and reports what that changed. Answers whether an end of it holds something, outstanding or queued.
+    /// A node checks, and reports what that changed. Answers whether an end of it holds something, outstanding or
+    /// queued.
     #[inline(always)]
     fn check(&mut self, from: u8, processors: u8) -> Result<bool, NoMemory>
         requires { CanPush self.old.nodes }
@@ -489,7 +494,7 @@ impl PacketWires {
     #[inline(always)]
     pub fn line_after_tick(&self, node: u8) -> Option<u8>
         ensures { (processors : ℕ) → result ≡ option_and_then (line_pulled node)
-            (slice_get (ticked processors node (nothing_sent self.now.nodes)).nodes node) }
+            (slice_get (midst_after_tick processors node (nothing_sent self.now.nodes)).nodes node) }
     {
         let place = usize::from(node);
         if place >= self.nodes.len() {

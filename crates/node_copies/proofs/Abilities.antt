@@ -10,7 +10,7 @@ use Rattle.message_wires.specs.plain_semantics.specs.Openers.{openers_of}
 use Rattle.checkpoint_image.specs.declared.receive.OpenerBlock.{OpenerBlock}
 use Rattle.checkpoint_image.specs.declared.receive.ReceiveBlock.{ReceiveBlock}
 use Rattle.checkpoint_image.specs.declared.receive.RequestStanding.TheVariants.{Next}
-use Rattle.checkpoint_image.specs.Receive.{Chosen, chosen, holds, standing_by}
+use Rattle.checkpoint_image.specs.Receive.{Chosen, choice_among, holds, standing_by}
 use Rattle.process_control.specs.computed_changes.specs.Fitting.{depths_of}
 use Rattle.file_calls.specs.sync_ids.specs.Tables.{IsSound, Remembered, are_of_depths, can_hold, is_unanswered}
 use Rattle.file_calls.specs.sync_ids.proofs.Tables.{and-left, and-right, lengths}
@@ -37,7 +37,7 @@ there held None number e = absurd (cc)
 there held (Some block) number e = refl
 
 by-choice : (number : ℕ) (core : Core) (before : Around) (found : Option Chosen)
-    → chosen core.receive before.waiting ≡ found
+    → choice_among core.receive before.waiting ≡ found
     → is_some (own_take number core before found) ≡ is_some found
 by-choice number core before None e = refl
 by-choice number core before (Some found) e =
@@ -48,9 +48,9 @@ by-choice number core before (Some found) e =
 
 -- a copy can take where a request stands Next
 pub takes : (number : ℕ) (core : Core) (before : Around)
-    → is_some (own_take number core before (chosen core.receive before.waiting))
-    ≡ is_some (chosen core.receive before.waiting)
-takes number core before = by-choice number core before (chosen core.receive before.waiting) refl
+    → is_some (own_take number core before (choice_among core.receive before.waiting))
+    ≡ is_some (choice_among core.receive before.waiting)
+takes number core before = by-choice number core before (choice_among core.receive before.waiting) refl
 
 -- Answers
 

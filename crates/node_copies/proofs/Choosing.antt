@@ -5,7 +5,7 @@ use Rattle.gd_words.specs.declared.message.Request.{Request}
 use Rattle.checkpoint_image.specs.declared.receive.ReceiveBlock.{ReceiveBlock}
 use Rattle.checkpoint_image.specs.declared.receive.RequestStanding.{RequestStanding}
 use Rattle.checkpoint_image.specs.declared.receive.RequestStanding.TheVariants.{Next, InHand, Kept, Old, Ahead}
-use Rattle.checkpoint_image.specs.Receive.{Chosen, chosen, chosen_by, is_next, standing}
+use Rattle.checkpoint_image.specs.Receive.{Chosen, choice_among, chosen_by, is_next, request_standing}
 use Rattle.kept_acts.specs.world_semantics.proofs.Lists.{some-same}
 
 is-next : (s : RequestStanding) → is_next s ≡ true → s ≡ Next
@@ -20,17 +20,18 @@ request_of found = option_map (λ (c : Chosen). c.request) found
 
 by-first : (table : ReceiveBlock) (first : Request) (rest : List Request) (next : Bool) (later : Option Chosen)
     (request : Request)
-    → is_next (standing table first) ≡ next → (request_of later ≡ Some request → standing table request ≡ Next)
-    → request_of (chosen_by next first rest later) ≡ Some request → standing table request ≡ Next
+    → is_next (request_standing table first) ≡ next
+    → (request_of later ≡ Some request → request_standing table request ≡ Next)
+    → request_of (chosen_by next first rest later) ≡ Some request → request_standing table request ≡ Next
 by-first table first rest true later request next deeper e =
-    subst (λ (r : Request). standing table r ≡ Next) (some-same e) (is-next (standing table first) next)
+    subst (λ (r : Request). request_standing table r ≡ Next) (some-same e) (is-next (request_standing table first) next)
 by-first table first rest false None request next deeper e = absurd (cc)
 by-first table first rest false (Some c) request next deeper e = deeper e
 
 pub chosen-next : (table : ReceiveBlock) (waiting : List Request) (request : Request)
-    → request_of (chosen table waiting) ≡ Some request
-    → standing table request ≡ Next
+    → request_of (choice_among table waiting) ≡ Some request
+    → request_standing table request ≡ Next
 chosen-next table [] request e = absurd (cc)
 chosen-next table (first ∷ rest) request e =
-    by-first table first rest (is_next (standing table first)) (chosen table rest) request refl
+    by-first table first rest (is_next (request_standing table first)) (choice_among table rest) request refl
     (chosen-next table rest request) e

@@ -4,12 +4,12 @@ use Rattle.std.proofs.Common.{refl, ap, subst, sym, ◌∙◌, append_assoc, ari
 use Rattle.std.proofs.lemmas.List.{append-nil}
 use Rattle.gd_words.specs.declared.message.Reply.{Reply}
 use Rattle.gd_words.specs.declared.message.Request.{Request}
-use Rattle.checkpoint_image.specs.Receive.{standing}
+use Rattle.checkpoint_image.specs.Receive.{request_standing}
 use Rattle.checkpoint_image.specs.declared.receive.ReceiveBlock.{ReceiveBlock}
 use Rattle.checkpoint_image.specs.declared.receive.RequestStanding.{RequestStanding}
 use Rattle.checkpoint_image.specs.declared.receive.RequestStanding.TheVariants.{Next, InHand, Kept, Old, Ahead}
 use Rattle.file_calls.specs.Queue.{Queue}
-use Rattle.file_calls.specs.Takeover.{Settled, Settles, no_more, one_more, settled, settled_by}
+use Rattle.file_calls.specs.Takeover.{Settled, Settles, no_more, one_more, settlement_of, settled_by}
 use Rattle.kept_acts.specs.world_semantics.specs.Messages.{Replying, Sending, sent_at}
 
 -- what was settled so far: the replies that were told, before which those come that are still to be
@@ -48,8 +48,8 @@ told-more node before told sent reply so =
 
 pub more-settled : (table : ReceiveBlock) (node : ℕ) (first now next : Queue) (before told more : List Sending)
     (reply : Reply)
-    → SettledSoFar table node first now before told → Some reply ≡ (settled table now.requests).reply
-    → next.requests ≡ (settled table now.requests).rest → next.openers ≡ now.openers
+    → SettledSoFar table node first now before told → Some reply ≡ (settlement_of table now.requests).reply
+    → next.requests ≡ (settlement_of table now.requests).rest → next.openers ≡ now.openers
     → more ≡ told ++ record { node = node; message = Replying reply } ∷ []
     → SettledSoFar table node first next before more
 more-settled table node first now next before told more reply far some rest openers so = record {
@@ -65,13 +65,13 @@ more-settled table node first now next before told more reply far some rest open
 
 -- the replies and the requests at the end
 pub all-settled : (table : ReceiveBlock) (node : ℕ) (first now next : Queue) (before told : List Sending)
-    → (far : SettledSoFar table node first now before told) → None ≡ (settled table now.requests).reply
-    → next.requests ≡ (settled table now.requests).rest → Settles table first.requests far.sent next.requests
+    → (far : SettledSoFar table node first now before told) → None ≡ (settlement_of table now.requests).reply
+    → next.requests ≡ (settlement_of table now.requests).rest → Settles table first.requests far.sent next.requests
 all-settled table node first now next before told far none rest =
     subst (λ (end : List Request). Settles table first.requests far.sent end) (sym rest)
-    (subst (λ (all : List Reply). Settles table first.requests all (settled table now.requests).rest)
+    (subst (λ (all : List Reply). Settles table first.requests all (settlement_of table now.requests).rest)
     (append-nil far.sent)
-    (far.later [] (settled table now.requests).rest (no_more (sym none))))
+    (far.later [] (settlement_of table now.requests).rest (no_more (sym none))))
 
 -- Each reply leaves fewer requests
 
@@ -91,13 +91,14 @@ fewer-by request rest later Old few =
     record { most = omega (arith, few.most); less = λ some. let most = few.most in omega (arith, most) }
 fewer-by request rest later (Kept words) few = record { most = omega arith; less = λ some. omega arith }
 
-fewer : (table : ReceiveBlock) (waiting : List Request) → Fewer waiting (settled table waiting)
+fewer : (table : ReceiveBlock) (waiting : List Request) → Fewer waiting (settlement_of table waiting)
 fewer table [] = record { most = omega arith; less = λ some. absurd (cc) }
-fewer table (request ∷ rest) = fewer-by request rest (settled table rest) (standing table request) (fewer table rest)
+fewer table (request ∷ rest) =
+    fewer-by request rest (settlement_of table rest) (request_standing table request) (fewer table rest)
 
 pub fewer-left : (table : ReceiveBlock) (now next : Queue) (reply : Reply)
-    → Some reply ≡ (settled table now.requests).reply
-    → next.requests ≡ (settled table now.requests).rest → length next.requests < length now.requests
+    → Some reply ≡ (settlement_of table now.requests).reply
+    → next.requests ≡ (settlement_of table now.requests).rest → length next.requests < length now.requests
 fewer-left table now next reply some rest =
     subst (λ (left : List Request). length left < length now.requests) (sym rest)
     ((fewer table now.requests).less (ap (λ (o : Option Reply). is_some o) (sym some)))

@@ -2,12 +2,12 @@ ghost use Rattle.std.specs.Prelude.{◌≡◌, ◌<◌, ◌++◌, ◌==◌, ◌&
 ghost use Rattle.gd_words.specs.Ranges.{HasNext};
 ghost use Rattle.process_semantics.specs.declared.point.Point.TheVariants.{Await};
 ghost use Rattle.process_semantics.specs.Process.{asked_file, asked_words, point};
-ghost use Rattle.checkpoint_image.specs.Receive.{repeated};
+ghost use Rattle.checkpoint_image.specs.Receive.{reply_sent_again};
 ghost use Rattle.file_calls.specs.Queue.{sent_again};
 ghost use Rattle.file_calls.specs.sync_ids.specs.Tables.{IsSound};
 ghost use Rattle.kept_acts.specs.world_semantics.specs.declared.role.Role.TheVariants.{Watching};
 ghost use Rattle.kept_acts.specs.world_semantics.specs.Core.{next_on};
-ghost use Rattle.kept_acts.specs.world_semantics.specs.Rules.{renewed, stopped_copy, taken_over, told_again};
+ghost use Rattle.kept_acts.specs.world_semantics.specs.Rules.{copy_with_renewal, stopped_copy, taken_over, told_again};
 ghost use Rattle.kept_acts.specs.world_semantics.specs.Passes.{after_told};
 ghost use Rattle.process_control.specs.computed_changes.specs.Changed.{core_changing};
 ghost use Rattle.process_control.specs.computed_changes.specs.Checkpoints.{core_applying, is_of_last};
@@ -34,7 +34,7 @@ impl NodeCopy {
     /// A request came to the copy, which acts.
     pub fn arrive(&mut self, request: Request) -> Arrival
         requires { request.opener < length self.old.depths }
-        ensures again { sent_again result ≡ repeated self.old.copy.core.receive request }
+        ensures again { sent_again result ≡ reply_sent_again self.old.copy.core.receive request }
         ensures copy { self.new ≡ with_changed self.old (after_request self.old.copy request) }
     {
         let receive = self.control.receive();
@@ -126,7 +126,7 @@ impl NodeCopy {
     /// 32 bits.
     pub fn renew(&mut self)
         requires { HasNext self.old.copy.era }
-        ensures { self.new ≡ with_changed self.old (renewed self.old.copy) }
+        ensures { self.new ≡ with_changed self.old (copy_with_renewal self.old.copy) }
     {
         self.control.renew();
     }

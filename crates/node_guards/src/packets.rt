@@ -1,7 +1,7 @@
 ghost use Rattle.std.specs.Prelude.{◌≡◌, pos, negsuc, true, false, [], ◌∷◌, replicate, Some, None};
 ghost use Rattle.packet_words.specs.declared.packet.PacketKind.TheVariants as kind;
 ghost use Rattle.packet_words.specs.Layout.{words_of, is_packet};
-ghost use Rattle.packet_words.specs.Pieces.{pieces, piece_at, joined, completed};
+ghost use Rattle.packet_words.specs.Pieces.{pieces, piece_at, words_with_piece, message_with_piece};
 ghost use Rattle.bus_model.specs.Packets.{sent, has_room};
 ghost use Rattle.node_guards.specs.Packets.{alive, packet_of, request_piece, message_of};
 
@@ -37,10 +37,11 @@ pub fn messages_are_cut_at_ten()
 
 /// Pieces are joined in order, and a last one ends its message.
 pub fn pieces_are_joined()
-    ensures goes_on { joined (record { last = false; words = pos 2 ∷ [] }) (pos 1 ∷ []) ≡ pos 1 ∷ pos 2 ∷ [] }
-    ensures not_yet { completed (record { last = false; words = pos 2 ∷ [] }) (pos 1 ∷ []) ≡ None }
-    ensures whole { completed (record { last = true; words = pos 2 ∷ [] }) (pos 1 ∷ []) ≡ Some (pos 1 ∷ pos 2 ∷ []) }
-    ensures next_begins { joined (record { last = true; words = pos 2 ∷ [] }) (pos 1 ∷ []) ≡ [] }
+    ensures goes_on { words_with_piece (record { last = false; words = pos 2 ∷ [] }) (pos 1 ∷ []) ≡ pos 1 ∷ pos 2 ∷ [] }
+    ensures not_yet { message_with_piece (record { last = false; words = pos 2 ∷ [] }) (pos 1 ∷ []) ≡ None }
+    ensures whole { message_with_piece (record { last = true; words = pos 2 ∷ [] }) (pos 1 ∷ [])
+        ≡ Some (pos 1 ∷ pos 2 ∷ []) }
+    ensures next_begins { words_with_piece (record { last = true; words = pos 2 ∷ [] }) (pos 1 ∷ []) ≡ [] }
 {}
 
 /// A bus with 4,095 packets has room for one more, and one with 4,096 has none.

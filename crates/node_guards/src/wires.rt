@@ -3,35 +3,37 @@ ghost use Rattle.packet_words.specs.declared.bus_name.BusName.TheVariants.{X, Y}
 ghost use Rattle.message_layout.specs.Messages.{Declaring};
 ghost use Rattle.packet_wires.specs.Nodes.{nodes_at_boot};
 ghost use Rattle.packet_wires.specs.Wires.{at_end, sends};
-ghost use Rattle.event_parts.specs.Parts.{carried_out, completed_by, delivered, repeated};
+ghost use Rattle.event_parts.specs.Parts.{carried_out, completed_by, wires_after_delivery, wires_after_repeat};
 ghost use Rattle.node.specs.Calls.{alive_address, arrive_by, both_go};
 ghost use Rattle.node_guards.specs.Nodes.{only_piece, receipt, wires_with};
 ghost use Rattle.node_guards.specs.Packets.{alive, message_of};
 
 /// A packet that is delivered leaves its bus, and its answer goes behind the others there.
 pub fn a_delivered_packet_is_answered()
-    ensures over_x { (delivered X 0 (Some (only_piece 0 1)) (wires_with (only_piece 0 1 ∷ alive 2 0 ∷ []) [])).x
+    ensures over_x { (wires_after_delivery X 0 (Some (only_piece 0 1))
+        (wires_with (only_piece 0 1 ∷ alive 2 0 ∷ []) [])).x
         ≡ alive 2 0 ∷ receipt 1 0 ∷ [] }
-    ensures over_y { (delivered Y 1 (Some (only_piece 0 1)) (wires_with [] (alive 2 0 ∷ only_piece 0 1 ∷ []))).y
+    ensures over_y { (wires_after_delivery Y 1 (Some (only_piece 0 1))
+        (wires_with [] (alive 2 0 ∷ only_piece 0 1 ∷ []))).y
         ≡ alive 2 0 ∷ receipt 1 0 ∷ [] }
-    ensures alive { (delivered X 0 (Some (alive 1 0)) (wires_with (alive 1 0 ∷ []) [])).x ≡ [] }
-    ensures nothing { delivered X 1 None (wires_with (alive 1 0 ∷ []) []) ≡ wires_with (alive 1 0 ∷ []) [] }
+    ensures alive { (wires_after_delivery X 0 (Some (alive 1 0)) (wires_with (alive 1 0 ∷ []) [])).x ≡ [] }
+    ensures nothing { wires_after_delivery X 1 None (wires_with (alive 1 0 ∷ []) []) ≡ wires_with (alive 1 0 ∷ []) [] }
 {}
 
 /// A message is whole with its last piece, once.
 pub fn a_message_is_whole_once()
     ensures first { completed_by (Some (only_piece 0 1)) (nodes_at_boot 3) ≡ Some (message_of 1) }
     ensures again { completed_by (Some (only_piece 0 1))
-        (delivered X 0 (Some (only_piece 0 1)) (wires_with (only_piece 0 1 ∷ []) [])).nodes ≡ None }
+        (wires_after_delivery X 0 (Some (only_piece 0 1)) (wires_with (only_piece 0 1 ∷ []) [])).nodes ≡ None }
     ensures alive { completed_by (Some (alive 0 1)) (nodes_at_boot 3) ≡ None }
     ensures nothing { completed_by None (nodes_at_boot 3) ≡ None }
 {}
 
 /// A packet that is repeated goes once more over its bus, behind the others.
 pub fn a_repeated_packet_stands_twice()
-    ensures there { repeated Y (Some (alive 0 1)) (wires_with [] (alive 0 1 ∷ alive 1 0 ∷ []))
+    ensures there { wires_after_repeat Y (Some (alive 0 1)) (wires_with [] (alive 0 1 ∷ alive 1 0 ∷ []))
         ≡ wires_with [] (alive 0 1 ∷ alive 1 0 ∷ alive 0 1 ∷ []) }
-    ensures nothing { repeated X None (wires_with [] (alive 0 1 ∷ [])) ≡ wires_with [] (alive 0 1 ∷ []) }
+    ensures nothing { wires_after_repeat X None (wires_with [] (alive 0 1 ∷ [])) ≡ wires_with [] (alive 0 1 ∷ []) }
 {}
 
 /// An alive packet is told by its receiver and its sender; it goes over both buses, an answer over the one that is

@@ -18,7 +18,7 @@ use Rattle.plain_semantics.specs.Openers.{openers_of, opener_of}
 use Rattle.plain_semantics.proofs.Writes.{call-next}
 use Rattle.checkpoint_image.specs.declared.receive.OpenerBlock.{OpenerBlock}
 use Rattle.checkpoint_image.specs.declared.receive.ReceiveBlock.{ReceiveBlock}
-use Rattle.checkpoint_image.specs.Receive.{Chosen, chosen, chosen_by, is_next, last_ones, standing}
+use Rattle.checkpoint_image.specs.Receive.{Chosen, choice_among, chosen_by, is_next, last_ones, request_standing}
 use Rattle.gd_words.specs.declared.message.Request.{Request}
 use Rattle.world_semantics.specs.Core.{Core, next_on}
 use Rattle.world_semantics.specs.Kept.{is_own, is_take, own_acts}
@@ -116,9 +116,10 @@ abbrev ChosenFew : ℕ → Option Chosen → Type 0
 ChosenFew before None = Unit {0}
 ChosenFew before (Some found) = length found.rest ≤ before
 
-chosen-few : (table : ReceiveBlock) (waiting : List Request) → ChosenFew (length waiting) (chosen table waiting)
+chosen-few : (table : ReceiveBlock) (waiting : List Request) → ChosenFew (length waiting) (choice_among table waiting)
 chosen-few table [] = tt
-chosen-few table (request ∷ rest) = by (is_next (standing table request)) (chosen table rest) (chosen-few table rest)
+chosen-few table (request ∷ rest) =
+    by (is_next (request_standing table request)) (choice_among table rest) (chosen-few table rest)
   where
     by : (next : Bool) (later : Option Chosen) → ChosenFew (length rest) later
         → ChosenFew (length (request ∷ rest)) (chosen_by next request rest later)
@@ -251,7 +252,7 @@ module _ (n : ℕ) (kinds : ℕ → Bool) (d : Bool) (number : ℕ) (core : Core
     shown = few-later;
     waiting = wait-later;
   }
-  own-within site point.Take = took (chosen core.receive before.waiting) (chosen-few core.receive before.waiting)
+  own-within site point.Take = took (choice_among core.receive before.waiting) (chosen-few core.receive before.waiting)
   own-within site point.Ask = ask site (process.asked_file core.state) (process.asked_words core.state)
   own-within site point.Answer = answer site core.receive.in_hand
   own-within site point.Device = record {

@@ -15,7 +15,7 @@ use Rattle.process_semantics.specs.declared.point.Point.{Point}
 use Rattle.process_semantics.specs.declared.point.Point.TheVariants as point
 use Rattle.process_semantics.specs.Process as process
 use Rattle.process_semantics.specs.Process.{ProcessState, Runs, Serves}
-use Rattle.process_semantics.specs.Image.{restored, restored_disc, restored_program}
+use Rattle.process_semantics.specs.Image.{state_from_words, restored_disc, restored_program}
 use Rattle.plain_semantics.specs.declared.slot.Opener.{Opener}
 use Rattle.plain_semantics.specs.Openers.{opener_of}
 use Rattle.plain_semantics.specs.Machine.{next_request}
@@ -24,7 +24,8 @@ use Rattle.checkpoint_image.specs.declared.message.Image.{Image}
 use Rattle.checkpoint_image.specs.declared.message.ImageMessage.{ImageMessage}
 use Rattle.checkpoint_image.specs.declared.message.TakenMessage.{TakenMessage}
 use Rattle.checkpoint_image.specs.declared.receive.ReceiveBlock.{ReceiveBlock}
-use Rattle.checkpoint_image.specs.Receive.{is_outdone, is_same_opener, is_waiting, standing, waits, came, repeated}
+use Rattle.checkpoint_image.specs.Receive.{is_outdone, is_same_opener, is_waiting, request_standing, waits, came}
+use Rattle.checkpoint_image.specs.Receive.{reply_sent_again}
 use Rattle.world_semantics.specs.declared.role.Role.{Role}
 use Rattle.world_semantics.specs.declared.role.Role.TheVariants.{Acting, Watching, Blank, Gone}
 use Rattle.world_semantics.specs.declared.which.Which.{Which}
@@ -79,7 +80,7 @@ waits-few waiting request = by (is_outdone request waiting)
 
 came-few : (table : ReceiveBlock) (waiting : List Request) (request : Request)
     → length (came table waiting request) ≤ length waiting + 1
-came-few table waiting request = by (is_waiting (standing table request))
+came-few table waiting request = by (is_waiting (request_standing table request))
   where
     by : (test : Bool) → length (if test then waits waiting request else waiting) ≤ length waiting + 1
     by true = waits-few waiting request
@@ -95,7 +96,7 @@ files-within n (named ∷ files) next few is =
     files-within n files (slice_set next named.file named.next) few.1 (each-set _ next named.file named.next is few.0)
 
 state-restored : (n : ℕ) (d hand : Bool) (s t : ProcessState) (image : Image) → StateWithin n d s
-    → ImageWithin n d image → restored s hand image.body ≡ Some t
+    → ImageWithin n d image → state_from_words s hand image.body ≡ Some t
     → StateWithin n d t
 state-restored n d hand (Runs code s) t image is few restores = by (restored_program code s hand image.body) restores
   where
@@ -113,9 +114,9 @@ put-within : (n : ℕ) (d : Bool) (core applied : Core) (image : Image) → Core
     → put_in core image ≡ Some applied
     → CoreWithin n d applied
 put-within n d core applied image is few puts =
-    by (restored core.state (is_some image.receive.in_hand) image.body) refl puts
+    by (state_from_words core.state (is_some image.receive.in_hand) image.body) refl puts
   where
-    by : (there : Option ProcessState) → restored core.state (is_some image.receive.in_hand) image.body ≡ there
+    by : (there : Option ProcessState) → state_from_words core.state (is_some image.receive.in_hand) image.body ≡ there
         → option_map (λ state. record {
           state = state;
           next = with_files image.files core.next;
@@ -230,7 +231,8 @@ module _ (n : ℕ) (kinds : ℕ → Bool) (w : World) (within : WorldWithin n ki
         (with-wait request.process k pair there _
         (came-few (copy_of k pair).core.receive (copy_of k pair).waiting request))
         (same-held request.process k pair there);
-    sendings = replies-within (n + 1) kinds (copy_of k pair).processor (repeated (copy_of k pair).core.receive request);
+    sendings = replies-within (n + 1) kinds (copy_of k pair).processor
+        (reply_sent_again (copy_of k pair).core.receive request);
   }
   asked-within request k pair there Watching = early-within request k pair there
   asked-within request k pair there Blank = early-within request k pair there

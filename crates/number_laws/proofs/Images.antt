@@ -8,7 +8,7 @@ use Rattle.gd_words.specs.Arithmetic.{wrap, IsWrapOf}
 use Rattle.gd_words.proofs.OneWord.{is_wrap}
 use Rattle.process_semantics.specs.declared.disc.DiscState.{DiscState}
 use Rattle.process_semantics.specs.Image.{disc_words, disc_with, restored_disc}
-use Rattle.process_semantics.specs.Words.{long, long_in, half_of, counted, counted_if, counted_in, whole}
+use Rattle.process_semantics.specs.Words.{long, long_in, half_of, with_count, counted_if, with_count_in, whole}
 use Rattle.checkpoint_image.specs.process_images.proofs.Fronts.{words-read}
 use Rattle.world_semantics.proofs.Lists.{some-same}
 
@@ -25,18 +25,18 @@ long-read n left low =
     let low_is = half-read (n % 65536) (omega arith) in
     rw (high_is, low_is) (ap (λ k. Some (k, left)) (omega arith))
 
-counted-none : (words : Option (List ℤ)) → counted_if words ≡ counted (unwrap_or words [])
+counted-none : (words : Option (List ℤ)) → counted_if words ≡ with_count (unwrap_or words [])
 counted-none None = refl
 counted-none (Some words) = refl
 
-counted-read : (words left : List ℤ) → counted_in (counted words ++ left)
+counted-read : (words left : List ℤ) → with_count_in (with_count words ++ left)
     ≡ (if nat_le (length words) 16 then Some (words, left) else None)
 counted-read words left =
     ap (λ found. if nat_le (length words) 16 then found else None) (words-read words left (length words) refl)
 
 -- the disc of a request and a number, with the reply that stands in words
 abbrev with_reply : Bool → List ℤ → ℕ → List ℤ → Option DiscState
-with_reply hand request number words = option_and_then (disc_with hand request number) (whole (counted_in words))
+with_reply hand request number words = option_and_then (disc_with hand request number) (whole (with_count_in words))
 
 abbrev with_number : Bool → List ℤ → List ℤ → Option DiscState
 with_number hand request words = option_and_then (λ (number, rest). with_reply hand request number rest) (long_in words)
@@ -52,7 +52,7 @@ disc-number true request (word ∷ words) number t is = sym (ap (λ (d : DiscSta
 
 reply-number : (hand : Bool) (request words : List ℤ) (number : ℕ) (t : DiscState)
     → with_reply hand request number words ≡ Some t → t.last_write ≡ number
-reply-number hand request words number t = by (whole (counted_in words))
+reply-number hand request words number t = by (whole (with_count_in words))
   where
     by : (reply : Option (List ℤ)) → option_and_then (disc_with hand request number) reply ≡ Some t
         → t.last_write ≡ number
@@ -73,7 +73,7 @@ restored-number hand s t low restores =
     behind : List ℤ
     behind = long s.last_write ++ counted_if s.reply
 
-    stand : disc_words s ≡ counted request ++ behind
+    stand : disc_words s ≡ with_count request ++ behind
     stand = append_assoc (counted_if s.request) (long s.last_write) (counted_if s.reply)
         ∙ ap (λ (front : List ℤ). front ++ behind) (counted-none s.request)
 

@@ -16,7 +16,7 @@ use Rattle.plain_semantics.specs.Machine.{next_request}
 use Rattle.plain_semantics.specs.Openers.{openers_of, opener_of}
 use Rattle.checkpoint_image.specs.declared.receive.OpenerBlock.{OpenerBlock}
 use Rattle.checkpoint_image.specs.declared.receive.ReceiveBlock.{ReceiveBlock}
-use Rattle.checkpoint_image.specs.Receive.{all_repeated, answered, holds, repeated, standing}
+use Rattle.checkpoint_image.specs.Receive.{all_repeated, answered, holds, reply_sent_again, request_standing}
 use Rattle.world_semantics.specs.declared.role.Role.{Role}
 use Rattle.world_semantics.specs.declared.role.Role.TheVariants.{Acting, Watching, Blank, Gone}
 use Rattle.world_semantics.specs.declared.which.Which.{Which}
@@ -59,9 +59,9 @@ sent-same node messages = length-map messages (λ message. record { node = node;
 repeated-all : (table : ReceiveBlock) (waiting : List Request) → length (all_repeated table waiting) ≤ length waiting
 repeated-all table [] = omega arith
 repeated-all table (request ∷ waiting) =
-    let one = repeated-few request (standing table request) in
+    let one = repeated-few request (request_standing table request) in
     let rest = repeated-all table waiting in
-    let sum = length-append (repeated table request) (all_repeated table waiting) in
+    let sum = length-append (reply_sent_again table request) (all_repeated table waiting) in
     omega (arith, one, rest, sum)
 
 told-copy : (n : ℕ) (copy : Copy) → length copy.waiting ≤ n

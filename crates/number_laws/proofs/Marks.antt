@@ -7,7 +7,7 @@ use Rattle.std.specs.List.{flat_map}
 use Rattle.gd_words.specs.declared.message.Request.{Request}
 use Rattle.gd_words.specs.declared.message.Reply.{Reply}
 use Rattle.tal_tree.specs.declared.site.Site.{Site}
-use Rattle.checkpoint_image.specs.Receive.{is_waiting, standing, still_waiting}
+use Rattle.checkpoint_image.specs.Receive.{is_waiting, request_standing, still_waiting}
 use Rattle.world_semantics.specs.declared.role.Role.{Role}
 use Rattle.world_semantics.specs.declared.role.Role.TheVariants.{Acting, Watching, Blank, Gone}
 use Rattle.world_semantics.specs.declared.which.Which.{Which}
@@ -59,7 +59,8 @@ module _ (n : ℕ) (kinds : ℕ → Bool) (w : World) (within : WorldWithin n ki
   -- Marks
 
   still : (copy : Copy) → length copy.waiting ≤ n → length (still_waiting copy.core.receive copy.waiting) ≤ n
-  still copy few = let less = filter-few (λ request. is_waiting (standing copy.core.receive request)) copy.waiting in
+  still copy few =
+      let less = filter-few (λ request. is_waiting (request_standing copy.core.receive request)) copy.waiting in
       omega (arith, less, few)
 
   -- a copy that takes over watched before

@@ -18,7 +18,7 @@ use Rattle.plain_semantics.specs.Machine.{next_request}
 use Rattle.checkpoint_image.specs.declared.message.ImageMessage.{ImageMessage}
 use Rattle.checkpoint_image.specs.declared.message.TakenMessage.{TakenMessage}
 use Rattle.checkpoint_image.specs.declared.receive.OpenerBlock.{OpenerBlock}
-use Rattle.checkpoint_image.specs.Receive.{Chosen, chosen}
+use Rattle.checkpoint_image.specs.Receive.{Chosen, choice_among}
 use Rattle.world_semantics.specs.declared.role.Role.{Role}
 use Rattle.world_semantics.specs.declared.role.Role.TheVariants.{Acting, Watching, Blank, Gone}
 use Rattle.world_semantics.specs.declared.which.Which.{Which}
@@ -158,7 +158,7 @@ module _ (site : Site) (number : ℕ) (core : Core) (before : Around) where
 
   own-named : (stands : Point) → OwnNames site (own_at site number core before stands)
   own-named point.Inner = tt
-  own-named point.Take = take-named (chosen core.receive before.waiting)
+  own-named point.Take = take-named (choice_among core.receive before.waiting)
   own-named point.Ask = askings site _ (on-file site _ _ (who.File number (process.asked_file core.state)))
   own-named point.Answer = answering-named core.receive.in_hand
   own-named point.Device = tt

@@ -20,7 +20,7 @@ use Rattle.checkpoint_image.specs.declared.message.TakenMessage.{TakenMessage}
 use Rattle.checkpoint_image.specs.declared.receive.OpenerBlock.{OpenerBlock}
 use Rattle.checkpoint_image.specs.declared.receive.RequestStanding.{RequestStanding}
 use Rattle.checkpoint_image.specs.declared.receive.RequestStanding.TheVariants.{Next, InHand, Kept, Old, Ahead}
-use Rattle.checkpoint_image.specs.Receive.{Chosen, chosen, repeated, repeated_by, standing}
+use Rattle.checkpoint_image.specs.Receive.{Chosen, choice_among, reply_sent_again, repeated_by, request_standing}
 use Rattle.world_semantics.specs.declared.role.Role.{Role}
 use Rattle.world_semantics.specs.declared.role.Role.TheVariants.{Acting, Watching, Blank, Gone}
 use Rattle.world_semantics.specs.declared.which.Which.{Which}
@@ -120,7 +120,7 @@ module _ (number : ℕ) (core : Core) (before : Around) where
 
   own-few : (site : Site) (stands : Point) → FewOwn (own_at site number core before stands)
   own-few site point.Inner = omega arith
-  own-few site point.Take = take-few (chosen core.receive before.waiting)
+  own-few site point.Take = take-few (choice_among core.receive before.waiting)
   own-few site point.Ask =
       asking-few (next_on core (process.asked_file core.state)) (process.asked_words core.state)
       (opener_of site (who.File number (process.asked_file core.state)))
@@ -301,9 +301,9 @@ module _ (site : Site) (w : World) where
     size = record { stopped = refl; processes = one-set request.process _; terminals = refl };
     downs = refl;
     reloads = refl;
-    few = sent-few (copy_of k pair).processor (map Replying (repeated (copy_of k pair).core.receive request))
-        (let same = length-map (repeated (copy_of k pair).core.receive request) Replying in
-        let one = repeated-few request (standing (copy_of k pair).core.receive request) in
+    few = sent-few (copy_of k pair).processor (map Replying (reply_sent_again (copy_of k pair).core.receive request))
+        (let same = length-map (reply_sent_again (copy_of k pair).core.receive request) Replying in
+        let one = repeated-few request (request_standing (copy_of k pair).core.receive request) in
         omega (arith, same, one));
   }
   asked-quiet request k pair Watching = early-quiet request k pair

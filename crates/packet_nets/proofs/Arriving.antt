@@ -10,7 +10,7 @@ use Rattle.tal_tree.specs.declared.site.Site.{Site}
 use Rattle.packet_words.specs.declared.packet.PacketKind.{PacketKind}
 use Rattle.packet_words.specs.declared.packet.PacketKind.TheVariants as kind
 use Rattle.channel_laws.specs.Net.{Net, IsWhole, ways_by}
-use Rattle.channel_laws.specs.Way.{Way, coming, telling}
+use Rattle.channel_laws.specs.Way.{Way, way_after_piece, way_after_acknowledgement}
 use Rattle.channel_laws.proofs.Nets.{put-all}
 use Rattle.world_semantics.specs.World.{is_running}
 use Rattle.packet_wires.specs.Parcels.{Parcel}
@@ -74,18 +74,21 @@ pub ways-pushes : (r s : ℕ) (k : PacketKind) (ways : ℕ → ℕ → Way) (a b
     → (ways_by r s k ways a b).pushes ≡ (ways a b).pushes
 ways-pushes r s kind.Alive ways a b = refl
 ways-pushes r s (kind.Piece number piece) ways a b =
-    put-all (λ a b w. w.pushes ≡ (ways a b).pushes) s r (coming number piece (ways s r)) ways refl (λ a b. refl) a b
+    put-all (λ a b w. w.pushes ≡ (ways a b).pushes) s r (way_after_piece number piece (ways s r)) ways refl
+    (λ a b. refl) a b
 ways-pushes r s (kind.Acknowledgement number) ways a b =
-    put-all (λ a b w. w.pushes ≡ (ways a b).pushes) r s (telling number (ways r s)) ways refl (λ a b. refl) a b
+    put-all (λ a b w. w.pushes ≡ (ways a b).pushes) r s (way_after_acknowledgement number (ways r s)) ways refl
+    (λ a b. refl) a b
 
 -- and it changes the output of one way at most
 pub ways-out : (r s : ℕ) (k : PacketKind) (ways : ℕ → ℕ → Way) (a b : ℕ) → (a ≡ s → b ≡ r → ⊥)
     → (ways_by r s k ways a b).out ≡ (ways a b).out
 ways-out r s kind.Alive ways a b n = refl
 ways-out r s (kind.Piece number piece) ways a b n =
-    ap (λ (w : Way). w.out) (put-other s r (coming number piece (ways s r)) ways a b n)
+    ap (λ (w : Way). w.out) (put-other s r (way_after_piece number piece (ways s r)) ways a b n)
 ways-out r s (kind.Acknowledgement number) ways a b n =
-    put-all (λ a b w. w.out ≡ (ways a b).out) r s (telling number (ways r s)) ways refl (λ a b. refl) a b
+    put-all (λ a b w. w.out ≡ (ways a b).out) r s (way_after_acknowledgement number (ways r s)) ways refl
+    (λ a b. refl) a b
 
 module _ {site : Site} {stopped : List Bool} {reloads : List ℕ} {owed sent : List Parcel} {n : Net}
     (o : Owes site stopped reloads owed sent n)

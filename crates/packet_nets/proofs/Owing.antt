@@ -7,7 +7,7 @@ use Rattle.gd_words.specs.Members.{IsAmong}
 use Rattle.gd_words.proofs.Among.{among-either}
 use Rattle.tal_tree.specs.declared.site.Site.{Site}
 use Rattle.channel_laws.specs.Net.{Net, put, stopped_net}
-use Rattle.channel_laws.specs.Way.{Way, pushing}
+use Rattle.channel_laws.specs.Way.{Way, way_after_push}
 use Rattle.channel_laws.proofs.Nets.{put-same}
 use Rattle.packet_nets.specs.Owing.{without_those_between}
 use Rattle.packet_wires.specs.Parcels.{Parcel}
@@ -64,7 +64,7 @@ module _ {site : Site} {stopped : List Bool} {reloads : List ℕ} {owed sent : L
   -- one more push
   pub push-owes : (x y : ℕ) (told : NodeMessage) → Fits site told → IsTrueOf stopped reloads sent x y told
       → (next : Net)
-      → next.ways ≡ put x y (pushing (words_of told) (n.ways x y)) n.ways
+      → next.ways ≡ put x y (way_after_push (words_of told) (n.ways x y)) n.ways
       → ((a b : ℕ) → (next.ends a b).down ≡ (n.ends a b).down)
       → Owes site stopped reloads (owed ++ parcels_by x y told) sent next
   push-owes x y told fits right next ways down = record {
@@ -84,7 +84,8 @@ module _ {site : Site} {stopped : List Bool} {reloads : List ℕ} {owed sent : L
         back = sym (down b a) ∙ opened.back;
       }
 
-      new : (a b : ℕ) (words : _) → IsAmong words (put x y (pushing (words_of told) (n.ways x y)) n.ways a b).pushes
+      new : (a b : ℕ) (words : _) → IsAmong words
+          (put x y (way_after_push (words_of told) (n.ways x y)) n.ways a b).pushes
           → IsPushed site stopped reloads sent a b words
       new a b words = by (place x y a b)
         where
@@ -98,43 +99,44 @@ module _ {site : Site} {stopped : List Bool} {reloads : List ℕ} {owed sent : L
             ]
           ]
 
-          by : Place x y a b → IsAmong words (put x y (pushing (words_of told) (n.ways x y)) n.ways a b).pushes
+          by : Place x y a b → IsAmong words (put x y (way_after_push (words_of told) (n.ways x y)) n.ways a b).pushes
               → IsPushed site stopped reloads sent a b words
           by (here s u) among =
               subst (λ c. IsPushed site stopped reloads sent c b words) (sym s)
               (subst (λ c. IsPushed site stopped reloads sent x c words) (sym u)
               (one (subst (λ (w : Way). IsAmong words w.pushes)
-              (put-same x y (pushing (words_of told) (n.ways x y)) n.ways)
-              (subst (λ c. IsAmong words (put x y (pushing (words_of told) (n.ways x y)) n.ways x c).pushes) u
-              (subst (λ c. IsAmong words (put x y (pushing (words_of told) (n.ways x y)) n.ways c b).pushes) s
+              (put-same x y (way_after_push (words_of told) (n.ways x y)) n.ways)
+              (subst (λ c. IsAmong words (put x y (way_after_push (words_of told) (n.ways x y)) n.ways x c).pushes) u
+              (subst (λ c. IsAmong words (put x y (way_after_push (words_of told) (n.ways x y)) n.ways c b).pushes) s
               among)))))
           by (there m) among = o.pushed a b words
               (subst (λ (w : Way). IsAmong words w.pushes)
-              (put-other x y (pushing (words_of told) (n.ways x y)) n.ways a b m) among)
+              (put-other x y (way_after_push (words_of told) (n.ways x y)) n.ways a b m) among)
 
       Owed : (a b : ℕ) → Way → Type 0
       Owed a b w = carried w.pushes ≡ carried w.out ++ between a b (owed ++ parcels_by x y told)
 
-      owes : (a b : ℕ) → IsOpen stopped n a b → Owed a b (put x y (pushing (words_of told) (n.ways x y)) n.ways a b)
+      owes : (a b : ℕ) → IsOpen stopped n a b
+          → Owed a b (put x y (way_after_push (words_of told) (n.ways x y)) n.ways a b)
       owes a b opened = by (place x y a b)
         where
-          by : Place x y a b → Owed a b (put x y (pushing (words_of told) (n.ways x y)) n.ways a b)
+          by : Place x y a b → Owed a b (put x y (way_after_push (words_of told) (n.ways x y)) n.ways a b)
           by (there m) =
-              subst (Owed a b) (sym (put-other x y (pushing (words_of told) (n.ways x y)) n.ways a b m))
+              subst (Owed a b) (sym (put-other x y (way_after_push (words_of told) (n.ways x y)) n.ways a b m))
               (o.owes a b opened ∙ ap (λ ms. carried (n.ways a b).out ++ ms)
               (sym (between-append a b owed (parcels_by x y told)
               ∙ ap (λ ms. between a b owed ++ ms) (by-elsewhere x y told a b m) ∙ append-nil (between a b owed))))
           by (here s u) =
-              subst (λ c. Owed c b (put x y (pushing (words_of told) (n.ways x y)) n.ways c b)) (sym s)
-              (subst (λ c. Owed x c (put x y (pushing (words_of told) (n.ways x y)) n.ways x c)) (sym u)
-              (subst (Owed x y) (sym (put-same x y (pushing (words_of told) (n.ways x y)) n.ways))
+              subst (λ c. Owed c b (put x y (way_after_push (words_of told) (n.ways x y)) n.ways c b)) (sym s)
+              (subst (λ c. Owed x c (put x y (way_after_push (words_of told) (n.ways x y)) n.ways x c)) (sym u)
+              (subst (Owed x y) (sym (put-same x y (way_after_push (words_of told) (n.ways x y)) n.ways))
               (one (subst (λ c. IsOpen stopped n x c) u (subst (λ c. IsOpen stopped n c b) s opened)))))
             where
               last : carried (words_of told ∷ []) ≡ between x y (parcels_by x y told)
               last = carried-one (words_of told) ∙ ap option_to_list (carried-of told fits.within)
                   ∙ sym (by-here x y told)
 
-              one : IsOpen stopped n x y → Owed x y (pushing (words_of told) (n.ways x y))
+              one : IsOpen stopped n x y → Owed x y (way_after_push (words_of told) (n.ways x y))
               one opened =
                   carried-append (n.ways x y).pushes (words_of told ∷ [])
                   ∙ ap (λ ms. ms ++ carried (words_of told ∷ [])) (o.owes x y opened)

@@ -30,8 +30,9 @@ use Rattle.message_layout.specs.Layout.{words_of}
 use Rattle.packet_wires.specs.Nodes.{Node, end_at, numbers, all_nodes, others}
 use Rattle.packet_wires.specs.Wires.{Midst, goes_over, any_goes_over, goes_again, at_node, at_end_of, at_end}
 use Rattle.packet_wires.specs.Wires.{end_changed, watch_changed, learns, for_each, push_at, sends, sends_all, posted}
-use Rattle.packet_wires.specs.Wires.{all_posted, bus_of_answer, heard_of, arrive_at, arrived, alive_at, tells_alive}
-use Rattle.packet_wires.specs.Wires.{reports, check_at, checks, tick_at, ticked, down_at, cut_off, declares}
+use Rattle.packet_wires.specs.Wires.{all_posted, bus_of_answer, heard_of, arrive_at, midst_after_arrival, alive_at}
+use Rattle.packet_wires.specs.Wires.{tells_alive}
+use Rattle.packet_wires.specs.Wires.{reports, check_at, checks, tick_at, midst_after_tick, down_at, cut_off, declares}
 use Rattle.packet_wires.specs.Play.{is_current_at}
 use Rattle.packet_nets.specs.Tied.{IsTied}
 use Rattle.packet_nets.specs.Passing.{GoesOut, IsPassing, IsCut}
@@ -439,7 +440,8 @@ module _ {a b : ℕ} {stopped : List Bool} {on : List Packet} {start : Net} wher
   pub come-passes : {came : List Packet} (name : BusName) (p : Packet) → IsAmong p on
       → is_running stopped p.receiver ≡ true → (midst : Midst)
       → is_current_at p (end_at midst.nodes p.receiver p.sender) ≡ true
-      → IsPassing a b stopped on start came midst → IsPassing a b stopped on start (p ∷ came) (arrived name p midst)
+      → IsPassing a b stopped on start came midst
+      → IsPassing a b stopped on start (p ∷ came) (midst_after_arrival name p midst)
   come-passes name p stands runs midst current P =
       watched-passes p.receiver (heard_of p.sender p.kind) (at_end p.receiver p.sender (arrive_at name p) midst)
       (end-comes name p stands runs midst current P)
@@ -539,7 +541,7 @@ module _ {a b : ℕ} {stopped : List Bool} {on : List Packet} {start : Net} wher
 
   pub ticked-passes : {came : List Packet} (processors x : ℕ) → is_running stopped x ≡ true → (midst : Midst)
       → IsPassing a b stopped on start came midst
-      → IsPassing a b stopped on start came (ticked processors x midst)
+      → IsPassing a b stopped on start came (midst_after_tick processors x midst)
   ticked-passes processors x runs midst P =
       each-passes (λ y. at_end x y (tick_at x y)) (λ y midst P. tick-passes x y runs midst P) all_nodes
       (checks processors x (tells_alive processors x midst))
@@ -646,7 +648,7 @@ module _ {a b : ℕ} {stopped : List Bool} {on : List Packet} {start : Net} (run
       each-cut ys among (at_end a y (tick_at a y) midst) (tick-passes a y runs midst P)
 
   pub ticked-cut : (processors : ℕ) (midst : Midst) → IsPassing a b stopped on start [] midst
-      → IsCut a b stopped on start (ticked processors a midst)
+      → IsCut a b stopped on start (midst_after_tick processors a midst)
   ticked-cut processors midst P =
       each-cut all_nodes (let low = running-low stopped b P.few other in
       subst (λ k. IsAmong k all_nodes) (omega arith) (numbers-have 0 17 b (omega (arith, low))))

@@ -20,7 +20,7 @@ use Rattle.link_control.specs.Ends.{after_tick_of, sent_by_tick, after_down, is_
 use Rattle.channel_laws.specs.Net.{Net, IsWhole, Runs, put, packet_in, pushed_net, arrived_net, ticked_net, alive_net}
 use Rattle.channel_laws.specs.Net.{marked_net, ways_by, pushes, ticks, lives, IsCurrent}
 use Rattle.channel_laws.specs.Net as net
-use Rattle.channel_laws.specs.Way.{Way, ticking, coming, telling}
+use Rattle.channel_laws.specs.Way.{Way, way_after_tick, way_after_piece, way_after_acknowledgement}
 use Rattle.channel_laws.proofs.Nets.{put-same, put-all, put-own, whole-goes, when-up}
 use Rattle.alive_regroup.specs.Watching as watching
 use Rattle.alive_regroup.specs.Watching.{Watching, changed_at}
@@ -34,9 +34,10 @@ use Rattle.message_layout.specs.Layout.{Fits, words_of}
 use Rattle.packet_wires.specs.Nodes.{Node, end_at}
 use Rattle.packet_wires.specs.Wires.{Wires, Midst, Outgoing, with_sent, goes_over, any_goes_over, goes_again, at_node}
 use Rattle.packet_wires.specs.Wires.{at_end_of, at_end, end_changed, learns, for_each, push_at, sends, posted}
-use Rattle.packet_wires.specs.Wires.{all_posted, bus_of_answer, heard_of, arrive_at, arrived, alive_at, tick_at}
+use Rattle.packet_wires.specs.Wires.{all_posted, bus_of_answer, heard_of, arrive_at, midst_after_arrival, alive_at}
+use Rattle.packet_wires.specs.Wires.{tick_at}
 use Rattle.packet_wires.specs.Wires.{down_at, cut_off}
-use Rattle.packet_wires.specs.Play.{completed, is_current_at}
+use Rattle.packet_wires.specs.Play.{message_at_end, is_current_at}
 use Rattle.packet_nets.specs.Tied.{IsTied, IsWatch, AreWatches}
 use Rattle.packet_nets.specs.Owing.{IsContent, IsTrueOf, IsOpen, Owes, Ties, TiesAtRest, on_both}
 use Rattle.packet_nets.proofs.Watches.{changed-watch, ends-watches, watched-watches}
@@ -300,9 +301,10 @@ module _ {site : Site} {stopped : List Bool} {reloads : List ℕ} {on : List Pac
         net = ticked_net x y T.net;
         tied = tick-tied T.tied x y node e at has runs (sent_by_tick e) refl d;
         owes = calm-owes T.owes (ticked_net x y T.net)
-            (λ a b. put-all (λ a b (w : Way). w.pushes ≡ (T.net.ways a b).pushes) x y (ticking (T.net.ways x y))
+            (λ a b. put-all (λ a b (w : Way). w.pushes ≡ (T.net.ways a b).pushes) x y (way_after_tick (T.net.ways x y))
             T.net.ways refl (λ a b. refl) a b)
-            (λ a b. put-all (λ a b (w : Way). w.out ≡ (T.net.ways a b).out) x y (ticking (T.net.ways x y)) T.net.ways
+            (λ a b. put-all (λ a b (w : Way). w.out ≡ (T.net.ways a b).out) x y
+            (way_after_tick (T.net.ways x y)) T.net.ways
             refl (λ a b. refl) a b)
             (down-put x y (after_tick (T.net.ends x y)) T.net.ends (tick-down (T.net.ends x y)));
         watches = subst (AreWatches site.processors)
@@ -553,10 +555,11 @@ gained n a b p e w live is up =
     by : (k : PacketKind) → (ways_by b a k n.ways a b).out ≡ (n.ways a b).out ++ option_to_list (handed_by_kind k e)
     by kind.Alive = sym (append-nil (n.ways a b).out)
     by (kind.Piece number piece) =
-        ap (λ (w : Way). w.out) (put-same a b (coming number piece (n.ways a b)) n.ways)
+        ap (λ (w : Way). w.out) (put-same a b (way_after_piece number piece (n.ways a b)) n.ways)
         ∙ ap (λ r. (n.ways a b).out ++ option_to_list (message_of_piece number piece r)) receiving
     by (kind.Acknowledgement number) =
-        put-all (λ c d (w : Way). w.out ≡ (n.ways c d).out) b a (telling number (n.ways b a)) n.ways refl (λ c d. refl)
+        put-all (λ c d (w : Way). w.out ≡ (n.ways c d).out) b a (way_after_acknowledgement number (n.ways b a)) n.ways
+        refl (λ c d. refl)
         a b ∙ sym (append-nil (n.ways a b).out)
 
 pub came : {site : Site} {stopped : List Bool} {reloads : List ℕ} {on : List Packet} {owed sent : List Parcel}
@@ -564,8 +567,8 @@ pub came : {site : Site} {stopped : List Bool} {reloads : List ℕ} {on : List P
     (T : Ties site stopped reloads on midst owed sent) (name : BusName) (p : Packet)
     → IsAmong p T.net.flight → is_running stopped p.receiver ≡ true
     → is_current_at p (end_at midst.nodes p.receiver p.sender) ≡ true
-    → Came site stopped reloads on (arrived name p midst) owed sent p.sender p.receiver
-    (completed p (end_at midst.nodes p.receiver p.sender))
+    → Came site stopped reloads on (midst_after_arrival name p midst) owed sent p.sender p.receiver
+    (message_at_end p (end_at midst.nodes p.receiver p.sender))
 came {site = site} {stopped = stopped} {reloads = reloads} {on = on} {owed = owed} {sent = sent} midst T name p among
     runs
     current = later (by_node (slice_get midst.nodes p.receiver) refl)
@@ -574,7 +577,7 @@ came {site = site} {stopped = stopped} {reloads = reloads} {on = on} {owed = owe
     r = p.receiver
 
     Here : Midst → Option End → Type 0
-    Here next e = Came site stopped reloads on next owed sent p.sender p.receiver (completed p e)
+    Here next e = Came site stopped reloads on next owed sent p.sender p.receiver (message_at_end p e)
 
     nothing : Here midst None
     nothing = record { net = T.net; tied = T.tied; arrived = hands_none T.owes; watches = T.watches; places = T.places }
@@ -646,7 +649,7 @@ came {site = site} {stopped = stopped} {reloads = reloads} {on = on} {owed = owe
     note (kind.Acknowledgement number) watch is = is
 
     later : Here (at_end p.receiver p.sender (arrive_at name p) midst) (end_at midst.nodes p.receiver p.sender)
-        → Here (arrived name p midst) (end_at midst.nodes p.receiver p.sender)
+        → Here (midst_after_arrival name p midst) (end_at midst.nodes p.receiver p.sender)
     later L = record {
       net = L.net;
       tied = watched-tied p.receiver (heard_of p.sender p.kind) L.tied;

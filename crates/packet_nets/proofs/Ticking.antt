@@ -27,7 +27,8 @@ use Rattle.packet_wires.specs.Nodes.{Node, end_at, numbers, all_nodes, others, n
 use Rattle.packet_wires.specs.Nodes.{nodes_at_boot}
 use Rattle.packet_wires.specs.Lines.{first_held, line_pulled}
 use Rattle.packet_wires.specs.Wires.{Midst, wires_at_boot, at_node, at_end, watch_changed, for_each, sends, sends_all}
-use Rattle.packet_wires.specs.Wires.{alive_at, tells_alive, reports, check_at, checks, tick_at, ticked, declares}
+use Rattle.packet_wires.specs.Wires.{alive_at, tells_alive, reports, check_at, checks, tick_at, midst_after_tick}
+use Rattle.packet_wires.specs.Wires.{declares}
 use Rattle.message_layout.specs.Layout.{Fits}
 use Rattle.packet_nets.specs.Tied.{IsWatch}
 use Rattle.packet_nets.specs.Owing.{Ties, TiesAtRest}
@@ -135,7 +136,7 @@ module _ {site : Site} {stopped : List Bool} {reloads : List ℕ} {on : List Pac
       (sends-ties midst x y (Reporting x set) runs (fits set refl) tt T)) T
 
   pub ticked-ties : (midst : Midst) → Ties site stopped reloads on midst owed sent
-      → Ties site stopped reloads on (ticked site.processors x midst) owed sent
+      → Ties site stopped reloads on (midst_after_tick site.processors x midst) owed sent
   ticked-ties midst T =
       each-ties (λ y. at_end x y (tick_at x y)) (λ y midst T. tick-ties midst x y runs T) all_nodes
       (checks site.processors x (tells_alive site.processors x midst))

@@ -7,7 +7,7 @@ ghost use Rattle.packet_words.specs.declared.packet.Packet.{Packet};
 ghost use Rattle.world_semantics.specs.World.{is_running};
 ghost use Rattle.message_layout.specs.Layout.{Fits};
 ghost use Rattle.packet_wires.specs.Parcels.{Parcel};
-ghost use Rattle.packet_wires.specs.Wires.{Midst, Wires, all_posted, cut_off, declares, loaded_again, ticked};
+ghost use Rattle.packet_wires.specs.Wires.{Midst, Wires, all_posted, cut_off, declares, loaded_again, midst_after_tick};
 ghost use Rattle.packet_wires.specs.Wires.{wires_at_boot, with_sent};
 ghost use Rattle.packet_nets.specs.Owing.{IsContent, Ties, TiesAtRest, on_both, without_those_between};
 ghost use Rattle.packet_nets.specs.Owing.{without_those_of};
@@ -34,7 +34,7 @@ pub fn ticks_owe_nothing_more()
         (owed : List Parcel)
         (sent : List Parcel) (node : ℕ)
         → is_running stopped node ≡ true → Ties site stopped reloads on midst owed sent
-        → Ties site stopped reloads on (ticked site.processors node midst) owed sent }
+        → Ties site stopped reloads on (midst_after_tick site.processors node midst) owed sent }
     ensures declare { (site : Site) (stopped : List Bool) (reloads : List ℕ) (on : List Packet) (midst : Midst)
         (owed : List Parcel)
         (sent : List Parcel) (node processor : ℕ)

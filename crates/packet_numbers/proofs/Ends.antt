@@ -11,7 +11,7 @@ use Rattle.packet_words.specs.declared.packet.PacketKind.{PacketKind}
 use Rattle.packet_words.specs.declared.packet.PacketKind.TheVariants as kind
 use Rattle.packet_words.specs.declared.piece.Piece.{Piece}
 use Rattle.packet_words.specs.Buses.{other_bus}
-use Rattle.packet_words.specs.Pieces.{joined}
+use Rattle.packet_words.specs.Pieces.{words_with_piece}
 use Rattle.link_control.specs.declared.channel.Resent.{Resent}
 use Rattle.link_control.specs.Ends.{End, Receiving, Sending, after_down, end_after_reload, incarnation_after, next_end}
 use Rattle.link_control.specs.Ends.{after_kind, after_packet, after_push, after_tick, new_sending, is_ended_by, is_idle}
@@ -32,7 +32,8 @@ use Rattle.site_machine.specs.packet_wires.specs.Wires.{Midst, goes_over, any_go
 use Rattle.site_machine.specs.packet_wires.specs.Wires.{at_end}
 use Rattle.site_machine.specs.packet_wires.specs.Wires.{end_changed, watch_changed, learns, for_each, push_at, sends}
 use Rattle.site_machine.specs.packet_wires.specs.Wires.{sends_all, posted}
-use Rattle.site_machine.specs.packet_wires.specs.Wires.{all_posted, bus_of_answer, heard_of, arrive_at, arrived}
+use Rattle.site_machine.specs.packet_wires.specs.Wires.{all_posted, bus_of_answer, heard_of, arrive_at}
+use Rattle.site_machine.specs.packet_wires.specs.Wires.{midst_after_arrival}
 use Rattle.site_machine.specs.packet_wires.specs.Wires.{alive_at, tells_alive}
 use Rattle.site_machine.specs.packet_wires.specs.Wires.{reports, check_at, checks, tick_at, down_at, cut_off, declares}
 use Rattle.site_machine.specs.Needs.{BearsReloads, times_loaded}
@@ -143,7 +144,10 @@ module _ (n : ℕ) (reloads : List ℕ) where
 
       keeps : (number : ℕ) (piece : Piece) (test : Bool)
           → GoesTo n reloads (record e {
-            receiving = if test then record { kept = e.receiving.kept + 1; part = joined piece e.receiving.part } else
+            receiving = if test then record {
+              kept = e.receiving.kept + 1;
+              part = words_with_piece piece e.receiving.part;
+            } else
                 e.receiving;
           })
       keeps number piece true =
@@ -254,7 +258,7 @@ module _ (n : ℕ) (reloads : List ℕ) where
 
   -- a packet comes first in its event, while all ends rest
   pub arrived-goes : (name : BusName) (packet : Packet) (midst : Midst) → OfEnds (RestsAt n reloads) midst.nodes
-      → AllGo (arrived name packet midst).nodes
+      → AllGo (midst_after_arrival name packet midst).nodes
   arrived-goes name packet midst rest =
       learns-go packet.receiver (heard_of packet.sender packet.kind)
       (at_end packet.receiver packet.sender (arrive_at name packet) midst)
@@ -306,7 +310,7 @@ module _ (n : ℕ) (reloads : List ℕ) where
           reports-go processors x (told_by_tick node.watch) (watch_changed x watching.after_tick node midst)
           (all-watch x node (watching.after_tick node.watch) midst.nodes is all)
 
-  pub ticked-goes : (processors x : ℕ) → Keeps (wires.ticked processors x)
+  pub ticked-goes : (processors x : ℕ) → Keeps (wires.midst_after_tick processors x)
   ticked-goes processors x midst all =
       each-goes (λ y. at_end x y (tick_at x y)) (λ y. ticking-goes x y) all_nodes
       (checks processors x (tells_alive processors x midst))

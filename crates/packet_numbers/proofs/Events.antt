@@ -28,10 +28,12 @@ use Rattle.site_machine.specs.message_layout.specs.Reading.{understood}
 use Rattle.site_machine.specs.packet_wires.specs.Nodes.{Node, all_nodes, end_at, never_reloaded, node_at_boot}
 use Rattle.site_machine.specs.packet_wires.specs.Nodes.{nodes_at_boot}
 use Rattle.site_machine.specs.packet_wires.specs.Parcels.{parcels_of}
-use Rattle.site_machine.specs.packet_wires.specs.Wires.{Wires, Midst, bus_named, arrived, ticked, cut_off}
+use Rattle.site_machine.specs.packet_wires.specs.Wires.{Wires, Midst, bus_named, midst_after_arrival, midst_after_tick}
+use Rattle.site_machine.specs.packet_wires.specs.Wires.{cut_off}
 use Rattle.site_machine.specs.packet_wires.specs.Play.{Packeted, Underway, underway, after_done, made_by, after_any}
 use Rattle.site_machine.specs.packet_wires.specs.Play.{marked_by}
-use Rattle.site_machine.specs.packet_wires.specs.Play.{marks, handed, handed_any, handed_words, completed, received}
+use Rattle.site_machine.specs.packet_wires.specs.Play.{marks, handed, handed_any, handed_words, message_at_end}
+use Rattle.site_machine.specs.packet_wires.specs.Play.{received}
 use Rattle.site_machine.specs.packet_wires.specs.Play.{deliver_acted}
 use Rattle.site_machine.specs.packet_wires.specs.Play.{lose_acted, repeat_acted, stop_acted, fail_acted, reload_acted}
 use Rattle.site_machine.specs.packet_wires.specs.Play.{comes_in}
@@ -153,8 +155,8 @@ module _ (n : ℕ) where
       where
         by : (comes : Bool) → Goes (if comes then received name packet (underway s) else underway s)
         by true =
-            words-go packet.receiver (completed packet (end_at s.wires.nodes packet.receiver packet.sender))
-            (record (underway s) { wires = arrived name packet (underway s).wires })
+            words-go packet.receiver (message_at_end packet (end_at s.wires.nodes packet.receiver packet.sender))
+            (record (underway s) { wires = midst_after_arrival name packet (underway s).wires })
             (arrived-goes n s.world.reloads name packet (underway s).wires rest)
         by false = all
 
@@ -170,10 +172,10 @@ module _ (n : ℕ) where
     tick-goes node = by (is_running s.world.stopped node)
       where
         by : (runs : Bool) → AnyGoes (if runs then pulls_its node
-            (record (underway s) { wires = ticked s.site.processors node (underway s).wires }) else Skips)
+            (record (underway s) { wires = midst_after_tick s.site.processors node (underway s).wires }) else Skips)
         by true =
-            pulls-go node (record (underway s) { wires = ticked s.site.processors node (underway s).wires })
-            (line_of node (record (underway s) { wires = ticked s.site.processors node (underway s).wires }))
+            pulls-go node (record (underway s) { wires = midst_after_tick s.site.processors node (underway s).wires })
+            (line_of node (record (underway s) { wires = midst_after_tick s.site.processors node (underway s).wires }))
             (ticked-goes n s.world.reloads s.site.processors node (underway s).wires all)
         by false = tt
 

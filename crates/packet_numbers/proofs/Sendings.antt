@@ -19,7 +19,7 @@ use Rattle.checkpoint_image.specs.declared.message.TakenMessage.{TakenMessage}
 use Rattle.site_machine.specs.message_layout.specs.change_layout.specs.Changing.{whole_of, whole_where}
 use Rattle.site_machine.specs.message_layout.specs.change_layout.specs.declared.message.ChangeMessage.{ChangeMessage}
 use Rattle.site_machine.specs.message_layout.specs.change_layout.specs.sync_ids.specs.Changes.{fits_change}
-use Rattle.checkpoint_image.specs.Receive.{repeated}
+use Rattle.checkpoint_image.specs.Receive.{reply_sent_again}
 use Rattle.world_semantics.specs.declared.role.Role.{Role}
 use Rattle.world_semantics.specs.declared.role.Role.TheVariants.{Acting, Watching, Blank, Gone}
 use Rattle.world_semantics.specs.declared.which.Which.{Which}
@@ -256,7 +256,7 @@ module _ (site : Site) (fit : IsFit site) (small : IsSmall site) (out : IsLaidOu
     request-within request k pair there Acting =
         let fair = fair-of request.process post.world.replies k pair
         (run-fair (played-run played) request.process pair there) in
-        let kept = repeated (copy_of k pair).core.receive request in
+        let kept = reply_sent_again (copy_of k pair).core.receive request in
         λ w. all-among w (repeated_at (copy_of k pair) request) (λ sending among.
         let from = among-map Replying kept sending.message
         (message-of (copy_of k pair).processor (map Replying kept) sending among) in

@@ -31,7 +31,7 @@ use Rattle.world_semantics.specs.World.{may_pass}
 use Rattle.world_semantics.specs.Kept.{own_acts}
 use Rattle.world_semantics.specs.Messages.{Message, Asking, Replying, Checkpointing, Taking, Sending, sent_at}
 use Rattle.world_semantics.specs.Own.{around}
-use Rattle.checkpoint_image.specs.Receive.{waits, came, repeated, all_repeated}
+use Rattle.checkpoint_image.specs.Receive.{waits, came, reply_sent_again, all_repeated}
 use Rattle.world_semantics.specs.Passes.{after_covering_where, after_getting, after_sending, after_sent, after_told}
 use Rattle.world_semantics.specs.Passes.{checkpoint_of, taken_of}
 use Rattle.world_semantics.specs.Rules.{entered_request, taker, pair_after_down, pair_at_down, renewal_after_down}
@@ -246,7 +246,7 @@ asked-at : (w : World) (request : Request) (k : Which) (pair : Pair)
 asked-at w request k pair there Acting =
     alone w request.process k pair there (record (copy_of k pair)
     { waiting = came (copy_of k pair).core.receive (copy_of k pair).waiting request }) _ refl
-    (sent-from (copy_of k pair).processor (map Replying (repeated (copy_of k pair).core.receive request)))
+    (sent-from (copy_of k pair).processor (map Replying (reply_sent_again (copy_of k pair).core.receive request)))
 asked-at w request k pair there Watching = early-at w request k pair there
 asked-at w request k pair there Blank = early-at w request k pair there
 asked-at w request k pair there Gone = tt

@@ -20,8 +20,10 @@ use Rattle.message_layout.specs.Layout.{words_of}
 use Rattle.packet_wires.specs.Nodes.{Node, all_nodes, others}
 use Rattle.packet_wires.specs.Wires.{Midst, goes_over, any_goes_over, goes_again, at_node, at_end_of, at_end}
 use Rattle.packet_wires.specs.Wires.{end_changed, watch_changed, learns, for_each, push_at, sends, sends_all, posted}
-use Rattle.packet_wires.specs.Wires.{all_posted, bus_of_answer, heard_of, arrive_at, arrived, alive_at, tells_alive}
-use Rattle.packet_wires.specs.Wires.{reports, check_at, checks, tick_at, resends, ticked, down_at, cut_off, declares}
+use Rattle.packet_wires.specs.Wires.{all_posted, bus_of_answer, heard_of, arrive_at, midst_after_arrival, alive_at}
+use Rattle.packet_wires.specs.Wires.{tells_alive}
+use Rattle.packet_wires.specs.Wires.{reports, check_at, checks, tick_at, resends, midst_after_tick, down_at, cut_off}
+use Rattle.packet_wires.specs.Wires.{declares}
 use Rattle.packet_nets.proofs.Tied.{any-nodes}
 
 -- all nodes but one are as they were
@@ -101,10 +103,10 @@ posted-only x stopped (parcel ∷ parcels) midst from a n =
         (λ same. n (same ∙ from parcel (inl refl)))
 
 pub arrived-only : (name : BusName) (packet : Packet) (midst : Midst)
-    → OnlyAt packet.receiver midst (arrived name packet midst)
+    → OnlyAt packet.receiver midst (midst_after_arrival name packet midst)
 arrived-only name packet midst =
     follows packet.receiver midst (at_end packet.receiver packet.sender (arrive_at name packet) midst)
-    (arrived name packet midst)
+    (midst_after_arrival name packet midst)
     (at-end-only packet.receiver packet.sender (arrive_at name packet) midst (λ node e a n.
     any-only (bus_of_answer name packet.kind) (sent_by_packet packet e)
     (end_changed packet.receiver packet.sender node (after_packet packet e) midst) packet.receiver a n
@@ -148,7 +150,7 @@ resends-only x midst =
     again-only (sent_by_tick e) (end_changed x y node (after_tick e) midst) x a n
     ∙ end-only x y node (after_tick e) midst a n)) all_nodes midst
 
-pub ticked-only : (processors x : ℕ) (midst : Midst) → OnlyAt x midst (ticked processors x midst)
+pub ticked-only : (processors x : ℕ) (midst : Midst) → OnlyAt x midst (midst_after_tick processors x midst)
 ticked-only processors x midst a n =
     resends-only x (checks processors x (tells_alive processors x midst)) a n
     ∙ checks-only processors x (tells_alive processors x midst) a n ∙ tells-only processors x midst a n

@@ -34,10 +34,11 @@ use Rattle.message_layout.specs.Messages.{NodeMessage, Carrying, Changing, Repor
 use Rattle.message_layout.specs.Reading.{understood}
 use Rattle.packet_wires.specs.Nodes.{end_at}
 use Rattle.packet_wires.specs.Parcels.{Parcel, parcel_of, parcels_of}
-use Rattle.packet_wires.specs.Wires.{Wires, Midst, bus_named, goes_over, arrived, learns, ticked, cut_off}
+use Rattle.packet_wires.specs.Wires.{Wires, Midst, bus_named, goes_over, midst_after_arrival, learns, midst_after_tick}
+use Rattle.packet_wires.specs.Wires.{cut_off}
 use Rattle.packet_wires.specs.Play.{Packeted, Underway, underway, after_done, made_by, after_any, after_marked}
 use Rattle.packet_wires.specs.Play.{marked_by}
-use Rattle.packet_wires.specs.Play.{marks, handed, handed_any, handed_words, completed, received, deliver_acted}
+use Rattle.packet_wires.specs.Play.{marks, handed, handed_any, handed_words, message_at_end, received, deliver_acted}
 use Rattle.packet_wires.specs.Play.{comes_in, lose_acted, repeat_acted, stop_acted, fail_acted, marks_and_declares}
 use Rattle.packet_wires.specs.Play.{pulled_running, pulled, pulls, line_of, pulls_its, tick_acted, packet_at, acted}
 use Rattle.packet_wires.specs.Play.{taken_off, ended, play}
@@ -204,9 +205,9 @@ deliver-found name s packet = by (comes_in packet s)
     by : (test : Bool) → KeepsIf packet.receiver s (Makes (if test then received name packet s else s))
     by false = same-stays s
     by true =
-        through s (arrived name packet s.wires) (arrived-only name packet s.wires)
-        (words-stay packet.receiver (completed packet (end_at s.wires.nodes packet.receiver packet.sender))
-        (record s { wires = arrived name packet s.wires }))
+        through s (midst_after_arrival name packet s.wires) (arrived-only name packet s.wires)
+        (words-stay packet.receiver (message_at_end packet (end_at s.wires.nodes packet.receiver packet.sender))
+        (record s { wires = midst_after_arrival name packet s.wires }))
 
 pub deliver-stays : (s next : Packeted) (y : Bool) (k : ℕ) (packet : Packet)
     → packet_at s (bus_named y) k ≡ Some packet → play s (Deliver y k) ≡ Makes next
@@ -384,30 +385,31 @@ held-stays node processor s runs =
 tick-keeps : (s : Underway) (node : ℕ) → KeepsIf node s (tick_acted node s)
 tick-keeps s node = by (is_running s.world.stopped node)
   where
-    only : OnlyAt node s.wires (ticked s.site.processors node s.wires)
+    only : OnlyAt node s.wires (midst_after_tick s.site.processors node s.wires)
     only = ticked-only s.site.processors node s.wires
 
     pull : (processor : ℕ) (found : Option Bool)
-        → KeepsIf node s (pulled node processor (record s { wires = ticked s.site.processors node s.wires }) found)
-    pull processor None = wires-stay s (ticked s.site.processors node s.wires) only
+        → KeepsIf node s (pulled node processor
+        (record s { wires = midst_after_tick s.site.processors node s.wires }) found)
+    pull processor None = wires-stay s (midst_after_tick s.site.processors node s.wires) only
     pull processor (Some true) =
-        through s (ticked s.site.processors node s.wires) only
-        (told-stay node processor (record s { wires = ticked s.site.processors node s.wires })).stays
+        through s (midst_after_tick s.site.processors node s.wires) only
+        (told-stay node processor (record s { wires = midst_after_tick s.site.processors node s.wires })).stays
     pull processor (Some false) =
         stop-cases (λ done. KeepsIf node s (pulled_running node processor
-        (record s { wires = ticked s.site.processors node s.wires }) done)) processor s.world tt
-        (λ runs. through s (ticked s.site.processors node s.wires) only
-        (held-stays node processor (record s { wires = ticked s.site.processors node s.wires }) runs))
+        (record s { wires = midst_after_tick s.site.processors node s.wires }) done)) processor s.world tt
+        (λ runs. through s (midst_after_tick s.site.processors node s.wires) only
+        (held-stays node processor (record s { wires = midst_after_tick s.site.processors node s.wires }) runs))
 
     line : (found : Option ℕ) → KeepsIf node s
-        (pulls node (record s { wires = ticked s.site.processors node s.wires }) found)
-    line None = wires-stay s (ticked s.site.processors node s.wires) only
+        (pulls node (record s { wires = midst_after_tick s.site.processors node s.wires }) found)
+    line None = wires-stay s (midst_after_tick s.site.processors node s.wires) only
     line (Some processor) = pull processor (slice_get s.world.stopped processor)
 
     by : (test : Bool) → KeepsIf node s (if test then pulls_its node
-        (record s { wires = ticked s.site.processors node s.wires }) else Skips)
+        (record s { wires = midst_after_tick s.site.processors node s.wires }) else Skips)
     by false = tt
-    by true = line (line_of node (record s { wires = ticked s.site.processors node s.wires }))
+    by true = line (line_of node (record s { wires = midst_after_tick s.site.processors node s.wires }))
 
 pub tick-stays : (s next : Packeted) (node : ℕ) → play s (Tick node) ≡ Makes next → StaysElsewhere node s next
 tick-stays s next node made =

@@ -28,7 +28,7 @@ use Rattle.channel_laws.specs.Way.{IsOutstanding, IsEnded}
 use Rattle.channel_laws.proofs.Rounds.{brought-on}
 use Rattle.machine_states.specs.States.{Played, Makes, Skips, Would}
 use Rattle.packet_wires.specs.Nodes.{end_at}
-use Rattle.packet_wires.specs.Wires.{Wires, Midst, ticked}
+use Rattle.packet_wires.specs.Wires.{Wires, Midst, midst_after_tick}
 use Rattle.packet_wires.specs.Play.{Packeted, Underway, IsClear, underway, ended, line_of, play, pulled, pulled_running}
 use Rattle.packet_wires.specs.Play.{pulls, pulls_its}
 use Rattle.computed_changes.specs.Stopped.{stop_done}
@@ -185,7 +185,7 @@ tick-acts : (s : Packeted) (node : ℕ) → is_running s.world.stopped node ≡ 
 tick-acts s node here skips = by (is_running s.world.stopped node) here skips
   where
     after : Underway
-    after = record (underway s) { wires = ticked s.site.processors node (underway s).wires }
+    after = record (underway s) { wires = midst_after_tick s.site.processors node (underway s).wires }
 
     by : (test : Bool) → test ≡ true → ended s.wires (if test then pulls_its node after else Skips) ≡ Skips → ⊥
     by false is skips = absurd (cc)

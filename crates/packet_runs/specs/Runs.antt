@@ -4,7 +4,7 @@ use Rattle.tal_tree.specs.declared.site.Site.{Site}
 use Rattle.schedule.specs.declared.event.Counts.{Counts}
 use Rattle.schedule.specs.declared.line.Line.{Line}
 pub use Rattle.agendas.specs.Sizes.{sizes_of}
-use Rattle.player.specs.Lines.{aimed}
+use Rattle.player.specs.Lines.{packet_aimed_at}
 use Rattle.player.specs.declared.player.Player.{Player}
 use Rattle.player.specs.declared.stop.ProcessorStop.{ProcessorStop}
 use Rattle.site_machine.specs.node_copies.specs.ShownCounts.{replies_in, writes_in}
@@ -30,7 +30,7 @@ packet_meant s (Some place) = packet_at s (bus_named place.0) place.1
 
 -- the packet that the next event concerns where a player stands, with so many packets on buses X and Y
 abbrev pub concerned : Packeted → ℕ → ℕ → Player → Option Packet
-concerned s x y player = packet_meant s (aimed player.sizes x y player.standing)
+concerned s x y player = packet_meant s (packet_aimed_at player.sizes x y player.standing)
 
 abbrev pub is_alive_kind : PacketKind → Bool
 is_alive_kind Alive = true

@@ -31,8 +31,9 @@ use Rattle.packet_wires.specs.Nodes.{end_at}
 use Rattle.packet_wires.specs.Lines.{line_pulled}
 use Rattle.packet_wires.specs.Parcels.{parcels_of}
 use Rattle.packet_wires.specs.Wires.{Wires, Outgoing, Midst, nothing_sent, wires_at_boot, on_bus, bus_named}
-use Rattle.packet_wires.specs.Wires.{without_packet, packets_over, with_sent, goes_over, all_posted, arrived, learns}
-use Rattle.packet_wires.specs.Wires.{ticked, cut_off, declares, loaded_again}
+use Rattle.packet_wires.specs.Wires.{without_packet, packets_over, with_sent, goes_over, all_posted}
+use Rattle.packet_wires.specs.Wires.{midst_after_arrival, learns}
+use Rattle.packet_wires.specs.Wires.{midst_after_tick, cut_off, declares, loaded_again}
 use Rattle.packet_words.specs.gd_words.specs.declared.limits.TheConstants.{MOST_PACKETS}
 
 -- a state over packets
@@ -121,14 +122,14 @@ handed_words node None s = s
 handed_words node (Some words) s = handed_any node (understood s.site words) s
 
 -- the message that is whole as a packet comes to an end
-abbrev pub completed : Packet → Option End → Option (List ℤ)
-completed packet e = option_and_then (handed_by_packet packet) e
+abbrev pub message_at_end : Packet → Option End → Option (List ℤ)
+message_at_end packet e = option_and_then (handed_by_packet packet) e
 
 -- the receiver takes a packet in, and is handed the message that is whole with it
 abbrev pub received : BusName → Packet → Underway → Underway
 received name packet s =
-    handed_words packet.receiver (completed packet (end_at s.wires.nodes packet.receiver packet.sender))
-    (record s { wires = arrived name packet s.wires })
+    handed_words packet.receiver (message_at_end packet (end_at s.wires.nodes packet.receiver packet.sender))
+    (record s { wires = midst_after_arrival name packet s.wires })
 
 -- whether a packet bears the incarnations that an end knows, where there is one
 abbrev pub is_current_at : Packet → Option End → Bool
@@ -209,7 +210,8 @@ pulls_its node s = pulls node s (line_of node s)
 -- a node that runs sends what its tick sends, and then pulls a line, if one is to be pulled
 abbrev pub tick_acted : ℕ → Underway → Played Midst
 tick_acted node s =
-    if is_running s.world.stopped node then pulls_its node (record s { wires = ticked s.site.processors node s.wires })
+    if is_running s.world.stopped node then pulls_its node
+    (record s { wires = midst_after_tick s.site.processors node s.wires })
     else Skips
 
 -- Events

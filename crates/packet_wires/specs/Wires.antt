@@ -180,8 +180,8 @@ arrive_at name packet node e midst =
     (end_changed packet.receiver packet.sender node (after_packet packet e) midst)
 
 -- the receiver of a packet takes it in: first its end and the answer, then what it hears
-abbrev pub arrived : BusName → Packet → Midst → Midst
-arrived name packet midst =
+abbrev pub midst_after_arrival : BusName → Packet → Midst → Midst
+midst_after_arrival name packet midst =
     learns packet.receiver (heard_of packet.sender packet.kind)
     (at_end packet.receiver packet.sender (arrive_at name packet) midst)
 
@@ -218,8 +218,8 @@ abbrev pub resends : ℕ → Midst → Midst
 resends x midst = for_each (λ y. at_end x y (tick_at x y)) all_nodes midst
 
 -- what a tick of the node x sends, in this order: that it is alive, what its check found, and what is outstanding
-abbrev pub ticked : ℕ → ℕ → Midst → Midst
-ticked processors x midst = resends x (checks processors x (tells_alive processors x midst))
+abbrev pub midst_after_tick : ℕ → ℕ → Midst → Midst
+midst_after_tick processors x midst = resends x (checks processors x (tells_alive processors x midst))
 
 -- Marks
 

@@ -16,9 +16,9 @@ abbrev pub piece_at : ℕ → List ℤ → Option Piece
 piece_at k words = if nat_lt (10 * k) (length words) then Some (first_piece (drop (10 * k) words)) else None
 
 -- the words that came since the last last piece, after one more came
-abbrev pub joined : Piece → List ℤ → List ℤ
-joined piece part = if piece.last then [] else part ++ piece.words
+abbrev pub words_with_piece : Piece → List ℤ → List ℤ
+words_with_piece piece part = if piece.last then [] else part ++ piece.words
 
 -- the message that is whole with this piece, where it is the last
-abbrev pub completed : Piece → List ℤ → Option (List ℤ)
-completed piece part = if piece.last then Some (part ++ piece.words) else None
+abbrev pub message_with_piece : Piece → List ℤ → Option (List ℤ)
+message_with_piece piece part = if piece.last then Some (part ++ piece.words) else None

@@ -1,5 +1,5 @@
 ghost use Rattle.std.specs.Prelude.{◌≡◌, [], OnOk, OnErr, IfOk};
-ghost use Rattle.packet_words.specs.Pieces.{joined, completed};
+ghost use Rattle.packet_words.specs.Pieces.{words_with_piece, message_with_piece};
 
 use crate::piece::Piece;
 use gd_words::{List, NoMemory};
@@ -35,8 +35,8 @@ impl Joiner {
 
     /// Adds a piece; at a last one it gives the message, and the next begins. Without memory nothing changes.
     pub fn add(&mut self, piece: &Piece) -> Result<Option<List<i16>>, NoMemory>
-        ensures message { IfOk result (λ message. message ≡ completed piece.now self.old) }
-        ensures left { OnOk result (self.new ≡ joined piece.now self.old) }
+        ensures message { IfOk result (λ message. message ≡ message_with_piece piece.now self.old) }
+        ensures left { OnOk result (self.new ≡ words_with_piece piece.now self.old) }
         ensures err { OnErr result (self.new ≡ self.old) }
     {
         let more = piece.words.as_slice();

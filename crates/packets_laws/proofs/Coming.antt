@@ -11,8 +11,9 @@ use Rattle.letters.specs.Routes.{Letter}
 use Rattle.letters_layout.specs.message_layout.specs.Messages.{NodeMessage, Carrying, Changing, Reporting, Declaring}
 use Rattle.packet_nets.specs.packet_wires.specs.Nodes.{end_at}
 use Rattle.packet_nets.specs.packet_wires.specs.Parcels.{Parcel}
-use Rattle.packet_nets.specs.packet_wires.specs.Play.{Packeted, underway, comes_in, completed, is_current_at, packet_at}
-use Rattle.packet_nets.specs.packet_wires.specs.Wires.{arrived, nothing_sent}
+use Rattle.packet_nets.specs.packet_wires.specs.Play.{Packeted, underway, comes_in, message_at_end, is_current_at}
+use Rattle.packet_nets.specs.packet_wires.specs.Play.{packet_at}
+use Rattle.packet_nets.specs.packet_wires.specs.Wires.{midst_after_arrival, nothing_sent}
 use Rattle.channel_laws.specs.Net.{Net}
 use Rattle.packet_nets.specs.Owing.{IsContent, IsTrueOf, content_of, on_both}
 use Rattle.packet_nets.proofs.Arriving.{Arrives, hands_none, hands_other, hands_letter, hands_again}
@@ -63,10 +64,10 @@ module _ (events : List Event) (s : Packeted) (owed sent : List Letter) (held : 
 
   pub comes-right : (name : BusName) (k : ℕ) (words : List ℤ)
       → packet_at s name k ≡ Some p → comes_in p (underway s) ≡ true
-      → completed p (end_at s.wires.nodes p.receiver p.sender) ≡ Some words
+      → message_at_end p (end_at s.wires.nodes p.receiver p.sender) ≡ Some words
       → WasSentInWords s.site s.world sent p.sender p.receiver words
   comes-right name k words at comes is =
-      subst Right is (of all.net (completed p (end_at s.wires.nodes p.receiver p.sender)) all.arrived)
+      subst Right is (of all.net (message_at_end p (end_at s.wires.nodes p.receiver p.sender)) all.arrived)
     where
       Right : Option (List ℤ) → Type 0
       Right None = Unit {0}
@@ -89,7 +90,7 @@ module _ (events : List Event) (s : Packeted) (owed sent : List Letter) (held : 
           (is_current_at p (end_at s.wires.nodes p.receiver p.sender)) comes
 
       all : Came s.site s.world.stopped s.world.reloads (on_both s.wires)
-          (arrived name p (nothing_sent s.wires.nodes)) held.parcels
-          held.posted p.sender p.receiver (completed p (end_at s.wires.nodes p.receiver p.sender))
+          (midst_after_arrival name p (nothing_sent s.wires.nodes)) held.parcels
+          held.posted p.sender p.receiver (message_at_end p (end_at s.wires.nodes p.receiver p.sender))
       all = came (nothing_sent s.wires.nodes) held.ties name p
           (held.ties.tied.flight p (stands-there s name k p at)) both.0 both.1

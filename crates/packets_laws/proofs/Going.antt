@@ -30,7 +30,7 @@ use Rattle.letters_layout.specs.message_layout.specs.Reading.{understood}
 use Rattle.packet_nets.specs.packet_wires.specs.Play.{Packeted, Underway, underway, made_by, after_any, marked_by}
 use Rattle.packet_nets.specs.packet_wires.specs.Play.{marks}
 use Rattle.packet_nets.specs.packet_wires.specs.Play.{handed, handed_any}
-use Rattle.packet_nets.specs.packet_wires.specs.Play.{handed_words, completed, received, deliver_acted, lose_acted}
+use Rattle.packet_nets.specs.packet_wires.specs.Play.{handed_words, message_at_end, received, deliver_acted, lose_acted}
 use Rattle.packet_nets.specs.packet_wires.specs.Play.{repeat_acted}
 use Rattle.packet_nets.specs.packet_wires.specs.Play.{comes_in, stop_acted, fail_acted, reload_acted, pulled_running}
 use Rattle.packet_nets.specs.packet_wires.specs.Play.{pulled, pulls, line_of, pulls_its, tick_acted, packet_at, acted}
@@ -38,7 +38,7 @@ use Rattle.packet_nets.specs.packet_wires.specs.Play.{taken_off}
 use Rattle.packet_nets.specs.packet_wires.specs.Play.{ended, play}
 use Rattle.packet_nets.specs.packet_wires.specs.Nodes.{end_at}
 use Rattle.packet_nets.specs.packet_wires.specs.Runs.{IsPlayed, played_none, played_more, skipped}
-use Rattle.packet_nets.specs.packet_wires.specs.Wires.{Wires, Midst, bus_named, arrived, ticked}
+use Rattle.packet_nets.specs.packet_wires.specs.Wires.{Wires, Midst, bus_named, midst_after_arrival, midst_after_tick}
 use Rattle.message_wires_laws.specs.machine_states.proofs.Turning.{drive-cases}
 
 -- the site is the same, and so is who has stopped
@@ -104,8 +104,8 @@ deliver-goes event name s (Some p) = by (comes_in p s)
   where
     by : (test : Bool) → Goes event s (Makes (if test then received name p s else s))
     by true =
-        let stay = words-stay p.receiver (completed p (end_at s.wires.nodes p.receiver p.sender))
-        (record s { wires = arrived name p s.wires }) in
+        let stay = words-stay p.receiver (message_at_end p (end_at s.wires.nodes p.receiver p.sender))
+        (record s { wires = midst_after_arrival name p s.wires }) in
         stops_none stay.site stay.stopped
     by false = stops_none refl refl
 
@@ -168,9 +168,9 @@ tick-goes event node s = by (is_running s.world.stopped node)
         at (Some false) e = rw e (first (is_whole s.world) refl)
 
     by : (test : Bool) → Goes event s (if test then pulls_its node
-        (record s { wires = ticked s.site.processors node s.wires }) else Skips)
-    by true = line (ticked s.site.processors node s.wires)
-        (line_of node (record s { wires = ticked s.site.processors node s.wires }))
+        (record s { wires = midst_after_tick s.site.processors node s.wires }) else Skips)
+    by true = line (midst_after_tick s.site.processors node s.wires)
+        (line_of node (record s { wires = midst_after_tick s.site.processors node s.wires }))
     by false = skips
 
 acted-goes : (s : Packeted) (event : Event) → Goes event (underway s) (acted s event)

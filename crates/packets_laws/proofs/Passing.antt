@@ -36,7 +36,7 @@ use Rattle.packet_nets.specs.packet_wires.specs.Nodes.{end_at}
 use Rattle.packet_nets.specs.packet_wires.specs.Play.{Packeted, Underway, underway, made_by, after_any, marked_by}
 use Rattle.packet_nets.specs.packet_wires.specs.Play.{marks}
 use Rattle.packet_nets.specs.packet_wires.specs.Play.{handed, handed_any}
-use Rattle.packet_nets.specs.packet_wires.specs.Play.{handed_words, completed, received, deliver_acted, lose_acted}
+use Rattle.packet_nets.specs.packet_wires.specs.Play.{handed_words, message_at_end, received, deliver_acted, lose_acted}
 use Rattle.packet_nets.specs.packet_wires.specs.Play.{repeat_acted}
 use Rattle.packet_nets.specs.packet_wires.specs.Play.{fail_acted, marks_and_declares, pulled, pulls, line_of, pulls_its}
 use Rattle.packet_nets.specs.packet_wires.specs.Play.{tick_acted}
@@ -44,8 +44,8 @@ use Rattle.packet_nets.specs.packet_wires.specs.Play.{packet_at, acted, taken_of
 use Rattle.packet_nets.specs.packet_wires.specs.Play.{is_current_at}
 use Rattle.packet_nets.specs.packet_wires.specs.Play.{pulled_running, reload_acted, stop_acted}
 use Rattle.packet_nets.specs.packet_wires.specs.Wires.{Wires, Midst, bus_named, on_bus, packets_over, without_packet}
-use Rattle.packet_nets.specs.packet_wires.specs.Wires.{all_posted, arrived}
-use Rattle.packet_nets.specs.packet_wires.specs.Wires.{ticked, cut_off, loaded_again, nothing_sent, with_sent}
+use Rattle.packet_nets.specs.packet_wires.specs.Wires.{all_posted, midst_after_arrival}
+use Rattle.packet_nets.specs.packet_wires.specs.Wires.{midst_after_tick, cut_off, loaded_again, nothing_sent, with_sent}
 use Rattle.packet_nets.specs.Owing.{on_both}
 use Rattle.packet_nets.specs.Passing.{IsPassing, IsCut}
 use Rattle.packet_nets.proofs.Passing.{come-passes, drop-passes, watched-passes, cut-passes, again-passes}
@@ -151,8 +151,8 @@ module _ {a b : ℕ} {on : List Packet} {start : Net} where
       by true comes =
           let both = both-true (is_running s.world.stopped p.receiver)
           (is_current_at p (end_at s.wires.nodes p.receiver p.sender)) comes in
-          words-lead p.receiver (completed p (end_at s.wires.nodes p.receiver p.sender))
-          (record s { wires = arrived name p s.wires }) both.0
+          words-lead p.receiver (message_at_end p (end_at s.wires.nodes p.receiver p.sender))
+          (record s { wires = midst_after_arrival name p s.wires }) both.0
           (come-passes name p (stands p refl) both.0 s.wires both.1 P)
       by false rests = drop-passes p (stands p refl) s.wires rests P
 
@@ -219,12 +219,13 @@ module _ {a b : ℕ} {on : List Packet} {start : Net} where
     where
       by : (test : Bool) → is_running s.world.stopped node ≡ test
           → LeadsOn a b on start [] (if test then pulls_its node
-          (record s { wires = ticked s.site.processors node s.wires }) else Skips)
+          (record s { wires = midst_after_tick s.site.processors node s.wires }) else Skips)
       by false rests = tt
       by true runs =
-          line-leads node (record s { wires = ticked s.site.processors node s.wires })
-          (line_of node (record s { wires = ticked s.site.processors node s.wires }))
-          (λ processor is. (pulled-other node (ticked s.site.processors node s.wires).nodes processor is).0) runs
+          line-leads node (record s { wires = midst_after_tick s.site.processors node s.wires })
+          (line_of node (record s { wires = midst_after_tick s.site.processors node s.wires }))
+          (λ processor is. (pulled-other node (midst_after_tick s.site.processors node s.wires).nodes
+          processor is).0) runs
           (ticked-passes s.site.processors node runs s.wires P)
 
 -- A whole event
@@ -397,26 +398,27 @@ tick-cuts : (a b : ℕ) (on : List Packet) (start : Net) (s : Underway) → Pass
 tick-cuts a b on start s P = by (is_running s.world.stopped a) refl
   where
     whole : is_running s.world.stopped a ≡ true → (played : Played Midst)
-        → pulls_its a (record s { wires = ticked s.site.processors a s.wires }) ≡ played
-        → Ran b (record s { wires = ticked s.site.processors a s.wires }) played → CutsIf a b on start played
+        → pulls_its a (record s { wires = midst_after_tick s.site.processors a s.wires }) ≡ played
+        → Ran b (record s { wires = midst_after_tick s.site.processors a s.wires }) played → CutsIf a b on start played
     whole runs Skips is ran = tt
     whole runs (Would harm) is ran = tt
     whole runs (Makes next) is ran = λ one other.
         let cut = ticked-cut runs (ran other) s.site.processors s.wires P in
         cut-on a b on start cut.middle (Makes next) cut.first (subst (LeadsOn a b on (ticked_net a b cut.middle) []) is
-        (line-leads a (record s { wires = ticked s.site.processors a s.wires })
-        (line_of a (record s { wires = ticked s.site.processors a s.wires }))
-        (λ processor line. (pulled-other a (ticked s.site.processors a s.wires).nodes processor line).0) runs
+        (line-leads a (record s { wires = midst_after_tick s.site.processors a s.wires })
+        (line_of a (record s { wires = midst_after_tick s.site.processors a s.wires }))
+        (λ processor line. (pulled-other a (midst_after_tick s.site.processors a s.wires).nodes processor line).0) runs
         cut.rest)) one other
 
     by : (test : Bool) → is_running s.world.stopped a ≡ test
-        → CutsIf a b on start (if test then pulls_its a (record s { wires = ticked s.site.processors a s.wires }) else
+        → CutsIf a b on start (if test then pulls_its a
+        (record s { wires = midst_after_tick s.site.processors a s.wires }) else
         Skips)
     by false rests = tt
     by true runs =
-        whole runs (pulls_its a (record s { wires = ticked s.site.processors a s.wires })) refl
-        (ran-before b a (record s { wires = ticked s.site.processors a s.wires })
-        (line_of a (record s { wires = ticked s.site.processors a s.wires })))
+        whole runs (pulls_its a (record s { wires = midst_after_tick s.site.processors a s.wires })) refl
+        (ran-before b a (record s { wires = midst_after_tick s.site.processors a s.wires })
+        (line_of a (record s { wires = midst_after_tick s.site.processors a s.wires })))
 
 abbrev TicksIf : ℕ → ℕ → Packeted → Net → Played Wires → Type 0
 TicksIf a b s n (Makes next) =

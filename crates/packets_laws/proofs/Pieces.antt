@@ -13,13 +13,13 @@ use Rattle.link_control.specs.Ends.{End, handed_by_packet, handed_by_kind}
 use Rattle.world_semantics.specs.World.{is_running}
 use Rattle.message_wires_laws.specs.machine_states.specs.States.{Played, Makes, Skips, Would}
 use Rattle.packet_nets.specs.packet_wires.specs.Nodes.{end_at}
-use Rattle.packet_nets.specs.packet_wires.specs.Play.{Packeted, underway, completed, handed_words, received}
+use Rattle.packet_nets.specs.packet_wires.specs.Play.{Packeted, underway, message_at_end, handed_words, received}
 use Rattle.packet_nets.specs.packet_wires.specs.Play.{deliver_acted}
 use Rattle.packet_nets.specs.packet_wires.specs.Play.{lose_acted}
 use Rattle.packet_nets.specs.packet_wires.specs.Play.{repeat_acted, packet_at, acted, taken_off, ended, play, comes_in}
 use Rattle.packet_nets.specs.packet_wires.specs.Play.{is_current_at}
 use Rattle.world_semantics.proofs.Roles.{both-true}
-use Rattle.packet_nets.specs.packet_wires.specs.Wires.{Wires, Midst, bus_named, arrived}
+use Rattle.packet_nets.specs.packet_wires.specs.Wires.{Wires, Midst, bus_named, midst_after_arrival}
 use Rattle.packets_laws.specs.Pieces.{HandsOver}
 use Rattle.message_wires_laws.specs.machine_states.proofs.Turning.{drive-cases}
 use Rattle.schedule.specs.declared.event.DriveEvent.{DriveEvent}
@@ -35,12 +35,12 @@ last-piece : (packet : Packet) (e : End) (words : List ℤ) → handed_by_packet
 last-piece packet e words is = by e.down is
   where
     whole : (number : ℕ) (piece : Piece) → packet.kind ≡ kind.Piece number piece → (last : Bool) → piece.last ≡ last
-        → pieces.completed piece e.receiving.part ≡ Some words → IsLast packet
+        → pieces.message_with_piece piece e.receiving.part ≡ Some words → IsLast packet
     whole number piece same true last is = record { number = number; piece = piece; kind = same; last = last }
     whole number piece same false last is = absurd (let none : None ≡ Some words = sym (rw last refl) ∙ is in cc)
 
     next : (number : ℕ) (piece : Piece) → packet.kind ≡ kind.Piece number piece → (test : Bool)
-        → (if test then pieces.completed piece e.receiving.part else None) ≡ Some words → IsLast packet
+        → (if test then pieces.message_with_piece piece e.receiving.part else None) ≡ Some words → IsLast packet
     next number piece same true is = whole number piece same piece.last refl is
     next number piece same false is = absurd cc
 
@@ -53,7 +53,8 @@ last-piece packet e words is = by e.down is
     by true is = absurd cc
     by false is = by_kind packet.kind refl is
 
-completed-last : (packet : Packet) (e : Option End) (words : List ℤ) → completed packet e ≡ Some words → IsLast packet
+completed-last : (packet : Packet) (e : Option End) (words : List ℤ) → message_at_end packet e ≡ Some words
+    → IsLast packet
 completed-last packet None words is = absurd cc
 completed-last packet (Some e) words is = last-piece packet e words is
 
@@ -76,9 +77,9 @@ deliver-stays s name k (Some packet) there = by (comes_in packet (underway s)) r
   where
     handing : is_running s.world.stopped packet.receiver ≡ true
         → is_current_at packet (end_at s.wires.nodes packet.receiver packet.sender) ≡ true → (found : Option (List ℤ))
-        → completed packet (end_at s.wires.nodes packet.receiver packet.sender) ≡ found
+        → message_at_end packet (end_at s.wires.nodes packet.receiver packet.sender) ≡ found
         → Stays s (HandsOver s name k) (Makes (handed_words packet.receiver found
-        (record (underway s) { wires = arrived name packet (underway s).wires })))
+        (record (underway s) { wires = midst_after_arrival name packet (underway s).wires })))
     handing runs current None whole = inl refl
     handing runs current (Some words) whole =
         let is = completed-last packet (end_at s.wires.nodes packet.receiver packet.sender) words whole in
@@ -98,7 +99,7 @@ deliver-stays s name k (Some packet) there = by (comes_in packet (underway s)) r
     by true comes =
         let both = both-true (is_running s.world.stopped packet.receiver)
         (is_current_at packet (end_at s.wires.nodes packet.receiver packet.sender)) comes in
-        handing both.0 both.1 (completed packet (end_at s.wires.nodes packet.receiver packet.sender)) refl
+        handing both.0 both.1 (message_at_end packet (end_at s.wires.nodes packet.receiver packet.sender)) refl
     by false rests = inl refl
 
 pub deliver-hands : (s next : Packeted) (y : Bool) (k : ℕ) → play s (Deliver y k) ≡ Makes next

@@ -42,7 +42,8 @@ use Rattle.message_wires_laws.proofs.Stopping.{StopsNone, run-none, enter-none, 
 use Rattle.letters_layout.specs.message_layout.specs.Messages.{NodeMessage, Carrying, Changing, Reporting, Declaring}
 use Rattle.letters_layout.specs.message_layout.specs.Reading.{understood}
 use Rattle.packet_nets.specs.packet_wires.specs.Nodes.{end_at}
-use Rattle.packet_nets.specs.packet_wires.specs.Wires.{Wires, Midst, bus_named, goes_over, arrived, learns, ticked}
+use Rattle.packet_nets.specs.packet_wires.specs.Wires.{Wires, Midst, bus_named, goes_over, midst_after_arrival, learns}
+use Rattle.packet_nets.specs.packet_wires.specs.Wires.{midst_after_tick}
 use Rattle.packet_nets.specs.packet_wires.specs.Wires.{loaded_again}
 use Rattle.packet_nets.specs.packet_wires.specs.Play.{Packeted, Underway, underway, after_done, made_by, after_any}
 use Rattle.packet_nets.specs.packet_wires.specs.Play.{after_marked, marked_by}
@@ -262,7 +263,7 @@ module _ (events : List Event) (on : List Packet) (s : Underway) (owed sent : Li
     Now = Deliver y k
 
     abbrev next : Midst
-    next = arrived (bus_named y) p s.wires
+    next = midst_after_arrival (bus_named y) p s.wires
 
     abbrev parcel : NodeMessage → Parcel
     parcel content = record { sender = p.sender; receiver = p.receiver; content = content }
@@ -420,12 +421,12 @@ module _ (events : List Event) (on : List Packet) (s : Underway) (owed sent : Li
 
   module _ (node : ℕ) (runs : is_running s.world.stopped node ≡ true) where
     abbrev after_tick : Midst
-    after_tick = ticked s.site.processors node s.wires
+    after_tick = midst_after_tick s.site.processors node s.wires
 
     abbrev Ticks : Underway → Type 0
     Ticks after = Carries (events ++ Tick node ∷ []) on after
 
-    tick_ties : Tied (ticked s.site.processors node s.wires)
+    tick_ties : Tied (midst_after_tick s.site.processors node s.wires)
     tick_ties = ticked-ties node runs s.wires carried.ties
 
     -- after the mark, the declarations are sent
@@ -449,21 +450,23 @@ module _ (events : List Event) (on : List Packet) (s : Underway) (owed sent : Li
     held-on : (w : World) (processor : ℕ) → is_running w.stopped node ≡ true
         → slice_get w.stopped processor ≡ Some true → processor ≤ 15
         → HoldsLetters w carried.parcels carried.posted owed sent
-        → Ties s.site w.stopped w.reloads on (ticked s.site.processors node s.wires) carried.parcels carried.posted
+        → Ties s.site w.stopped w.reloads on (midst_after_tick s.site.processors node s.wires) carried.parcels
+        carried.posted
         → ((post : Post) → MarksLetters s.site node (record { world = w; owed = owed; sent = sent }) post
         → PlaysEvent s.site (Post_of owed) (Tick node) post)
         → Ticks (marks_and_declares node processor
-        (record s { world = w; wires = ticked s.site.processors node s.wires }))
+        (record s { world = w; wires = midst_after_tick s.site.processors node s.wires }))
     held-on w processor alive gone few holds T plays =
         by (down_done node processor w) refl (mark-none s.site w node processor)
       where
         one : Underway
-        one = record s { world = w; wires = ticked s.site.processors node s.wires }
+        one = record s { world = w; wires = midst_after_tick s.site.processors node s.wires }
 
         by : (done : Option Done) → down_done node processor w ≡ done → StopsNone w done
             → Ticks (declared node processor (marked_by node processor
-            (record s { world = w; wires = ticked s.site.processors node s.wires }) done))
-        by None e none = told-on processor (record s { world = w; wires = ticked s.site.processors node s.wires }) refl
+            (record s { world = w; wires = midst_after_tick s.site.processors node s.wires }) done))
+        by None e none =
+            told-on processor (record s { world = w; wires = midst_after_tick s.site.processors node s.wires }) refl
             alive gone few (
               owed,
               sent,
@@ -478,27 +481,27 @@ module _ (events : List Event) (on : List Packet) (s : Underway) (owed sent : Li
             )
         by (Some done) e none =
             told-on processor (after_marked node processor
-            (record s { world = w; wires = ticked s.site.processors node s.wires }) done) refl
+            (record s { world = w; wires = midst_after_tick s.site.processors node s.wires }) done) refl
             (subst (λ stopped. is_running stopped node ≡ true) (sym none) alive)
             (subst (λ stopped. slice_get stopped processor ≡ Some true) (sym none) gone) few
-            (marked-on (record s { world = w; wires = ticked s.site.processors node s.wires })
+            (marked-on (record s { world = w; wires = midst_after_tick s.site.processors node s.wires })
             (events ++ Tick node ∷ []) owed sent carried.parcels carried.posted node processor done (fit (Tick node))
             alive e holds T
             (played_more carried.played (plays _ (one_mark processor (mark-may s.site node processor w done e)
             no_mark))))
 
-    none-on : Ticks (record s { wires = ticked s.site.processors node s.wires })
-    none-on = calm (Tick node) (ticked s.site.processors node s.wires) tick_ties (plays_tick runs no_mark)
+    none-on : Ticks (record s { wires = midst_after_tick s.site.processors node s.wires })
+    none-on = calm (Tick node) (midst_after_tick s.site.processors node s.wires) tick_ties (plays_tick runs no_mark)
 
     line-on : (line : Option ℕ) → ((processor : ℕ) → line ≡ Some processor → (processor ≢ node) × (processor ≤ 15))
         → GoesOn (events ++ Tick node ∷ []) on s
-        (pulls node (record s { wires = ticked s.site.processors node s.wires }) line)
+        (pulls node (record s { wires = midst_after_tick s.site.processors node s.wires }) line)
     line-on None other = none-on
     line-on (Some processor) other = by (slice_get s.world.stopped processor) refl
       where
         stops : slice_get s.world.stopped processor ≡ Some false → (whole : Bool) → is_whole s.world ≡ whole
             → GoesOn (events ++ Tick node ∷ []) on s (pulled_running node processor
-            (record s { wires = ticked s.site.processors node s.wires }) (stop_if processor s.world whole))
+            (record s { wires = midst_after_tick s.site.processors node s.wires }) (stop_if processor s.world whole))
         stops e false parts = tt
         stops e true whole =
             let change : Change s.site s.world (Stopping processor) [] (stopped_world processor s.world) =
@@ -513,7 +516,7 @@ module _ (events : List Event) (on : List Packet) (s : Underway) (owed sent : Li
 
         by : (stopped : Option Bool) → slice_get s.world.stopped processor ≡ stopped
             → GoesOn (events ++ Tick node ∷ []) on s
-            (pulled node processor (record s { wires = ticked s.site.processors node s.wires }) stopped)
+            (pulled node processor (record s { wires = midst_after_tick s.site.processors node s.wires }) stopped)
         by None e = none-on
         by (Some true) e =
             held-on s.world processor runs e (other processor refl).1 held tick_ties
@@ -521,16 +524,19 @@ module _ (events : List Event) (on : List Packet) (s : Underway) (owed sent : Li
         by (Some false) e = rw e (stops e (is_whole s.world) refl)
 
     ticked-on : GoesOn (events ++ Tick node ∷ []) on s
-        (pulls_its node (record s { wires = ticked s.site.processors node s.wires }))
-    ticked-on = line-on (line_of node (record s { wires = ticked s.site.processors node s.wires }))
-        (pulled-other node (ticked s.site.processors node s.wires).nodes)
+        (pulls_its node (record s { wires = midst_after_tick s.site.processors node s.wires }))
+    ticked-on = line-on (line_of node (record s { wires = midst_after_tick s.site.processors node s.wires }))
+        (pulled-other node (midst_after_tick s.site.processors node s.wires).nodes)
 
   tick-on : (node : ℕ) → GoesOn (events ++ Tick node ∷ []) on s (tick_acted node s)
   tick-on node = by (is_running s.world.stopped node) refl
     where
       by : (test : Bool) → is_running s.world.stopped node ≡ test
           → GoesOn (events ++ Tick node ∷ []) on s
-          (if test then pulls_its node (record s { wires = ticked s.site.processors node s.wires }) else Skips)
+          (if test then pulls_its node (record s {
+            wires =
+                midst_after_tick s.site.processors node s.wires;
+          }) else Skips)
       by true runs = ticked-on node runs
       by false rests = calm (Tick node) s.wires carried.ties plays_no_tick
 

@@ -30,7 +30,7 @@ use Rattle.message_wires_laws.specs.letter_laws.proofs.Honest.{played-honest}
 use Rattle.letters_layout.specs.message_layout.specs.Layout.{Fits}
 use Rattle.letters_layout.specs.message_layout.specs.Messages.{NodeMessage}
 use Rattle.packet_nets.specs.packet_wires.specs.Parcels.{form_of}
-use Rattle.packet_nets.specs.packet_wires.specs.Play.{Packeted, underway, comes_in, completed, packet_at, play}
+use Rattle.packet_nets.specs.packet_wires.specs.Play.{Packeted, underway, comes_in, message_at_end, packet_at, play}
 use Rattle.packet_nets.specs.packet_wires.specs.Nodes.{end_at}
 use Rattle.packets_laws.proofs.Coming.{comes-right}
 use Rattle.packet_nets.specs.packet_wires.specs.Runs.{IsPlayed, played_none, played_more, skipped}
@@ -155,7 +155,7 @@ module _ (site : Site) (fit : IsFit site) (small : IsSmall site) (out : IsLaidOu
         × posts.HasPlayed site events (record { world = s.world; owed = owed; sent = sent })
         × ((name : BusName) (k : ℕ) (p : Packet) (words : List ℤ) → packet_at s name k ≡ Some p
         → comes_in p (underway s) ≡ true
-        → completed p (end_at s.wires.nodes p.receiver p.sender) ≡ Some words
+        → message_at_end p (end_at s.wires.nodes p.receiver p.sender) ≡ Some words
         → WasSentInWords site s.world sent p.sender p.receiver words)
     played-comes =
         let all = played-carried few played in (

@@ -28,7 +28,7 @@ ghost use Rattle.letters_layout.specs.message_layout.specs.Messages.{Carrying, C
 ghost use Rattle.packet_nets.specs.packet_wires.specs.Idle.{is_idle};
 ghost use Rattle.packet_nets.specs.packet_wires.specs.Nodes.{end_at};
 ghost use Rattle.packet_nets.specs.packet_wires.specs.Parcels.{form_of};
-ghost use Rattle.packet_nets.specs.packet_wires.specs.Play.{Packeted, underway, comes_in, completed, packet_at};
+ghost use Rattle.packet_nets.specs.packet_wires.specs.Play.{Packeted, underway, comes_in, message_at_end, packet_at};
 ghost use Rattle.packet_nets.specs.packet_wires.specs.Play.{packeted_at_boot, play};
 ghost use Rattle.packet_nets.specs.packet_wires.specs.Runs.{IsPlayed};
 ghost use Rattle.packet_nets.specs.packet_wires.specs.Wires.{bus_named};
@@ -61,7 +61,7 @@ pub fn what_comes_was_sent()
         × HasPlayed site events (record { world = s.world; owed = owed; sent = sent })
         × ((name : BusName) (k : ℕ) (p : Packet) (words : List ℤ) → packet_at s name k ≡ Some p
         → comes_in p (underway s) ≡ true
-        → completed p (end_at s.wires.nodes p.receiver p.sender) ≡ Some words
+        → message_at_end p (end_at s.wires.nodes p.receiver p.sender) ≡ Some words
         → WasSentInWords site s.world sent p.sender p.receiver words) }
 {}
 

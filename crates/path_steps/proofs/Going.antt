@@ -6,7 +6,7 @@ use Rattle.tal_tree.specs.declared.statement.Statement.{Statement}
 use Rattle.tal_tree.specs.declared.statement.What.{What, What-F, out-What}
 use Rattle.process_semantics.specs.tal_values.specs.Value.{cell_of}
 use Rattle.process_semantics.specs.State.{Entry, Run, Test, Last, ProgramState, runs_of, memory_of}
-use Rattle.process_semantics.specs.Steps.{inner_in, tested_in, counted_in, inner_entry, or_ends}
+use Rattle.process_semantics.specs.Steps.{inner_in, tested_in, state_after_count_in, inner_entry, or_ends}
 use Rattle.path_semantics.specs.declared.dues.Dues.{Dues}
 use Rattle.path_semantics.specs.Dues.{with_changed, global_of, global_of_spot, changed_by, after_entry, after_statement}
 use Rattle.path_semantics.specs.Place.{Place, Stand, place_of, ways_of, rounds_of, settled, stands_after}
@@ -113,7 +113,7 @@ module _ (program : Program) (dues : Dues) (s : ProgramState) (statement : State
 
   goes-last : place_of s.frames ≡ here (Last statement) → (layer : What-F What Statement)
       → out-What statement.what ≡ layer
-      → GoesTo (Led (Last statement)) dues s (or_ends s (counted_in program s layer))
+      → GoesTo (Led (Last statement)) dues s (or_ends s (state_after_count_in program s layer))
   goes-last at (What-F.For variable from to down step body last) is =
       counted-goes (Led (Last statement)) program dues s variable down step _ (Last statement) rest callers at
       (after_entry dues (Last statement))

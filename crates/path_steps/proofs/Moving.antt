@@ -14,8 +14,9 @@ use Rattle.process_semantics.specs.State.{Entry, Run, Test, Last, Frame, Program
 use Rattle.process_semantics.specs.State.{memory_of}
 use Rattle.process_semantics.specs.Changes.{local_set, with_word, with_words, without_next, put_before, done, before}
 use Rattle.process_semantics.specs.Changes.{entering, left, ends, variable_cell}
-use Rattle.process_semantics.specs.Steps.{assigned, tested, entered_by, entered, given_in, given, given_to, returned}
-use Rattle.process_semantics.specs.Steps.{for_begun, counted, inner_entry, or_ends}
+use Rattle.process_semantics.specs.Steps.{state_after_assigning, tested, entered_by, state_after_entry, given_in, given}
+use Rattle.process_semantics.specs.Steps.{given_to, state_after_return}
+use Rattle.process_semantics.specs.Steps.{for_begun, state_after_count, inner_entry, or_ends}
 use Rattle.process_semantics.specs.Calls.{received}
 use Rattle.path_semantics.specs.declared.dues.Dues.{Dues}
 use Rattle.path_semantics.specs.Dues.{with_changed, global_of, changed_by_return, target_of}
@@ -100,7 +101,7 @@ module _ (P : Stand → Type 0) (program : Program) (dues : Dues) (s : ProgramSt
   pub assigned-goes : (to : Option Cell) (value : Option ℤ) (here : Place) → place_of s.frames ≡ here
       → (later : Dues) (changed : List ℕ) → HasGrown dues later changed
       → ((at : Cell) → to ≡ Some at → cell_global at ≡ changed) → P (settled later (without_first here))
-      → Done (assigned s to value)
+      → Done (state_after_assigning s to value)
   assigned-goes None None here place later changed grown cells holds = λ alive. absurd (never s alive)
   assigned-goes (Some to) None here place later changed grown cells holds = λ alive. absurd (never s alive)
   assigned-goes None (Some word) here place later changed grown cells holds = λ alive. absurd (never s alive)
@@ -139,7 +140,7 @@ module _ (P : Stand → Type 0) (program : Program) (dues : Dues) (s : ProgramSt
 
   pub entered-goes : (number : ℕ) (arguments : Option (List ℤ)) (here : Place) → place_of s.frames ≡ here
       → (later : Dues) (changed : List ℕ) → HasGrown dues later changed
-      → P (settled later (body_of program number ∷ here)) → Done (entered program s number arguments)
+      → P (settled later (body_of program number ∷ here)) → Done (state_after_entry program s number arguments)
   entered-goes number None here place later changed grown holds = λ alive. absurd (never s alive)
   entered-goes number (Some arguments) here place later changed grown holds =
       entered_by-goes number arguments (slice_get program.procedures number) refl here place later changed grown holds
@@ -164,7 +165,7 @@ module _ (P : Stand → Type 0) (program : Program) (dues : Dues) (s : ProgramSt
       (rest : List Entry) (callers : Place)
       → place_of s.frames ≡ (entry ∷ rest) ∷ callers → (later : Dues)
       → HasGrown dues later (global_of variable) → P (settled later (rest ∷ callers))
-      → Done (counted s (variable_cell variable) down step value)
+      → Done (state_after_count s (variable_cell variable) down step value)
   counted-goes variable down step None entry rest callers place later grown holds = λ alive. absurd (never s alive)
   counted-goes variable down step (Some word) entry rest callers place later grown holds =
       moved (done (with_word (variable_cell variable) _ s)) later (rest ∷ callers) (global_of variable)
@@ -245,7 +246,7 @@ module _ (P : Stand → Type 0) (program : Program) (dues : Dues) (s : ProgramSt
 
   pub returned-goes : (value : Option ℤ) (frame : List Entry) (callers : Place) → place_of s.frames ≡ frame ∷ callers
       → (d : Dues) (changed : List ℕ) → HasGrown dues d changed
-      → P (stand_at [] callers d) → GoesTo P dues s (or_ends s (returned program s value))
+      → P (stand_at [] callers d) → GoesTo P dues s (or_ends s (state_after_return program s value))
   returned-goes None frame callers at d changed grown holds = λ alive. absurd (never s alive)
   returned-goes (Some word) frame callers at d changed grown holds = by_below (drop 1 s.frames) refl
     where

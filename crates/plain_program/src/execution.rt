@@ -1,6 +1,6 @@
 ghost use Rattle.std.specs.Prelude.{◌≡◌, ◌≤◌, ◌∷◌, ◌++◌, [], length, map, drop, slice_get, slice_set, IfOk, OnOk};
 ghost use Rattle.std.specs.Option.{option_map};
-ghost use Rattle.tal_values.specs.Seen.{seen};
+ghost use Rattle.tal_values.specs.Seen.{memory_now};
 ghost use Rattle.process_semantics.specs.State.{start, first_frames, memory_of, next_of, words_of, frame_of, first_of};
 ghost use Rattle.process_semantics.specs.State.{runs_of};
 ghost use Rattle.process_semantics.specs.Changes.{with_word, with_words, with_hand, with_waiting, before, entering};
@@ -79,7 +79,7 @@ impl<'a> Execution<'a> {
 
     /// What its expressions read.
     pub(crate) fn memory(&self) -> Memory<'_>
-        ensures { seen result ≡ memory_of self.now.program self.now.state }
+        ensures { memory_now result ≡ memory_of self.now.program self.now.state }
     {
         let locals: &[i16] = match &self.frames {
             None => &[],

@@ -1,13 +1,14 @@
 ghost use Rattle.std.specs.Prelude.{◌≡◌, ◌∷◌, ◌++◌, [], IfOk, OnOk};
 ghost use Rattle.std.specs.Option.{option_map};
 ghost use Rattle.tal_tree.specs.declared.statement.What.{out-What};
-ghost use Rattle.tal_values.specs.Seen.{seen};
+ghost use Rattle.tal_values.specs.Seen.{memory_now};
 ghost use Rattle.tal_values.specs.Value.{value_of, cell_of, truth_of};
 ghost use Rattle.process_semantics.specs.State.{Run, Test, Last, memory_of, runs_of};
 ghost use Rattle.process_semantics.specs.Changes.{variable_cell};
-ghost use Rattle.process_semantics.specs.Steps.{values_of, assigned, tested, entered, given, given_in, returned};
+ghost use Rattle.process_semantics.specs.Steps.{values_of, state_after_assigning, tested, state_after_entry, given};
+ghost use Rattle.process_semantics.specs.Steps.{given_in, state_after_return};
 ghost use Rattle.process_semantics.specs.Steps.{result_of, for_begun, inner_in, goes_round, next_word, tested_in};
-ghost use Rattle.process_semantics.specs.Steps.{counted_in, inner, or_ends};
+ghost use Rattle.process_semantics.specs.Steps.{state_after_count_in, inner, or_ends};
 ghost use Rattle.process_semantics.specs.SeenEntries.{entry_of};
 
 use crate::execution::Execution;
@@ -87,7 +88,7 @@ impl<'a> Execution<'a> {
 
     fn assign(&mut self, alloc: Global, to: &Spot, expr: &Expr) -> Result<(), NoMemory>
         ensures { OnOk result (self.new ≡ record self.old {
-          state = or_ends self.old.state (assigned self.old.state
+          state = or_ends self.old.state (state_after_assigning self.old.state
               (cell_of (memory_of self.old.program self.old.state) to.now)
               (value_of (memory_of self.old.program self.old.state) expr.now));
         }) }
@@ -99,7 +100,10 @@ impl<'a> Execution<'a> {
     }
 
     fn store(&mut self, to: Option<Cell>, word: Option<i16>)
-        ensures { self.new ≡ record self.old { state = or_ends self.old.state (assigned self.old.state to word) } }
+        ensures { self.new ≡ record self.old {
+          state =
+              or_ends self.old.state (state_after_assigning self.old.state to word);
+        } }
     {
         match word {
             None => self.end(),
@@ -115,7 +119,7 @@ impl<'a> Execution<'a> {
 
     fn call(&mut self, alloc: Global, number: u16, arguments: &[Expr]) -> Result<(), NoMemory>
         ensures { OnOk result (self.new ≡ record self.old {
-          state = or_ends self.old.state (entered self.old.program self.old.state number
+          state = or_ends self.old.state (state_after_entry self.old.program self.old.state number
               (values_of (memory_of self.old.program self.old.state) arguments.now));
         }) }
     {
@@ -278,7 +282,8 @@ impl<'a> Execution<'a> {
     fn count_for(&mut self, statement: &Statement)
         ensures { self.new ≡ record self.old {
           state =
-              or_ends self.old.state (counted_in self.old.program self.old.state (out-What statement.now.what));
+              or_ends self.old.state (state_after_count_in self.old.program self.old.state
+              (out-What statement.now.what));
         } }
     {
         match &statement.what {
@@ -306,7 +311,7 @@ impl<'a> Execution<'a> {
 
     fn return_value(&mut self, alloc: Global, expr: &Option<Expr>) -> Result<(), NoMemory>
         ensures { OnOk result (self.new ≡ record self.old {
-          state = or_ends self.old.state (returned self.old.program self.old.state
+          state = or_ends self.old.state (state_after_return self.old.program self.old.state
               (result_of (memory_of self.old.program self.old.state) expr.now));
         }) }
     {
@@ -320,7 +325,7 @@ impl<'a> Execution<'a> {
 
     fn give_back(&mut self, alloc: Global, word: Option<i16>) -> Result<(), NoMemory>
         ensures { OnOk result (self.new ≡ record self.old
-            { state = or_ends self.old.state (returned self.old.program self.old.state word) }) }
+            { state = or_ends self.old.state (state_after_return self.old.program self.old.state word) }) }
     {
         match word {
             None => self.end(),
@@ -396,7 +401,7 @@ fn values(
     memory: Memory<'_>,
     arguments: &[Expr],
 ) -> Result<Option<List<i16>>, NoMemory>
-    ensures { IfOk result (λ words. words ≡ values_of (seen memory.entry) arguments.now) }
+    ensures { IfOk result (λ words. words ≡ values_of (memory_now memory.entry) arguments.now) }
 {
     let mut words = List::new(alloc);
     for argument in arguments {

@@ -10,8 +10,9 @@ use Rattle.player.specs.declared.standing.Rule.TheVariants.{Drain, Mute, Until}
 use Rattle.player.specs.declared.standing.LinePlace.{LinePlace}
 use Rattle.player.specs.declared.standing.LinePlace.TheVariants as standing
 use Rattle.player.specs.declared.standing.Move.{Move}
-use Rattle.player.specs.Lines.{proposed, is_over, muted, spared, decided, decided_move, next_event, on_bus, packet_of}
-use Rattle.player.specs.Lines.{packet_of_move, aimed}
+use Rattle.player.specs.Lines.{proposed, is_over, event_when_muted, event_when_spared, event_by_counts, decided_move}
+use Rattle.player.specs.Lines.{next_event, on_bus, packet_of}
+use Rattle.player.specs.Lines.{packet_of_move, packet_aimed_at}
 
 lost-or-delivered : (x y : ℕ) (bus : Bool) (k : ℕ) (lost : Bool)
     → packet_of x y (if lost then Lose bus k else Deliver bus k) ≡ on_bus x y bus k
@@ -24,7 +25,7 @@ delivered-or-lost x y bus k true = refl
 delivered-or-lost x y bus k false = refl
 
 muted-concerns : (x y node : ℕ) (counts : Counts) (event : Event)
-    → packet_of x y (muted node counts event) ≡ packet_of x y event
+    → packet_of x y (event_when_muted node counts event) ≡ packet_of x y event
 muted-concerns x y node counts (Run process) = refl
 muted-concerns x y node counts (Enter terminal) = refl
 muted-concerns x y node counts (Deliver bus k) = lost-or-delivered x y bus k (counts.alive && (counts.sender == node))
@@ -36,7 +37,7 @@ muted-concerns x y node counts (Reload processor) = refl
 muted-concerns x y node counts (Drive event) = refl
 
 spared-concerns : (x y : ℕ) (counts : Counts) (event : Event)
-    → packet_of x y (spared counts event) ≡ packet_of x y event
+    → packet_of x y (event_when_spared counts event) ≡ packet_of x y event
 spared-concerns x y counts (Run process) = refl
 spared-concerns x y counts (Enter terminal) = refl
 spared-concerns x y counts (Deliver bus k) = refl
@@ -48,7 +49,7 @@ spared-concerns x y counts (Reload processor) = refl
 spared-concerns x y counts (Drive event) = refl
 
 decided-concerns : (x y : ℕ) (standing : LinePlace) (counts : Counts) (event : Event)
-    → packet_of x y (decided standing counts event) ≡ packet_of x y event
+    → packet_of x y (event_by_counts standing counts event) ≡ packet_of x y event
 decided-concerns x y standing.Ended counts event = refl
 decided-concerns x y (standing.Event again left) counts event = refl
 decided-concerns x y (standing.Rounds Drain left place) counts event = refl
@@ -58,7 +59,7 @@ decided-concerns x y (standing.Mixed left place draws) counts event = spared-con
 
 pub aimed-concerned : (sizes : Sizes) (standing : LinePlace) (counts : Counts) (move : Move)
     → next_event sizes standing counts ≡ Some move
-    → aimed sizes counts.x counts.y standing ≡ packet_of counts.x counts.y move.event
+    → packet_aimed_at sizes counts.x counts.y standing ≡ packet_of counts.x counts.y move.event
 aimed-concerned sizes standing counts move is =
     by (is_over standing counts) (proposed sizes counts.x counts.y standing) is
   where

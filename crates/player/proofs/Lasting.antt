@@ -17,7 +17,8 @@ use Rattle.player.specs.declared.standing.LinePlace.TheVariants as standing
 use Rattle.player.specs.declared.standing.Move.{Move}
 use Rattle.player.specs.Rounds.{next_turn}
 use Rattle.player.specs.Mixes.{next_mixed}
-use Rattle.player.specs.Lines.{moved, moved_mixed, proposed, is_over, muted, spared, decided, decided_move, next_event}
+use Rattle.player.specs.Lines.{moved, moved_mixed, proposed, is_over, event_when_muted, event_when_spared}
+use Rattle.player.specs.Lines.{event_by_counts, decided_move, next_event}
 use Rattle.player.specs.Lines.{stands_after}
 use Rattle.player.specs.Played.{told, events_from}
 use Rattle.player.specs.Ended.{rounds_of_event, rounds_ended, under_way, under_way_mixed, rounds_left}
@@ -30,7 +31,7 @@ no-round true a b is other = is
 no-round false a b is other = other
 
 muted-rounds : (node : ℕ) (counts : Counts) (event : Event)
-    → rounds_of_event (muted node counts event) ≡ rounds_of_event event
+    → rounds_of_event (event_when_muted node counts event) ≡ rounds_of_event event
 muted-rounds node counts (Run process) = refl
 muted-rounds node counts (Enter terminal) = refl
 muted-rounds node counts (Deliver bus k) =
@@ -42,7 +43,8 @@ muted-rounds node counts (Fail processor) = refl
 muted-rounds node counts (Reload processor) = refl
 muted-rounds node counts (Drive event) = refl
 
-spared-rounds : (counts : Counts) (event : Event) → rounds_of_event (spared counts event) ≡ rounds_of_event event
+spared-rounds : (counts : Counts) (event : Event)
+    → rounds_of_event (event_when_spared counts event) ≡ rounds_of_event event
 spared-rounds counts (Run process) = refl
 spared-rounds counts (Enter terminal) = refl
 spared-rounds counts (Deliver bus k) = refl
@@ -54,7 +56,7 @@ spared-rounds counts (Reload processor) = refl
 spared-rounds counts (Drive event) = refl
 
 decided-rounds : (standing : LinePlace) (counts : Counts) (event : Event)
-    → rounds_of_event (decided standing counts event) ≡ rounds_of_event event
+    → rounds_of_event (event_by_counts standing counts event) ≡ rounds_of_event event
 decided-rounds standing.Ended counts event = refl
 decided-rounds (standing.Event again left) counts event = refl
 decided-rounds (standing.Rounds Drain left place) counts event = refl
@@ -138,7 +140,7 @@ next-kept sizes standing counts few =
     by true next low = none (rounds_left standing)
     by false None low = none (rounds_left standing)
     by false (Some next) low =
-        let same : rounds_of_event (decided standing counts next.event) ≡ rounds_of_event next.event =
+        let same : rounds_of_event (event_by_counts standing counts next.event) ≡ rounds_of_event next.event =
         decided-rounds standing counts next.event in
         omega (arith, low, same)
 

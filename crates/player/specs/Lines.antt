@@ -91,24 +91,24 @@ abbrev pub is_over : LinePlace → Counts → Bool
 is_over standing counts = has_reached standing counts || (asks_idle standing && counts.idle)
 
 -- an alive packet of a muted node is lost in place of being delivered
-abbrev pub muted : ℕ → Counts → Event → Event
-muted node counts (event.Deliver y k) =
+abbrev pub event_when_muted : ℕ → Counts → Event → Event
+event_when_muted node counts (event.Deliver y k) =
     if counts.alive && (counts.sender == node) then event.Lose y k else event.Deliver y k
-muted node counts event = event
+event_when_muted node counts event = event
 
 -- an alive packet in a mixed round is delivered in place of being lost
-abbrev pub spared : Counts → Event → Event
-spared counts (event.Lose y k) = if counts.alive then event.Deliver y k else event.Lose y k
-spared counts event = event
+abbrev pub event_when_spared : Counts → Event → Event
+event_when_spared counts (event.Lose y k) = if counts.alive then event.Deliver y k else event.Lose y k
+event_when_spared counts event = event
 
 -- what comes of an event where the packet that it concerns is an alive one, or isn't
-abbrev pub decided : LinePlace → Counts → Event → Event
-decided (standing.Rounds (rule.Mute node) left place) counts event = muted node counts event
-decided (standing.Mixed left place draws) counts event = spared counts event
-decided _ counts event = event
+abbrev pub event_by_counts : LinePlace → Counts → Event → Event
+event_by_counts (standing.Rounds (rule.Mute node) left place) counts event = event_when_muted node counts event
+event_by_counts (standing.Mixed left place draws) counts event = event_when_spared counts event
+event_by_counts _ counts event = event
 
 abbrev pub decided_move : LinePlace → Counts → Move → Move
-decided_move standing counts move = record move { event = decided standing counts move.event }
+decided_move standing counts move = record move { event = event_by_counts standing counts move.event }
 
 -- the next event of a line, and where the line stands then; none where it has ended
 abbrev pub next_event : Sizes → LinePlace → Counts → Option Move
@@ -141,13 +141,13 @@ packet_of_move x y (Some move) = packet_of x y move.event
 packet_of_move x y None = None
 
 -- the packet that the next event of a line concerns, where the line goes on
-abbrev pub aimed : Sizes → ℕ → ℕ → LinePlace → Option (Bool × ℕ)
-aimed sizes x y standing = packet_of_move x y (proposed sizes x y standing)
+abbrev pub packet_aimed_at : Sizes → ℕ → ℕ → LinePlace → Option (Bool × ℕ)
+packet_aimed_at sizes x y standing = packet_of_move x y (proposed sizes x y standing)
 
 -- the bus whose packets a drain delivers next, whatever is counted, and how many of them are left
-abbrev pub draining : LinePlace → Option (Bool × ℕ)
-draining (standing.Rounds rule.Drain left (place.Delivers y packets)) = Some (y, packets)
-draining _ = None
+abbrev pub bus_to_drain : LinePlace → Option (Bool × ℕ)
+bus_to_drain (standing.Rounds rule.Drain left (place.Delivers y packets)) = Some (y, packets)
+bus_to_drain _ = None
 
 -- how many rounds are left of a drain that stands between two rounds
 abbrev pub rounds_to_drain : LinePlace → Option ℕ

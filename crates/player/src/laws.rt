@@ -6,14 +6,14 @@ ghost use Rattle.player.specs.declared.standing.LinePlace.{LinePlace};
 ghost use Rattle.player.specs.declared.standing.Move.{Move};
 ghost use Rattle.player.specs.Ended.{rounds_ended, rounds_left};
 ghost use Rattle.player.specs.Played.{events_from, events_of};
-ghost use Rattle.player.specs.Lines.{next_event, packet_of, aimed};
+ghost use Rattle.player.specs.Lines.{next_event, packet_of, packet_aimed_at};
 
 /// The packet that is aimed at is the one that the next event concerns, whether it is an alive packet or not and
 /// whoever sent it.
 pub fn the_aimed_packet_is_concerned()
     ensures { (sizes : Sizes) (standing : LinePlace) (counts : Counts) (move : Move)
         → next_event sizes standing counts ≡ Some move
-        → aimed sizes counts.x counts.y standing ≡ packet_of counts.x counts.y move.event }
+        → packet_aimed_at sizes counts.x counts.y standing ≡ packet_of counts.x counts.y move.event }
 {}
 
 /// Whatever happens, a line of rounds ends at most so many, from its beginning or from wherever it stands. There are at

@@ -4,8 +4,8 @@ ghost use Rattle.player.specs.declared.standing.LinePlace.TheVariants as standin
 ghost use Rattle.player.specs.declared.standing.Place.TheVariants as place;
 ghost use Rattle.player.specs.declared.standing.Rule.TheVariants as rule;
 ghost use Rattle.player.specs.Lines.{begun, proposed, asks_idle, next_event, stands_after, event_of, packet_of, on_bus};
-ghost use Rattle.player.specs.Lines.{aimed};
-ghost use Rattle.player.specs.Lines.{draining, is_mixed, rounds_to_drain, with_packets_left};
+ghost use Rattle.player.specs.Lines.{packet_aimed_at};
+ghost use Rattle.player.specs.Lines.{bus_to_drain, is_mixed, rounds_to_drain, with_packets_left};
 
 use crate::mixed::{first_draws, next_mixed};
 use crate::round::next_turn;
@@ -50,7 +50,7 @@ impl Player {
     /// The packet that the next event concerns where the buses hold `x` and `y` packets and the line goes on: whether
     /// it is on bus Y, and its position.
     pub fn aim(&self, x: u32, y: u32) -> Option<(bool, u32)>
-        ensures { result ≡ aimed self.now.sizes x y self.now.standing }
+        ensures { result ≡ packet_aimed_at self.now.sizes x y self.now.standing }
     {
         let next = proposed(self.sizes, x, y, self.standing)?;
         packet_of(x, y, next.event)
@@ -89,7 +89,7 @@ impl Player {
     /// Whether a drain delivers the packets of bus Y, or else of bus X, next, whatever is counted, and how many of them
     /// are left.
     pub fn draining(&self) -> Option<(bool, u32)>
-        ensures { result ≡ draining self.now.standing }
+        ensures { result ≡ bus_to_drain self.now.standing }
     {
         match self.standing {
             LinePlace::Rounds {

@@ -1,7 +1,7 @@
 ghost use Rattle.std.specs.Prelude.{◌≡◌, ℕ};
 ghost use Rattle.player.specs.declared.standing.LinePlace.TheVariants as standing;
 ghost use Rattle.player.specs.declared.standing.Place.{Place};
-ghost use Rattle.player.specs.Lines.{decided, minds_idle, is_reached, muted, spared};
+ghost use Rattle.player.specs.Lines.{event_by_counts, minds_idle, is_reached, event_when_muted, event_when_spared};
 
 use crate::standing::Rule;
 use schedule::{Counts, Event};
@@ -36,7 +36,8 @@ impl Rule {
 
     /// What comes of an event in a line of this rule, where the packet that it concerns is counted.
     pub fn decided(self, counts: &Counts, event: Event) -> Event
-        ensures { (left : ℕ) (place : Place) → result ≡ decided (standing.Rounds self left place) counts.now event }
+        ensures { (left : ℕ) (place : Place) → result
+            ≡ event_by_counts (standing.Rounds self left place) counts.now event }
     {
         match self {
             Rule::Mute(node) => muted(node, counts, event),
@@ -47,7 +48,7 @@ impl Rule {
 
 /// The event in a line that mutes a node: an alive packet of it is lost.
 pub fn muted(node: u8, counts: &Counts, event: Event) -> Event
-    ensures { result ≡ muted node counts.now event }
+    ensures { result ≡ event_when_muted node counts.now event }
 {
     match event {
         Event::Deliver { y, k } if counts.alive && counts.sender == node => Event::Lose { y, k },
@@ -57,7 +58,7 @@ pub fn muted(node: u8, counts: &Counts, event: Event) -> Event
 
 /// The event in a mixed line: an alive packet isn't lost.
 pub fn spared(counts: &Counts, event: Event) -> Event
-    ensures { result ≡ spared counts.now event }
+    ensures { result ≡ event_when_spared counts.now event }
 {
     match event {
         Event::Lose { y, k } if counts.alive => Event::Deliver { y, k },

@@ -3,7 +3,7 @@ use Rattle.std.proofs.Common.{◌≡◌, ℕ, ℤ, Bool, false, List, [], ◌∷
 use Rattle.std.proofs.Common.{subst, ap, ◌∙◌}
 use Rattle.std.proofs.lemmas.List.{length-set}
 use Rattle.process_semantics.specs.declared.point.Point.TheVariants as point
-use Rattle.process_semantics.specs.Image.{restored}
+use Rattle.process_semantics.specs.Image.{state_from_words}
 use Rattle.process_semantics.specs.Process as process
 use Rattle.process_semantics.specs.Process.{ProcessState, Runs, Serves}
 use Rattle.whole_states.specs.Listing.{files_of}
@@ -139,7 +139,7 @@ module _ (state new : ProcessState) (next : List ℕ) (remembered : Remembered)
   }
 
   pub applying : (hand : Bool) (words : List ℤ) (files : List FileNumber) (others : List ℕ) (after : Remembered)
-      → restored state hand words ≡ Some new
+      → state_from_words state hand words ≡ Some new
       → hand ≡ is_some after.table.in_hand → others ≡ with_files files next → IsSound after
       → IsConsistent new others after
   applying hand words files others after there held put sound = record {

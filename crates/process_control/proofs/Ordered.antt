@@ -5,11 +5,11 @@ use Rattle.std.proofs.lemmas.Option.{option_and_then_some, same_Some}
 use Rattle.process_semantics.specs.declared.disc.DiscState.{DiscState}
 use Rattle.process_semantics.specs.declared.point.Point.{Point}
 use Rattle.process_semantics.specs.declared.point.Point.TheVariants as point
-use Rattle.process_semantics.specs.Image.{disc_with, listed_items, listed_files, restored, restored_program}
+use Rattle.process_semantics.specs.Image.{disc_with, listed_items, listed_files, state_from_words, restored_program}
 use Rattle.process_semantics.specs.Image.{restored_disc}
 use Rattle.process_semantics.specs.Process as process
 use Rattle.process_semantics.specs.Process.{ProcessState, Runs, Serves}
-use Rattle.process_semantics.specs.Words.{counted_in, long_in, whole}
+use Rattle.process_semantics.specs.Words.{with_count_in, long_in, whole}
 use Rattle.whole_states.specs.Listing.{MayList, files_of}
 use Rattle.whole_states.specs.Processes.{IsDiscAt, IsWholeProcess}
 use Rattle.whole_states.proofs.Calls.{took-awake, asked-whole, got-awake, answered-awake, checkpointed-awake}
@@ -85,12 +85,13 @@ disc-with-order true request (word ∷ reply) number t is =
 disc-order : (hand : Bool) (words : List ℤ) (t : DiscState) → restored_disc hand words ≡ Some t
     → HoldsAt t.label t.request
 disc-order hand words t is =
-    option_and_then_some _ (counted_in words) t is (λ request first next.
+    option_and_then_some _ (with_count_in words) t is (λ request first next.
     option_and_then_some _ (long_in request.1) t next (λ number second later.
-    option_and_then_some _ (whole (counted_in number.1)) t later
+    option_and_then_some _ (whole (with_count_in number.1)) t later
     (λ reply third last. disc-with-order hand request.0 reply number.0 t last)))
 
-pub restored-order : (s t : ProcessState) (hand : Bool) (words : List ℤ) → IsInOrder s → restored s hand words ≡ Some t
+pub restored-order : (s t : ProcessState) (hand : Bool) (words : List ℤ) → IsInOrder s
+    → state_from_words s hand words ≡ Some t
     → IsInOrder t
 restored-order (Runs program s) t hand words is there =
     let read = mapped (Runs program) (restored_program program s hand words) t there in
@@ -99,11 +100,11 @@ restored-order (Serves sectors s) t hand words is there =
     let read = mapped (Serves sectors) (restored_disc hand words) t there in
     subst IsInOrder read.2 (disc-order hand words read.0 read.1)
 
-pub restored-hand : (s t : ProcessState) (hand : Bool) (words : List ℤ) → restored s hand words ≡ Some t
+pub restored-hand : (s t : ProcessState) (hand : Bool) (words : List ℤ) → state_from_words s hand words ≡ Some t
     → process.in_hand t ≡ hand
 restored-hand s t hand words there = search rules
 
-pub restored-files : (s t : ProcessState) (hand : Bool) (words : List ℤ) → restored s hand words ≡ Some t
+pub restored-files : (s t : ProcessState) (hand : Bool) (words : List ℤ) → state_from_words s hand words ≡ Some t
     → files_of s ≡ files_of t
 restored-files s t hand words there = search rules
 

@@ -6,7 +6,7 @@ use Rattle.process_semantics.specs.Process.{ProcessState}
 use Rattle.checkpoint_image.specs.Receive.{after_answering, last_ones}
 use Rattle.checkpoint_image.specs.declared.receive.OpenerBlock.{OpenerBlock}
 use Rattle.checkpoint_image.specs.declared.receive.ReceiveBlock.{ReceiveBlock}
-use Rattle.computed_changes.specs.sync_ids.specs.Changes.{add_few, changed, fits_change}
+use Rattle.computed_changes.specs.sync_ids.specs.Changes.{add_few, table_with_change, fits_change}
 use Rattle.computed_changes.specs.sync_ids.specs.Tables.{Remembered, IsSound, are_of_depths, can_hold, fits}
 use Rattle.computed_changes.specs.sync_ids.specs.Tables.{last_taken, taken_in}
 use Rattle.computed_changes.specs.sync_ids.specs.declared.change.ReceiveChange.{ReceiveChange}
@@ -73,5 +73,6 @@ put-table fit told block before after same yes_fit is =
 
 -- the table that comes of a change which fits does so too
 pub fits_whole : (r : Remembered) (change : ReceiveChange) → fits_change r change ≡ true
-    → fits r (changed r.depths r.table change) ≡ true
-fits_whole r change is = and-right (add_few r.depths 0 change.changes) (fits r (changed r.depths r.table change)) is
+    → fits r (table_with_change r.depths r.table change) ≡ true
+fits_whole r change is =
+    and-right (add_few r.depths 0 change.changes) (fits r (table_with_change r.depths r.table change)) is

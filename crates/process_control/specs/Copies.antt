@@ -10,7 +10,7 @@ use Rattle.computed_changes.specs.world_semantics.specs.declared.role.Role.{Role
 use Rattle.computed_changes.specs.world_semantics.specs.Core.{Core, core_at_start}
 use Rattle.computed_changes.specs.world_semantics.specs.Passes.{after_getting, after_sending, after_sent, after_told}
 use Rattle.computed_changes.specs.world_semantics.specs.Passes.{checkpoint_of, copy_at_checkpoint}
-use Rattle.computed_changes.specs.world_semantics.specs.Rules.{blank_copy, renewed, taken_over}
+use Rattle.computed_changes.specs.world_semantics.specs.Rules.{blank_copy, copy_with_renewal, taken_over}
 use Rattle.computed_changes.specs.world_semantics.specs.World.{Copy, copy_at_boot}
 use Rattle.process_control.specs.Cores.{CoreAndDepths, with_depths}
 use Rattle.computed_changes.specs.Changed.{core_as_changed}
@@ -126,7 +126,7 @@ copy_taking_over copy = after (taken_over 0) copy
 -- the copy after the processor of the other one was loaded again: it has to send everything, in the next era, in which
 -- nothing was sent yet
 abbrev pub copy_renewed : CopyState → CopyState
-copy_renewed copy = after renewed copy
+copy_renewed copy = after copy_with_renewal copy
 
 -- the copy in a processor that was loaded again, of a process in this state at its beginning: blank, in this era
 abbrev pub copy_blank : ℕ → ProcessState → ℕ → List OpenerSpec → CopyState

@@ -7,7 +7,7 @@ ghost use Rattle.process_semantics.specs.Process.{asked_file, call_of, in_hand, 
 ghost use Rattle.whole_states.specs.Listing.{files_of};
 ghost use Rattle.whole_states.specs.Processes.{IsWholeProcess};
 ghost use Rattle.checkpoint_image.specs.Behaving.{last_write_of};
-ghost use Rattle.checkpoint_image.specs.Receive.{standing};
+ghost use Rattle.checkpoint_image.specs.Receive.{request_standing};
 ghost use Rattle.checkpoint_image.specs.declared.receive.RequestStanding.TheVariants.{Next};
 ghost use Rattle.computed_changes.specs.sync_ids.specs.Tables.{IsDepth};
 ghost use Rattle.computed_changes.specs.world_semantics.specs.Core.{core_acting, core_getting, core_going, next_on};
@@ -179,7 +179,7 @@ impl<B: Behaviour> CopyControl<B> {
     /// How a request stands to its receive table. Where it was answered, and the reply is kept, this is told again.
     pub fn standing(&self, request: &Request) -> RequestStanding
         requires { request.now.opener < length self.now.depths }
-        ensures { result ≡ standing self.now.core.receive request.now }
+        ensures { result ≡ request_standing self.now.core.receive request.now }
     {
         self.core.receive().standing(request.opener, request.number)
     }
@@ -216,7 +216,7 @@ impl<B: Behaviour> CopyControl<B> {
     /// Takes a request that stands Next: it is in hand then.
     pub fn take(&mut self, request: &Request)
         requires point { point self.old.core.state ≡ Take }
-        requires next { standing self.old.core.receive request.now ≡ Next }
+        requires next { request_standing self.old.core.receive request.now ≡ Next }
         ensures { option_map (with_core self.old) (core_taking request.now self.old.core) ≡ Some self.new }
     {
         self.core.take(request);

@@ -7,7 +7,7 @@ ghost use Rattle.checkpoint_image.specs.declared.message.ImageMessage.{ImageMess
 ghost use Rattle.checkpoint_image.specs.declared.message.TakenMessage.{TakenMessage};
 ghost use Rattle.checkpoint_image.specs.declared.receive.OpenerBlock.{OpenerBlock};
 ghost use Rattle.computed_changes.specs.world_semantics.specs.declared.role.Role.TheVariants.{Blank, Watching};
-ghost use Rattle.computed_changes.specs.world_semantics.specs.Core.{Core, carried, carried_whole, put_in};
+ghost use Rattle.computed_changes.specs.world_semantics.specs.Core.{Core, carried_image, carried_whole, put_in};
 ghost use Rattle.computed_changes.specs.Checkpoints.{is_of_last};
 ghost use Rattle.computed_changes.specs.Fitting.{fits};
 ghost use Rattle.process_control.specs.Cores.{answering_of, core_answering, core_taking};
@@ -61,7 +61,7 @@ pub fn everything_is_sent_until_it_is_taken()
     ensures sent { (copy : CopyState) → (copy_sending (copy_renewed copy)).renewal ≡ true }
     ensures told { (copy : CopyState) → (copy_told (copy_sending (copy_renewed copy))).renewal ≡ false }
     ensures named { (process : ℕ) (copy : CopyState)
-        → (copy_checkpoint process (copy_told copy)).image ≡ carried copy.core }
+        → (copy_checkpoint process (copy_told copy)).image ≡ carried_image copy.core }
 {}
 
 /// What was sent elsewhere than at a checkpoint comes to its end with no step of the process.

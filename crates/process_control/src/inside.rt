@@ -8,12 +8,13 @@ ghost use Rattle.process_semantics.specs.Process.{asked_file, call_of, in_hand, 
 ghost use Rattle.whole_states.specs.Listing.{files_of};
 ghost use Rattle.whole_states.specs.Processes.{IsWholeProcess};
 ghost use Rattle.checkpoint_image.specs.Behaving.{last_write_of};
-ghost use Rattle.checkpoint_image.specs.Receive.{standing};
+ghost use Rattle.checkpoint_image.specs.Receive.{request_standing};
 ghost use Rattle.checkpoint_image.specs.declared.receive.RequestStanding.TheVariants.{Next};
 ghost use Rattle.computed_changes.specs.change_layout.specs.Changing.{whole_of};
 ghost use Rattle.computed_changes.specs.sync_ids.specs.Changes.{fits_change};
 ghost use Rattle.computed_changes.specs.sync_ids.specs.Tables.{IsDepth};
-ghost use Rattle.computed_changes.specs.world_semantics.specs.Core.{after_passing, carried, carried_by, carried_whole};
+ghost use Rattle.computed_changes.specs.world_semantics.specs.Core.{after_passing, carried_image, carried_by};
+ghost use Rattle.computed_changes.specs.world_semantics.specs.Core.{carried_whole};
 ghost use Rattle.computed_changes.specs.world_semantics.specs.Core.{core_acting, core_at_start};
 ghost use Rattle.computed_changes.specs.world_semantics.specs.Core.{core_getting, core_going, next_on};
 ghost use Rattle.process_control.specs.Cores.{answering_of, asking_of, core_asking, core_taking, with_depths};
@@ -126,7 +127,7 @@ impl<B: Behaviour> CopyCore<B> {
 
     pub fn take(&mut self, request: &Request)
         requires point { point self.old.core.state ≡ Take }
-        requires next { standing self.old.core.receive request.now ≡ Next }
+        requires next { request_standing self.old.core.receive request.now ≡ Next }
         ensures core { core_taking request.now self.old.core ≡ Some self.new.core }
         ensures depths { self.new.depths ≡ self.old.depths }
     {
@@ -219,7 +220,7 @@ impl<B: Behaviour> CopyCore<B> {
 
     fn carried(&self, alloc: Global) -> Result<Image, NoMemory>
         requires { point self.now.core.state ≡ AtCheckpoint }
-        ensures { IfOk result (λ image. image ≡ carried self.now.core) }
+        ensures { IfOk result (λ image. image ≡ carried_image self.now.core) }
     {
         let listed = self.behaviour.listed();
         let body = self.behaviour.image(alloc, listed)?;

@@ -1,6 +1,6 @@
 ghost use Rattle.std.specs.Prelude.{◌≡◌, length};
 ghost use Rattle.std.specs.Option.{option_copied};
-ghost use Rattle.disc_device.specs.mirror.specs.States.{standing};
+ghost use Rattle.disc_device.specs.mirror.specs.States.{drive_state_at};
 ghost use Rattle.node_copies.specs.Seen.{drives_on, sectors_on};
 ghost use Rattle.process_semantics.specs.Process.{point};
 ghost use Rattle.plain_semantics.specs.Openers.{openers_of};
@@ -141,7 +141,7 @@ impl ProcessCopies {
 
     /// How the drive of its device at a place stands; one that isn't there has failed.
     pub fn standing(&self, drive: u8) -> DriveState
-        ensures { result ≡ standing self.now.drives drive }
+        ensures { result ≡ drive_state_at self.now.drives drive }
     {
         match &self.device {
             None => DriveState::Failed,

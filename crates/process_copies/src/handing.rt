@@ -3,7 +3,7 @@ ghost use Rattle.process_semantics.specs.declared.point.Point.TheVariants.{Await
 ghost use Rattle.process_semantics.specs.Process as process;
 ghost use Rattle.node_copies.specs.file_calls.specs.Queue.{sent_again};
 ghost use Rattle.plain_semantics.specs.Openers.{openers_of};
-ghost use Rattle.world_semantics.specs.checkpoint_image.specs.Receive.{repeated};
+ghost use Rattle.world_semantics.specs.checkpoint_image.specs.Receive.{reply_sent_again};
 ghost use Rattle.world_semantics.specs.Shares.{covered_count, share_after_cover, share_of, with_share};
 ghost use Rattle.node_copies.specs.message_wires.specs.HasRoom.{CopyHasRoom, PairHasRoom};
 ghost use Rattle.node_copies.specs.sendings.specs.Seen.{message_of};
@@ -120,7 +120,7 @@ impl ProcessCopies {
 
     fn arrive(&mut self, which: Which, request: Request) -> Arrival
         requires { request.opener < length (openers_of self.old.site self.old.number) }
-        ensures again { sent_again result ≡ repeated (copy_of which self.old.pair).core.receive request }
+        ensures again { sent_again result ≡ reply_sent_again (copy_of which self.old.pair).core.receive request }
         ensures process { self.new ≡ placed_with which (after_request (copy_of which self.old.pair) request) self.old }
     {
         self.copies.of_mut(which).arrive(request)

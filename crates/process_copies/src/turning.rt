@@ -2,7 +2,7 @@ ghost use Rattle.std.specs.Prelude.{◌≡◌, ◌<◌, length};
 ghost use Rattle.std.specs.Bool.{OnTrue};
 ghost use Rattle.disc_device.specs.mirror.specs.Mirror.{content};
 ghost use Rattle.disc_device.specs.mirror.specs.States.{states_of};
-ghost use Rattle.node_copies.specs.machine_states.specs.Drives.{is_of_two, turned, turned_by};
+ghost use Rattle.node_copies.specs.machine_states.specs.Drives.{is_of_two, outcome_of_drive_change, turned_by};
 ghost use Rattle.node_copies.specs.Seen.{drives_on, sectors_on};
 ghost use Rattle.process_copies.specs.Turning.{TurnsDrives, TurnsPlaced};
 
@@ -14,7 +14,8 @@ use schedule::DriveChange;
 impl ProcessCopies {
     /// A drive of its device changes, if it has two and this one can change so. Nothing else does.
     pub fn turn(&mut self, drive: u8, change: DriveChange) -> Effect
-        ensures process { TurnsPlaced (turned change (length self.old.pair.sectors) drive self.old.drives) self.old
+        ensures process { TurnsPlaced (outcome_of_drive_change change (length self.old.pair.sectors) drive
+            self.old.drives) self.old
             result self.new }
         ensures site { self.new.site ≡ self.old.site }
         ensures number { self.new.number ≡ self.old.number }
@@ -26,7 +27,8 @@ impl ProcessCopies {
 
 /// A drive of the device of this process changes, if there are two and this one can change so.
 fn turn_on(device: &mut Option<Disc>, process: u8, drive: u8, change: DriveChange) -> Effect
-    ensures drives { TurnsDrives (turned change (length (sectors_on device.old)) drive (drives_on device.old)) process
+    ensures drives { TurnsDrives (outcome_of_drive_change change (length (sectors_on device.old)) drive
+        (drives_on device.old)) process
         (drives_on device.old) result (drives_on device.new) }
     ensures sectors { sectors_on device.new ≡ sectors_on device.old }
 {
@@ -38,7 +40,8 @@ fn turn_on(device: &mut Option<Disc>, process: u8, drive: u8, change: DriveChang
 
 /// A drive of the disc of this process changes, if the disc has two and this one can change so.
 fn turn_disc(disc: &mut Disc, process: u8, drive: u8, change: DriveChange) -> Effect
-    ensures drives { TurnsDrives (turned change (length (content disc.old)) drive (states_of disc.old)) process
+    ensures drives { TurnsDrives (outcome_of_drive_change change (length (content disc.old)) drive
+        (states_of disc.old)) process
         (states_of disc.old) result (states_of disc.new) }
     ensures sectors { content disc.new ≡ content disc.old }
 {

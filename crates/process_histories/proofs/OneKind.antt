@@ -13,9 +13,9 @@ use Rattle.world_semantics.specs.World.{device_at_boot}
 use Rattle.tal_tree.specs.declared.site.OpenerSpec.{OpenerSpec}
 use Rattle.world_semantics.specs.checkpoint_image.specs.declared.receive.OpenerBlock.{OpenerBlock}
 use Rattle.world_semantics.specs.plain_semantics.specs.Openers.{files_of, openers_of}
-use Rattle.process_histories.specs.Histories.{HasDone, nothing_done, one_more, kind_of, unmirrored}
+use Rattle.process_histories.specs.Histories.{HasDone, nothing_done, one_more, kind_of, kind_without_mirror}
 
-start-kind : (what : Kind) → kind_of (process.start_of what) ≡ unmirrored what
+start-kind : (what : Kind) → kind_of (process.start_of what) ≡ kind_without_mirror what
 start-kind (kind.Disc sectors mirrored) = refl
 start-kind (kind.Pair program) = refl
 
@@ -48,21 +48,22 @@ device-kind (Runs program s) found = refl
 device-kind (Serves sectors s) found = refl
 
 -- a kind has the sectors and the files that it has with no drives told apart
-pub same-device : (what : Kind) → device_at_boot (unmirrored what) ≡ device_at_boot what
+pub same-device : (what : Kind) → device_at_boot (kind_without_mirror what) ≡ device_at_boot what
 same-device (kind.Disc sectors mirrored) = refl
 same-device (kind.Pair program) = refl
 
-pub same-files : (what : Kind) → files_of (unmirrored what) ≡ files_of what
+pub same-files : (what : Kind) → files_of (kind_without_mirror what) ≡ files_of what
 same-files (kind.Disc sectors mirrored) = refl
 same-files (kind.Pair program) = refl
 
 -- and it is that of a program exactly then
-pub same-pair : (what : Kind) (program : Program) → kind.Pair program ≡ unmirrored what → what ≡ kind.Pair program
+pub same-pair : (what : Kind) (program : Program) → kind.Pair program ≡ kind_without_mirror what
+    → what ≡ kind.Pair program
 same-pair (kind.Disc sectors mirrored) program is = absurd (cc)
 same-pair (kind.Pair other) program is = sym is
 
 pub done-kind : {site : Site} {number : ℕ} {spec : ProcessSpec} {deeds : List Deed} {core : Core}
-    → HasDone site number spec deeds core → kind_of core.state ≡ unmirrored spec.what
+    → HasDone site number spec deeds core → kind_of core.state ≡ kind_without_mirror spec.what
 done-kind {spec = spec} nothing_done = start-kind spec.what
 done-kind (one_more {before = core} done (goes at)) = inner-kind core.state ∙ done-kind done
 done-kind (one_more {before = core} done (checkpoints at)) = checkpointed-kind core.state ∙ done-kind done

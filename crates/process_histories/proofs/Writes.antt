@@ -25,7 +25,7 @@ use Rattle.world_semantics.specs.Core.{takes, asks, gets, answers, acts}
 use Rattle.world_semantics.specs.World.{device_at_boot}
 use Rattle.world_semantics.proofs.Lists.{repeated}
 use Rattle.process_histories.specs.Devices.{after_call, sectors_after, writes_in}
-use Rattle.process_histories.specs.Histories.{HasDone, nothing_done, one_more, kind_of, unmirrored}
+use Rattle.process_histories.specs.Histories.{HasDone, nothing_done, one_more, kind_of, kind_without_mirror}
 use Rattle.process_histories.proofs.Places.{set-one}
 use Rattle.process_histories.proofs.OneKind.{done-kind, same-device}
 
@@ -257,7 +257,7 @@ module _ {site : Site} {number : ℕ} {spec : ProcessSpec} where
       (one_more {before = core} done (acts at is)) =
       by core.state (sym is) (done-kind done)
     where
-      by : (s : ProcessState) → process.call_of s ≡ Write sector words write → kind_of s ≡ unmirrored spec.what
+      by : (s : ProcessState) → process.call_of s ≡ Write sector words write → kind_of s ≡ kind_without_mirror spec.what
           → sector < length (sectors_after spec.what deeds)
       by (Runs program s) is same = absurd (cc)
       by (Serves sectors s) is same =

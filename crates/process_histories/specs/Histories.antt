@@ -15,9 +15,9 @@ pub data HasDone (site : Site) (number : ℕ) (spec : ProcessSpec) : List Deed �
       → Advances (openers_of site number) before deed after → HasDone site number spec (deed ∷ deeds) after
 
 -- a kind of process, where no drives are told apart: those of a mirrored disc are no part of what the process does
-abbrev pub unmirrored : Kind → Kind
-unmirrored (kind.Disc sectors mirrored) = kind.Disc sectors false
-unmirrored (kind.Pair program) = kind.Pair program
+abbrev pub kind_without_mirror : Kind → Kind
+kind_without_mirror (kind.Disc sectors mirrored) = kind.Disc sectors false
+kind_without_mirror (kind.Pair program) = kind.Pair program
 
 -- what kind of process a state is of
 abbrev pub kind_of : ProcessState → Kind

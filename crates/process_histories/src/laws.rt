@@ -19,7 +19,7 @@ ghost use Rattle.world_semantics.specs.Core.{Core, Deed, Acted, Advances};
 ghost use Rattle.world_semantics.specs.Own.{found_on};
 ghost use Rattle.process_histories.specs.Bounds.{AreBounded};
 ghost use Rattle.process_histories.specs.Devices.{sectors_after, writes_in};
-ghost use Rattle.process_histories.specs.Histories.{HasDone, kind_of, unmirrored};
+ghost use Rattle.process_histories.specs.Histories.{HasDone, kind_of, kind_without_mirror};
 ghost use Rattle.process_histories.specs.Words.{taken_from, answered_to, requests_on, replies_on, awaits_on, one_if};
 
 /// Deeds determine the core that they leave, and the deeds that came before others were done too, each from the core
@@ -80,7 +80,7 @@ pub fn the_last_replies_are_kept()
 /// A process stays of its kind, with a next number for each of its files and a block for each of its openers.
 pub fn a_process_stays_of_its_kind()
     ensures kind { (site : Site) (number : ℕ) (spec : ProcessSpec) (deeds : List Deed) (core : Core)
-        → HasDone site number spec deeds core → kind_of core.state ≡ unmirrored spec.what }
+        → HasDone site number spec deeds core → kind_of core.state ≡ kind_without_mirror spec.what }
     ensures files { (site : Site) (number : ℕ) (spec : ProcessSpec) (deeds : List Deed) (core : Core)
         → HasDone site number spec deeds core
         → length core.next ≡ length (files_of spec.what) }

@@ -12,7 +12,7 @@ use Rattle.whole_states.specs.tal_tree.specs.declared.program.Program.{Program}
 use Rattle.whole_states.specs.tal_tree.specs.declared.program.Target.{Target}
 use Rattle.whole_states.specs.tal_tree.specs.declared.program.Target.TheVariants as target
 use Rattle.whole_states.specs.process_semantics.specs.declared.point.Point.TheVariants as point
-use Rattle.whole_states.specs.process_semantics.specs.Image.{imaged, image_of, restored}
+use Rattle.whole_states.specs.process_semantics.specs.Image.{state_in_image, image_of, state_from_words}
 use Rattle.whole_states.specs.process_semantics.specs.Process as process
 use Rattle.whole_states.specs.process_semantics.specs.Process.{ProcessState, Runs, Serves}
 use Rattle.whole_states.specs.Listing.{MayList}
@@ -173,10 +173,10 @@ pub everything-tells : (s t : ProcessState) → IsWholeProcess s → IsWholeProc
     → (process.point s ≡ point.Await → ⊥)
     → (process.point t ≡ point.Await → ⊥)
     → process.in_hand s ≡ process.in_hand t → image_of (everything_of s) s ≡ image_of (everything_of t) t
-    → imaged s ≡ imaged t
+    → state_in_image s ≡ state_in_image t
 everything-tells s t is other same away away_too hand words =
     same_Some _ _ (sym (restores s s (everything_of s) [] is is (everything-listed s) away
     (everything-agrees s s (of-itself s)))
-    ∙ ap (λ h. restored s h (image_of (everything_of s) s)) hand
-    ∙ ap (restored s (process.in_hand t)) words
+    ∙ ap (λ h. state_from_words s h (image_of (everything_of s) s)) hand
+    ∙ ap (state_from_words s (process.in_hand t)) words
     ∙ restores t s (everything_of t) [] other is (everything-listed t) away_too (everything-agrees s t same))

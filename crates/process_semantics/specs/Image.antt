@@ -17,7 +17,7 @@ use Rattle.process_semantics.specs.declared.point.Point.TheVariants.{Take, Answe
 use Rattle.process_semantics.specs.Process.{ProcessState, Runs, Serves, point, after_checkpoint}
 use Rattle.process_semantics.specs.Rests.{next_number, rest_from}
 use Rattle.process_semantics.specs.State.{Entry, Frame, ProgramState, words_of, in_next, called_by}
-use Rattle.process_semantics.specs.Words.{counted_in, long, counted_if, Front, count_in, words_in, whole, long_in}
+use Rattle.process_semantics.specs.Words.{with_count_in, long, counted_if, Front, count_in, words_in, whole, long_in}
 
 -- The words of a program's state
 
@@ -49,8 +49,8 @@ imaged_at s AtCheckpoint = after_checkpoint s
 imaged_at s _ = s
 
 -- the state that an image is of: at a checkpoint the one after it
-abbrev pub imaged : ProcessState → ProcessState
-imaged s = imaged_at s (point s)
+abbrev pub state_in_image : ProcessState → ProcessState
+state_in_image s = imaged_at s (point s)
 
 -- the words of a state, with the items of a list
 abbrev pub state_words : List ℕ → ProcessState → List ℤ
@@ -59,7 +59,7 @@ state_words items (Serves sectors s) = disc_words s
 
 -- the words of an image with the items of a list; a disc has none
 abbrev pub image_of : List ℕ → ProcessState → List ℤ
-image_of items s = state_words items (imaged s)
+image_of items s = state_words items (state_in_image s)
 
 -- the items that a CHECKPOINT names
 abbrev pub listed_items_in : What-F What Statement → List ℕ
@@ -179,12 +179,12 @@ abbrev pub restored_disc : Bool → List ℤ → Option DiscState
 restored_disc in_hand words =
     option_and_then
     (λ (request, left). option_and_then
-    (λ (number, rest). option_and_then (disc_with in_hand request number) (whole (counted_in rest)))
+    (λ (number, rest). option_and_then (disc_with in_hand request number) (whole (with_count_in rest)))
     (long_in left))
-    (counted_in words)
+    (with_count_in words)
 
 -- the state that an image's words restore, for an image that has a request in hand or none; none where they are no
 -- image of the process
-abbrev pub restored : ProcessState → Bool → List ℤ → Option ProcessState
-restored (Runs code s) in_hand words = option_map (Runs code) (restored_program code s in_hand words)
-restored (Serves sectors s) in_hand words = option_map (Serves sectors) (restored_disc in_hand words)
+abbrev pub state_from_words : ProcessState → Bool → List ℤ → Option ProcessState
+state_from_words (Runs code s) in_hand words = option_map (Runs code) (restored_program code s in_hand words)
+state_from_words (Serves sectors s) in_hand words = option_map (Serves sectors) (restored_disc in_hand words)

@@ -26,10 +26,10 @@ values_of memory (e ∷ es) =
     option_and_then (λ word. option_map (λ words. word ∷ words) (values_of memory es)) (value_of memory e)
 
 -- the state after a word went to a target, if neither traps
-abbrev pub assigned : ProgramState → Option Cell → Option ℤ → Option ProgramState
-assigned s to None = None
-assigned s None (Some word) = None
-assigned s (Some to) (Some word) = Some (done (with_word to word s))
+abbrev pub state_after_assigning : ProgramState → Option Cell → Option ℤ → Option ProgramState
+state_after_assigning s to None = None
+state_after_assigning s None (Some word) = None
+state_after_assigning s (Some to) (Some word) = Some (done (with_word to word s))
 
 -- the state after a test: one list of entries comes next where it is true, the other where it is false
 abbrev pub tested : ProgramState → List Entry → List Entry → Option Bool → Option ProgramState
@@ -42,14 +42,15 @@ entered_by s number arguments None = None
 entered_by s number arguments (Some procedure) = Some (entering number arguments procedure s)
 
 -- the state after a procedure was entered; the call stays first in its frame
-abbrev pub entered : Program → ProgramState → ℕ → Option (List ℤ) → Option ProgramState
-entered program s number None = None
-entered program s number (Some arguments) = entered_by s number arguments (slice_get program.procedures number)
+abbrev pub state_after_entry : Program → ProgramState → ℕ → Option (List ℤ) → Option ProgramState
+state_after_entry program s number None = None
+state_after_entry program s number (Some arguments) =
+    entered_by s number arguments (slice_get program.procedures number)
 
 -- the state after the call in this statement got its word back: only an assignment keeps it
 abbrev pub given_in : Program → ℤ → ProgramState → What-F What Statement → Option ProgramState
 given_in program word s (What-F.AssignCall to procedure arguments) =
-    assigned s (cell_of (memory_of program s) to) (Some word)
+    state_after_assigning s (cell_of (memory_of program s) to) (Some word)
 given_in program word s _ = Some (done s)
 
 -- the state after a call got its word back
@@ -64,9 +65,9 @@ given_to program word s (caller ∷ callers) = given program word s (first_of ca
 
 -- the state after the procedure that runs returned a word: it goes to the target of the call. MAIN's return ends the
 -- process
-abbrev pub returned : Program → ProgramState → Option ℤ → Option ProgramState
-returned program s None = None
-returned program s (Some word) = given_to program word (left s) (drop 1 s.frames)
+abbrev pub state_after_return : Program → ProgramState → Option ℤ → Option ProgramState
+state_after_return program s None = None
+state_after_return program s (Some word) = given_to program word (left s) (drop 1 s.frames)
 
 -- the word that RETURN gives, 0 where it has no expression
 abbrev pub result_of : Memory → Option Expr → Option ℤ
@@ -82,9 +83,9 @@ for_begun s statement variable (Some word) =
 -- the step of a statement
 abbrev pub inner_in : Program → ProgramState → Statement → What-F What Statement → Option ProgramState
 inner_in program s statement (What-F.Assign to value) =
-    assigned s (cell_of (memory_of program s) to) (value_of (memory_of program s) value)
+    state_after_assigning s (cell_of (memory_of program s) to) (value_of (memory_of program s) value)
 inner_in program s statement (What-F.AssignCall to procedure arguments) =
-    entered program s procedure (values_of (memory_of program s) arguments)
+    state_after_entry program s procedure (values_of (memory_of program s) arguments)
 inner_in program s statement (What-F.If test first second) =
     tested s (runs_of first) (runs_of second) (truth_of (memory_of program s) test)
 inner_in program s statement (What-F.While test body) =
@@ -94,8 +95,9 @@ inner_in program s statement (What-F.For variable from to down step body last) =
 inner_in program s statement (What-F.DoUntil body test) =
     tested s [] (runs_of body ++ Run statement ∷ []) (truth_of (memory_of program s) test)
 inner_in program s statement (What-F.Call procedure arguments) =
-    entered program s procedure (values_of (memory_of program s) arguments)
-inner_in program s statement (What-F.Return value) = returned program s (result_of (memory_of program s) value)
+    state_after_entry program s procedure (values_of (memory_of program s) arguments)
+inner_in program s statement (What-F.Return value) =
+    state_after_return program s (result_of (memory_of program s) value)
 inner_in program s statement What-F.CheckMonitor = Some (done s)
 inner_in program s statement (What-F.Open file) = Some (done s)
 inner_in program s statement What-F.Stop = Some (ends s)
@@ -139,35 +141,35 @@ next_word false step word = wrap (word +ℤ step)
 next_word true step word = wrap (word -ℤ step)
 
 -- a FOR's variable was counted up or down
-abbrev pub counted : ProgramState → Cell → Bool → ℤ → Option ℤ → Option ProgramState
-counted s variable down step None = None
-counted s variable down step (Some word) = Some (done (with_word variable (next_word down step word) s))
+abbrev pub state_after_count : ProgramState → Cell → Bool → ℤ → Option ℤ → Option ProgramState
+state_after_count s variable down step None = None
+state_after_count s variable down step (Some word) = Some (done (with_word variable (next_word down step word) s))
 
 -- the step of a FOR's last assignment
-abbrev pub counted_in : Program → ProgramState → What-F What Statement → Option ProgramState
-counted_in program s (What-F.For variable from to down step body last) =
-    counted s (variable_cell variable) down step (variable_of program s variable)
-counted_in program s (What-F.Assign _ _) = None
-counted_in program s (What-F.AssignCall _ _ _) = None
-counted_in program s (What-F.If _ _ _) = None
-counted_in program s (What-F.While _ _) = None
-counted_in program s (What-F.DoUntil _ _) = None
-counted_in program s (What-F.Call _ _) = None
-counted_in program s (What-F.Return _) = None
-counted_in program s (What-F.ReadUpdate _ _ _) = None
-counted_in program s (What-F.Reply _ _) = None
-counted_in program s (What-F.WriteRead _ _ _ _ _) = None
-counted_in program s (What-F.Checkpoint _ _) = None
-counted_in program s What-F.CheckMonitor = None
-counted_in program s (What-F.Open _) = None
-counted_in program s What-F.Stop = None
+abbrev pub state_after_count_in : Program → ProgramState → What-F What Statement → Option ProgramState
+state_after_count_in program s (What-F.For variable from to down step body last) =
+    state_after_count s (variable_cell variable) down step (variable_of program s variable)
+state_after_count_in program s (What-F.Assign _ _) = None
+state_after_count_in program s (What-F.AssignCall _ _ _) = None
+state_after_count_in program s (What-F.If _ _ _) = None
+state_after_count_in program s (What-F.While _ _) = None
+state_after_count_in program s (What-F.DoUntil _ _) = None
+state_after_count_in program s (What-F.Call _ _) = None
+state_after_count_in program s (What-F.Return _) = None
+state_after_count_in program s (What-F.ReadUpdate _ _ _) = None
+state_after_count_in program s (What-F.Reply _ _) = None
+state_after_count_in program s (What-F.WriteRead _ _ _ _ _) = None
+state_after_count_in program s (What-F.Checkpoint _ _) = None
+state_after_count_in program s What-F.CheckMonitor = None
+state_after_count_in program s (What-F.Open _) = None
+state_after_count_in program s What-F.Stop = None
 
 -- the step of the next entry; a procedure's end returns 0
 abbrev pub inner_entry : Program → ProgramState → Option Entry → Option ProgramState
-inner_entry program s None = returned program s (Some (pos 0))
+inner_entry program s None = state_after_return program s (Some (pos 0))
 inner_entry program s (Some (Run statement)) = inner_in program s statement (out-What statement.what)
 inner_entry program s (Some (Test statement)) = tested_in program s statement (out-What statement.what)
-inner_entry program s (Some (Last statement)) = counted_in program s (out-What statement.what)
+inner_entry program s (Some (Last statement)) = state_after_count_in program s (out-What statement.what)
 
 -- a trap ends the process
 abbrev pub or_ends : ProgramState → Option ProgramState → ProgramState

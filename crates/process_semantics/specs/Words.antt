@@ -11,13 +11,13 @@ abbrev pub long : ℕ → List ℤ
 long n = wrap (pos (n / 65536)) ∷ wrap (pos (n % 65536)) ∷ []
 
 -- how many, and the words
-abbrev pub counted : List ℤ → List ℤ
-counted words = pos (length words) ∷ words
+abbrev pub with_count : List ℤ → List ℤ
+with_count words = pos (length words) ∷ words
 
 -- words that may be lacking, which count as none
 abbrev pub counted_if : Option (List ℤ) → List ℤ
 counted_if None = pos 0 ∷ []
-counted_if (Some words) = counted words
+counted_if (Some words) = with_count words
 
 -- Reading
 
@@ -50,6 +50,6 @@ long_in (high ∷ low ∷ words) = Some (half_of high * 65536 + half_of low, wor
 long_in _ = None
 
 -- how many, at most 16, and the words
-abbrev pub counted_in : List ℤ → Front (List ℤ)
-counted_in words =
+abbrev pub with_count_in : List ℤ → Front (List ℤ)
+with_count_in words =
     option_and_then (λ (n, left). if nat_le n MOST_MESSAGE_WORDS then words_in n left else None) (count_in words)

@@ -8,9 +8,9 @@ use Rattle.process_semantics.specs.tal_values.specs.declared.memory.Cell.{Cell}
 use Rattle.process_semantics.specs.tal_values.specs.declared.memory.Cell.TheVariants as cell
 use Rattle.process_semantics.specs.Changes.{done, left}
 use Rattle.process_semantics.specs.State.{Entry, Run, Test, Last, Frame, ProgramState, rest_of, first_of}
-use Rattle.process_semantics.specs.Steps.{assigned, given, given_in, given_to, returned}
+use Rattle.process_semantics.specs.Steps.{state_after_assigning, given, given_in, given_to, state_after_return}
 use Rattle.program_deeds.specs.Deed.{deed_run, deed_test, deed_last, deed_of}
-use Rattle.program_deeds.specs.Doing.{going_on, stored, deed_given, caller_given, gives_back}
+use Rattle.program_deeds.specs.Doing.{going_on, state_after_store, deed_given, caller_given, gives_back}
 
 done-frames : (s : ProgramState) (frames : List Frame)
     → done (record s { frames = frames }) ≡ going_on (drop 1 (rest_of frames)) (record s { frames = frames })
@@ -21,8 +21,8 @@ pub done-goes : (s : ProgramState) → done s ≡ going_on (drop 1 (rest_of s.fr
 done-goes s = done-frames s s.frames
 
 assigned-frames : (s : ProgramState) (frames : List Frame) (to : Option Cell) (word : Option ℤ)
-    → assigned (record s { frames = frames }) to word
-    ≡ stored (drop 1 (rest_of frames)) (record s { frames = frames }) to word
+    → state_after_assigning (record s { frames = frames }) to word
+    ≡ state_after_store (drop 1 (rest_of frames)) (record s { frames = frames }) to word
 assigned-frames s frames None None = refl
 assigned-frames s frames (Some to) None = refl
 assigned-frames s frames None (Some word) = refl
@@ -32,7 +32,7 @@ assigned-frames s [] (Some (cell.Global item offset)) (Some word) = refl
 assigned-frames s (frame ∷ callers) (Some (cell.Global item offset)) (Some word) = refl
 
 pub assigned-goes : (s : ProgramState) (to : Option Cell) (word : Option ℤ)
-    → assigned s to word ≡ stored (drop 1 (rest_of s.frames)) s to word
+    → state_after_assigning s to word ≡ state_after_store (drop 1 (rest_of s.frames)) s to word
 assigned-goes s to word = assigned-frames s s.frames to word
 
 module _ (program : Program) (word : ℤ) (s : ProgramState) (after : List Entry) (statement : Statement) where
@@ -103,6 +103,6 @@ given-caller program word s (caller ∷ callers) = given-rest program word s cal
 
 -- a return gives its word to the deed of the caller
 pub returned-gives : (program : Program) (s : ProgramState) (word : Option ℤ)
-    → returned program s word ≡ gives_back program s word
+    → state_after_return program s word ≡ gives_back program s word
 returned-gives program s None = refl
 returned-gives program s (Some word) = given-caller program word (left s) (drop 1 s.frames)

@@ -12,11 +12,12 @@ use Rattle.process_semantics.specs.tal_values.specs.Value.{result_of as operated
 use Rattle.process_semantics.specs.tal_values.proofs.ValueSteps.{value-read, value-two}
 use Rattle.process_semantics.specs.Changes.{variable_cell, variable_of}
 use Rattle.process_semantics.specs.State.{Entry, Run, Test, Last, Frame, ProgramState, memory_of, rest_of, runs_of}
-use Rattle.process_semantics.specs.Steps.{tested, for_begun, counted, tested_in, counted_in, goes_round, inner_in}
+use Rattle.process_semantics.specs.Steps.{tested, for_begun, state_after_count, tested_in, state_after_count_in}
+use Rattle.process_semantics.specs.Steps.{goes_round, inner_in}
 use Rattle.process_semantics.specs.Steps.{inner, or_ends, result_of}
 use Rattle.process_semantics.specs.tal_values.specs.Spots.{spot_of}
 use Rattle.program_deeds.specs.Deed.{Deed, deed_run, counts_by, deed_test, deed_last, deed_of}
-use Rattle.program_deeds.specs.Doing.{stored, chosen, deed_inner}
+use Rattle.program_deeds.specs.Doing.{state_after_store, state_after_test, deed_inner}
 use Rattle.program_deeds.proofs.Given.{assigned-goes, returned-gives}
 
 variable-read : (program : Program) (s : ProgramState) (one : Variable)
@@ -39,22 +40,22 @@ module _ (program : Program) (s : ProgramState) (frame : Frame) (callers : List 
   at entry = standing s frame callers (entry ∷ after)
 
   tested-is : (entry : Entry) (first second : List Entry) (holds : Option Bool)
-      → tested (at entry) first second holds ≡ chosen (first ++ after) (second ++ after) (at entry) holds
+      → tested (at entry) first second holds ≡ state_after_test (first ++ after) (second ++ after) (at entry) holds
   tested-is entry first second None = refl
   tested-is entry first second (Some true) = refl
   tested-is entry first second (Some false) = refl
 
   begun-is : (memory : Memory) (one : Variable) (word : Option ℤ)
       → for_begun (at (Run statement)) statement one word
-      ≡ stored (Test statement ∷ after) (at (Run statement)) (cell_of memory (spot_of one)) word
+      ≡ state_after_store (Test statement ∷ after) (at (Run statement)) (cell_of memory (spot_of one)) word
   begun-is memory (variable.Local local) None = refl
   begun-is memory (variable.Simple item) None = refl
   begun-is memory (variable.Local local) (Some word) = refl
   begun-is memory (variable.Simple item) (Some word) = refl
 
   counted-is : (memory : Memory) (one : Variable) (down : Bool) (step : ℤ) (word : Option ℤ)
-      → counted (at (Last statement)) (variable_cell one) down step word
-      ≡ stored after (at (Last statement)) (cell_of memory (spot_of one))
+      → state_after_count (at (Last statement)) (variable_cell one) down step word
+      ≡ state_after_store after (at (Last statement)) (cell_of memory (spot_of one))
       (both (operated (counts_by down)) word (Some step))
   counted-is memory (variable.Local local) down step None = refl
   counted-is memory (variable.Simple item) down step None = refl
@@ -77,7 +78,7 @@ module _ (program : Program) (s : ProgramState) (frame : Frame) (callers : List 
       let t = at (Run statement) in
       let holds = truth_of (memory_of program t) test in
       ap (or_ends t) (tested-is (Run statement) (runs_of body ++ Run statement ∷ []) [] holds
-      ∙ ap (λ first. chosen first after t holds) (append_assoc (runs_of body) (Run statement ∷ []) after))
+      ∙ ap (λ first. state_after_test first after t holds) (append_assoc (runs_of body) (Run statement ∷ []) after))
   run-is (What-F.For variable from to down step body last) =
       let t = at (Run statement) in
       ap (or_ends t) (begun-is (memory_of program t) variable (value_of (memory_of program t) from))
@@ -85,7 +86,7 @@ module _ (program : Program) (s : ProgramState) (frame : Frame) (callers : List 
       let t = at (Run statement) in
       let holds = truth_of (memory_of program t) test in
       ap (or_ends t) (tested-is (Run statement) [] (runs_of body ++ Run statement ∷ []) holds
-      ∙ ap (λ second. chosen after second t holds) (append_assoc (runs_of body) (Run statement ∷ []) after))
+      ∙ ap (λ second. state_after_test after second t holds) (append_assoc (runs_of body) (Run statement ∷ []) after))
   run-is (What-F.Call procedure arguments) = refl
   run-is (What-F.Return value) =
       let t = at (Run statement) in
@@ -113,7 +114,7 @@ module _ (program : Program) (s : ProgramState) (frame : Frame) (callers : List 
       let here = value_of (memory_of program t) (Read (spot_of variable)) in
       ap (or_ends t) (ap (λ word. tested t body_then [] (goes_round down word limit)) (variable-read program t variable)
       ∙ tested-is (Test statement) body_then [] (goes_round down here limit)
-      ∙ ap (λ first. chosen first after t (goes_round down here limit))
+      ∙ ap (λ first. state_after_test first after t (goes_round down here limit))
       (append_assoc (runs_of body) (Last statement ∷ Test statement ∷ []) after))
   test-is (What-F.Call procedure arguments) = refl
   test-is (What-F.Return value) = refl
@@ -126,7 +127,7 @@ module _ (program : Program) (s : ProgramState) (frame : Frame) (callers : List 
   test-is What-F.Stop = refl
 
   last-is : (what : What-F What Statement)
-      → or_ends (at (Last statement)) (counted_in program (at (Last statement)) what)
+      → or_ends (at (Last statement)) (state_after_count_in program (at (Last statement)) what)
       ≡ step-by program (at (Last statement)) (deed_last after what)
   last-is (What-F.Assign to value) = refl
   last-is (What-F.AssignCall to procedure arguments) = refl
@@ -139,8 +140,9 @@ module _ (program : Program) (s : ProgramState) (frame : Frame) (callers : List 
       let place = cell_of memory (spot_of variable) in
       let by = operated (counts_by down) in
       ap (or_ends t) (counted-is memory variable down step (variable_of program t variable)
-      ∙ ap (λ word. stored after t place (both by word (Some step))) (variable-read program t variable)
-      ∙ ap (stored after t place) (sym (value-two memory (counts_by down) (Read (spot_of variable)) (Number step))))
+      ∙ ap (λ word. state_after_store after t place (both by word (Some step))) (variable-read program t variable)
+      ∙ ap (state_after_store after t place) (sym
+      (value-two memory (counts_by down) (Read (spot_of variable)) (Number step))))
   last-is (What-F.Call procedure arguments) = refl
   last-is (What-F.Return value) = refl
   last-is (What-F.ReadUpdate buffer most got) = refl

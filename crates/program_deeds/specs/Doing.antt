@@ -7,7 +7,7 @@ use Rattle.process_semantics.specs.Calls.{received, first_words}
 use Rattle.process_semantics.specs.Changes.{done, left, ends, with_hand, with_waiting, with_word}
 use Rattle.process_semantics.specs.Points.{where_good, where_both_good}
 use Rattle.process_semantics.specs.State.{Entry, Frame, ProgramState, memory_of, words_of, count_of}
-use Rattle.process_semantics.specs.Steps.{entered, assigned, result_of, values_of}
+use Rattle.process_semantics.specs.Steps.{state_after_entry, state_after_assigning, result_of, values_of}
 use Rattle.process_semantics.specs.declared.point.Point.{Point}
 use Rattle.process_semantics.specs.declared.point.Point.TheVariants as point
 use Rattle.program_deeds.specs.Deed.{Deed, Assigns, Tests, Enters, Returns, Passes, Stops, Takes, Asks, Answers}
@@ -25,20 +25,20 @@ abbrev pub going_on : List Entry → ProgramState → ProgramState
 going_on rest s = record s { frames = with_rest rest s.frames }
 
 -- the state after a word went to a cell, if neither traps: it goes on with these entries
-abbrev pub stored : List Entry → ProgramState → Option Cell → Option ℤ → Option ProgramState
-stored rest s to None = None
-stored rest s None (Some word) = None
-stored rest s (Some to) (Some word) = Some (going_on rest (with_word to word s))
+abbrev pub state_after_store : List Entry → ProgramState → Option Cell → Option ℤ → Option ProgramState
+state_after_store rest s to None = None
+state_after_store rest s None (Some word) = None
+state_after_store rest s (Some to) (Some word) = Some (going_on rest (with_word to word s))
 
 -- the state after a test: it goes on with one list of entries where it is true, with the other where it is false
-abbrev pub chosen : List Entry → List Entry → ProgramState → Option Bool → Option ProgramState
-chosen first second s None = None
-chosen first second s (Some holds) = Some (going_on (if holds then first else second) s)
+abbrev pub state_after_test : List Entry → List Entry → ProgramState → Option Bool → Option ProgramState
+state_after_test first second s None = None
+state_after_test first second s (Some holds) = Some (going_on (if holds then first else second) s)
 
 -- the state after a word came back to a deed: only an assignment's call keeps it
 abbrev pub deed_given : Program → ℤ → ProgramState → Deed → Option ProgramState
 deed_given program word s (Enters procedure arguments (Some to)) =
-    assigned s (cell_of (memory_of program s) to) (Some word)
+    state_after_assigning s (cell_of (memory_of program s) to) (Some word)
 deed_given program word s _ = Some (done s)
 
 -- the state after the caller got a word back; where there is none, the process ends
@@ -54,10 +54,10 @@ gives_back program s (Some word) = caller_given program word (left s) (drop 1 s.
 -- the step of a deed at Inner: READUPDATE, WRITEREAD, REPLY and CHECKPOINT do nothing there but trap
 abbrev pub deed_inner : Program → ProgramState → Deed → Option ProgramState
 deed_inner program s (Assigns to value rest) =
-    stored rest s (cell_of (memory_of program s) to) (value_of (memory_of program s) value)
-deed_inner program s (Tests test first second) = chosen first second s (truth_of (memory_of program s) test)
+    state_after_store rest s (cell_of (memory_of program s) to) (value_of (memory_of program s) value)
+deed_inner program s (Tests test first second) = state_after_test first second s (truth_of (memory_of program s) test)
 deed_inner program s (Enters procedure arguments to) =
-    entered program s procedure (values_of (memory_of program s) arguments)
+    state_after_entry program s procedure (values_of (memory_of program s) arguments)
 deed_inner program s (Returns value) = gives_back program s (result_of (memory_of program s) value)
 deed_inner program s Passes = Some (done s)
 deed_inner program s Stops = Some (ends s)

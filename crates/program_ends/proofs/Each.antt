@@ -7,8 +7,10 @@ use Rattle.process_semantics.specs.Changes.{left, variable_cell, variable_of}
 use Rattle.process_semantics.specs.Points.{point_in}
 use Rattle.process_semantics.specs.State.{Entry, Frame, ProgramState, Run, Test, Last, count_of, first_of, good_count}
 use Rattle.process_semantics.specs.State.{memory_of, next_of, words_of}
-use Rattle.process_semantics.specs.Steps.{assigned, counted, counted_in, entered, entered_by, for_begun, given}
-use Rattle.process_semantics.specs.Steps.{given_in, given_to, goes_round, inner_in, result_of, returned, tested}
+use Rattle.process_semantics.specs.Steps.{state_after_assigning, state_after_count, state_after_count_in}
+use Rattle.process_semantics.specs.Steps.{state_after_entry, entered_by, for_begun, given}
+use Rattle.process_semantics.specs.Steps.{given_in, given_to, goes_round, inner_in, result_of, state_after_return}
+use Rattle.process_semantics.specs.Steps.{tested}
 use Rattle.process_semantics.specs.Steps.{tested_in, values_of}
 use Rattle.process_semantics.specs.declared.point.Point.TheVariants as point
 use Rattle.tal_tree.specs.declared.expression.Cond.{Cond}
@@ -71,13 +73,13 @@ among-told m (e ∷ es) none = by (value_of m e) refl none (among-told m es)
         or-second (trap_of m e) (trap_among m es) (later (map-none (λ words. word ∷ words) (values_of m es) none))
 
 assign-told : (program : Program) (s : ProgramState) (to : Spot) (value : Expr)
-    → assigned s (cell_of (memory_of program s) to) (value_of (memory_of program s) value) ≡ None
+    → state_after_assigning s (cell_of (memory_of program s) to) (value_of (memory_of program s) value) ≡ None
     → IsSome (option_or (trap_of (memory_of program s) value) (trap_of_spot (memory_of program s) to))
 assign-told program s to value none =
     by (cell_of (memory_of program s) to) (value_of (memory_of program s) value) refl refl none
   where
     by : (cell : Option Cell) (word : Option ℤ) → cell_of (memory_of program s) to ≡ cell
-        → value_of (memory_of program s) value ≡ word → assigned s cell word ≡ None
+        → value_of (memory_of program s) value ≡ word → state_after_assigning s cell word ≡ None
         → IsSome (option_or (trap_of (memory_of program s) value) (trap_of_spot (memory_of program s) to))
     by cell None at is none = or-first _ _ (none-trap (memory_of program s) value is)
     by None (Some word) at is none = or-second _ _ (spot-told (memory_of program s) to at)
@@ -100,13 +102,13 @@ no-body s number arguments (Some body) there none = absurd (cc)
 
 entered-told : (program : Program) (s : ProgramState) (procedure : ℕ) (arguments : List Expr)
     → IsSome (slice_get program.procedures procedure)
-    → entered program s procedure (values_of (memory_of program s) arguments) ≡ None
+    → state_after_entry program s procedure (values_of (memory_of program s) arguments) ≡ None
     → IsSome (trap_among (memory_of program s) arguments)
 entered-told program s procedure arguments there none =
     by (values_of (memory_of program s) arguments) refl none
   where
     by : (words : Option (List ℤ)) → values_of (memory_of program s) arguments ≡ words
-        → entered program s procedure words ≡ None → IsSome (trap_among (memory_of program s) arguments)
+        → state_after_entry program s procedure words ≡ None → IsSome (trap_among (memory_of program s) arguments)
     by None is none = among-told (memory_of program s) arguments is
     by (Some words) is none =
         absurd (no-body s procedure words (slice_get program.procedures procedure) there none)
@@ -159,20 +161,21 @@ test-step-told program s statement variable from to down step body last none =
     round-told program s down variable to (no-truth s _ _ _ none)
 
 not-counted : (s : ProgramState) (cell : Cell) (down : Bool) (step : ℤ) (word : Option ℤ)
-    → counted s cell down step word ≡ None → word ≡ None
+    → state_after_count s cell down step word ≡ None → word ≡ None
 not-counted s cell down step None none = refl
 not-counted s cell down step (Some word) none = absurd (cc)
 
 pub count-step-told : (program : Program) (s : ProgramState) (variable : Variable) (from to : Expr) (down : Bool)
     (step : ℤ) (body : List Statement) (last : ℕ)
-    → counted_in program s (What-F.For variable from to down step body last) ≡ None
+    → state_after_count_in program s (What-F.For variable from to down step body last) ≡ None
     → IsSome (trap_in_count (memory_of program s) (What-F.For variable from to down step body last))
 count-step-told program s variable from to down step body last none =
     variable-told (memory_of program s) variable (not-counted s _ _ _ _ none)
 
 -- Words that go back
 
-no-cell : (s : ProgramState) (cell : Option Cell) (word : ℤ) → assigned s cell (Some word) ≡ None → cell ≡ None
+no-cell : (s : ProgramState) (cell : Option Cell) (word : ℤ)
+    → state_after_assigning s cell (Some word) ≡ None → cell ≡ None
 no-cell s None word none = refl
 no-cell s (Some cell) word none = absurd (cc)
 
@@ -194,7 +197,7 @@ caller-told : (program : Program) (word : ℤ) (s : ProgramState) (callers : Lis
 caller-told program word s [] none = absurd (cc)
 caller-told program word s (caller ∷ callers) none = call-told program word s (first_of caller.rest) none
 
-pub word-told : (program : Program) (s : ProgramState) (word : ℤ) → returned program s (Some word) ≡ None
+pub word-told : (program : Program) (s : ProgramState) (word : ℤ) → state_after_return program s (Some word) ≡ None
     → IsSome (trap_of_call (memory_of program (left s)) (next_of (left s).frames))
 word-told program s word none = caller-told program word (left s) (drop 1 s.frames) none
 
@@ -204,7 +207,7 @@ pub return-told : (program : Program) (s : ProgramState) (statement : Statement)
     ⊎ IsSome (trap_of_call (memory_of program (left s)) (next_of (left s).frames))
 return-told program s statement value none = by (result_of (memory_of program s) value) refl none
   where
-    by : (word : Option ℤ) → result_of (memory_of program s) value ≡ word → returned program s word ≡ None
+    by : (word : Option ℤ) → result_of (memory_of program s) value ≡ word → state_after_return program s word ≡ None
         → IsSome (trap_of_result (memory_of program s) value)
         ⊎ IsSome (trap_of_call (memory_of program (left s)) (next_of (left s).frames))
     by None is none = inl (result-told (memory_of program s) value is)

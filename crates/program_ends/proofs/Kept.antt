@@ -3,9 +3,10 @@ use Rattle.std.proofs.Common.{◌≡◌, ℕ, ℤ, pos, Bool, true, false, List,
 use Rattle.std.proofs.Common.{Option, Some, None, refl, ap, subst, sym, ◌∙◌}
 use Rattle.process_semantics.specs.Changes.{done, left, with_word}
 use Rattle.process_semantics.specs.State.{Entry, Frame, ProgramState, Run, Test, Last, first_of, memory_of, next_of}
-use Rattle.process_semantics.specs.Steps.{assigned, counted, entered, entered_by, for_begun, given, given_in, given_to}
-use Rattle.process_semantics.specs.Steps.{counted_in, inner, inner_entry, inner_in, or_ends, result_of}
-use Rattle.process_semantics.specs.Steps.{returned, tested, tested_in}
+use Rattle.process_semantics.specs.Steps.{state_after_assigning, state_after_count, state_after_entry, entered_by}
+use Rattle.process_semantics.specs.Steps.{for_begun, given, given_in, given_to}
+use Rattle.process_semantics.specs.Steps.{state_after_count_in, inner, inner_entry, inner_in, or_ends, result_of}
+use Rattle.process_semantics.specs.Steps.{state_after_return, tested, tested_in}
 use Rattle.tal_tree.specs.declared.expression.Expr.{Expr}
 use Rattle.tal_tree.specs.declared.expression.Variable.{Variable}
 use Rattle.tal_tree.specs.declared.expression.Variable.TheVariants as variable
@@ -40,7 +41,8 @@ word-keeps : (to : Cell) (word : ℤ) (s : ProgramState) → (done (with_word to
 word-keeps (cell.Local local) word s = refl
 word-keeps (cell.Global item offset) word s = refl
 
-assigned-keeps : (s : ProgramState) (to : Option Cell) (word : Option ℤ) → Keeps s.ended (assigned s to word)
+assigned-keeps : (s : ProgramState) (to : Option Cell) (word : Option ℤ)
+    → Keeps s.ended (state_after_assigning s to word)
 assigned-keeps s to None = none-keeps s.ended
 assigned-keeps s None (Some word) = none-keeps s.ended
 assigned-keeps s (Some to) (Some word) = some-keeps s.ended (done (with_word to word s)) (word-keeps to word s)
@@ -56,7 +58,7 @@ entered_by-keeps s number arguments None = none-keeps s.ended
 entered_by-keeps s number arguments (Some procedure) = some-keeps s.ended _ refl
 
 entered-keeps : (program : Program) (s : ProgramState) (number : ℕ) (arguments : Option (List ℤ))
-    → Keeps s.ended (entered program s number arguments)
+    → Keeps s.ended (state_after_entry program s number arguments)
 entered-keeps program s number None = none-keeps s.ended
 entered-keeps program s number (Some arguments) = entered_by-keeps s number arguments _
 
@@ -80,7 +82,7 @@ called-keeps program word s u [] called = absurd (cc)
 called-keeps program word s u (caller ∷ callers) called = given-keeps program word u (first_of caller.rest)
 
 returned-keeps : (program : Program) (s : ProgramState) (word : Option ℤ)
-    → is_trap (at_end (target_in_state program s)) ≡ true → Keeps s.ended (returned program s word)
+    → is_trap (at_end (target_in_state program s)) ≡ true → Keeps s.ended (state_after_return program s word)
 returned-keeps program s None called = none-keeps s.ended
 returned-keeps program s (Some word) called = called-keeps program word s (left s) (drop 1 s.frames) called
 
@@ -93,7 +95,7 @@ for-keeps s statement (variable.Simple item) (Some word) =
     some-keeps s.ended _ refl
 
 counted-keeps : (s : ProgramState) (variable : Cell) (down : Bool) (step : ℤ) (word : Option ℤ)
-    → Keeps s.ended (counted s variable down step word)
+    → Keeps s.ended (state_after_count s variable down step word)
 counted-keeps s variable down step None = none-keeps s.ended
 counted-keeps s variable down step (Some word) = some-keeps s.ended _ (word-keeps variable _ s)
 
@@ -107,9 +109,9 @@ return-only (Some target) line is = refl
 return-keeps : (program : Program) (s : ProgramState) (line : ℕ) (value : Option Expr) (trap : Option ValueTrap)
     → trap_of_result (memory_of program s) value ≡ trap
     → is_trap (at_return (target_in_state program s) line trap) ≡ true
-    → Keeps s.ended (returned program s (result_of (memory_of program s) value))
+    → Keeps s.ended (state_after_return program s (result_of (memory_of program s) value))
 return-keeps program s line value (Some trap) told is =
-    subst (λ (word : Option ℤ). Keeps s.ended (returned program s word))
+    subst (λ (word : Option ℤ). Keeps s.ended (state_after_return program s word))
     (sym (result-lacks (memory_of program s) value trap told)) (none-keeps s.ended)
 return-keeps program s line value None told is =
     returned-keeps program s (result_of (memory_of program s) value)
@@ -144,7 +146,7 @@ test-keeps program s statement (What-F.For variable from to down step body last)
 test-keeps program s statement _ = none-keeps s.ended
 
 last-keeps : (program : Program) (s : ProgramState) (layer : What-F What Statement)
-    → Keeps s.ended (counted_in program s layer)
+    → Keeps s.ended (state_after_count_in program s layer)
 last-keeps program s (What-F.For variable from to down step body last) = counted-keeps s _ down step _
 last-keeps program s _ = none-keeps s.ended
 

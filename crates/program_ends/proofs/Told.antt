@@ -6,8 +6,10 @@ use Rattle.std.specs.Result.{result_ok}
 use Rattle.process_semantics.specs.Changes.{left, variable_cell, variable_of}
 use Rattle.process_semantics.specs.State.{Entry, Frame, ProgramState, Run, Test, Last, count_of, first_of, good_count}
 use Rattle.process_semantics.specs.State.{memory_of, next_of, words_of}
-use Rattle.process_semantics.specs.Steps.{assigned, counted, counted_in, entered, for_begun, given, given_in, given_to}
-use Rattle.process_semantics.specs.Steps.{goes_round, inner_in, result_of, returned, tested, tested_in, values_of}
+use Rattle.process_semantics.specs.Steps.{state_after_assigning, state_after_count, state_after_count_in}
+use Rattle.process_semantics.specs.Steps.{state_after_entry, for_begun, given, given_in, given_to}
+use Rattle.process_semantics.specs.Steps.{goes_round, inner_in, result_of, state_after_return, tested, tested_in}
+use Rattle.process_semantics.specs.Steps.{values_of}
 use Rattle.tal_tree.specs.declared.expression.Cond.{Cond}
 use Rattle.tal_tree.specs.declared.expression.Expr.{Expr}
 use Rattle.tal_tree.specs.declared.expression.Spot.{Spot}
@@ -60,22 +62,23 @@ among-lacks m (e ∷ es) trap is = by (trap_of m e) refl is (among-lacks m es tr
         no-later (λ word. option_map (λ words. word ∷ words) (values_of m es)) (value_of m e)
         (λ word. ap (option_map (λ words. word ∷ words)) (later is))
 
-no-cell : (s : ProgramState) (word : Option ℤ) → assigned s None word ≡ None
+no-cell : (s : ProgramState) (word : Option ℤ) → state_after_assigning s None word ≡ None
 no-cell s None = refl
 no-cell s (Some word) = refl
 
 assign-lacks : (program : Program) (s : ProgramState) (to : Spot) (value : Expr) (trap : ValueTrap)
     → option_or (trap_of (memory_of program s) value) (trap_of_spot (memory_of program s) to) ≡ Some trap
-    → assigned s (cell_of (memory_of program s) to) (value_of (memory_of program s) value) ≡ None
+    → state_after_assigning s (cell_of (memory_of program s) to) (value_of (memory_of program s) value) ≡ None
 assign-lacks program s to value trap is = by (trap_of (memory_of program s) value) refl is
   where
     by : (first : Option ValueTrap) → trap_of (memory_of program s) value ≡ first
         → option_or first (trap_of_spot (memory_of program s) to) ≡ Some trap
-        → assigned s (cell_of (memory_of program s) to) (value_of (memory_of program s) value) ≡ None
+        → state_after_assigning s (cell_of (memory_of program s) to) (value_of (memory_of program s) value) ≡ None
     by (Some other) told is =
-        ap (assigned s (cell_of (memory_of program s) to)) (trap-none (memory_of program s) value other told)
+        ap (state_after_assigning s (cell_of (memory_of program s) to))
+        (trap-none (memory_of program s) value other told)
     by None told is =
-        ap (λ (cell : Option Cell). assigned s cell (value_of (memory_of program s) value))
+        ap (λ (cell : Option Cell). state_after_assigning s cell (value_of (memory_of program s) value))
         (spot-lacks (memory_of program s) to trap is)
         ∙ no-cell s (value_of (memory_of program s) value)
 
@@ -90,16 +93,16 @@ pub statement-lacks : (program : Program) (s : ProgramState) (statement : Statem
     → inner_in program s statement layer ≡ None
 statement-lacks program s statement (What-F.Assign to value) trap is = assign-lacks program s to value trap is
 statement-lacks program s statement (What-F.AssignCall to procedure arguments) trap is =
-    ap (entered program s procedure) (among-lacks (memory_of program s) arguments trap is)
+    ap (state_after_entry program s procedure) (among-lacks (memory_of program s) arguments trap is)
 statement-lacks program s statement (What-F.If test first second) trap is = tested-lacks program s _ _ test trap is
 statement-lacks program s statement (What-F.While test body) trap is = tested-lacks program s _ _ test trap is
 statement-lacks program s statement (What-F.For variable from to down step body last) trap is =
     ap (for_begun s statement variable) (trap-none (memory_of program s) from trap is)
 statement-lacks program s statement (What-F.DoUntil body test) trap is = tested-lacks program s _ _ test trap is
 statement-lacks program s statement (What-F.Call procedure arguments) trap is =
-    ap (entered program s procedure) (among-lacks (memory_of program s) arguments trap is)
+    ap (state_after_entry program s procedure) (among-lacks (memory_of program s) arguments trap is)
 statement-lacks program s statement (What-F.Return value) trap is =
-    ap (returned program s) (result-lacks (memory_of program s) value trap is)
+    ap (state_after_return program s) (result-lacks (memory_of program s) value trap is)
 statement-lacks program s statement (What-F.ReadUpdate buffer most got) trap is = absurd (cc)
 statement-lacks program s statement (What-F.Reply buffer count) trap is = absurd (cc)
 statement-lacks program s statement (What-F.WriteRead file buffer send room got) trap is = absurd (cc)
@@ -135,9 +138,9 @@ test-step-lacks program s statement (What-F.For variable from to down step body 
 test-step-lacks program s statement _ trap is = refl
 
 pub count-step-lacks : (program : Program) (s : ProgramState) (layer : What-F What Statement) (trap : ValueTrap)
-    → trap_in_count (memory_of program s) layer ≡ Some trap → counted_in program s layer ≡ None
+    → trap_in_count (memory_of program s) layer ≡ Some trap → state_after_count_in program s layer ≡ None
 count-step-lacks program s (What-F.For variable from to down step body last) trap is =
-    ap (counted s (variable_cell variable) down step) (variable-lacks (memory_of program s) variable trap is)
+    ap (state_after_count s (variable_cell variable) down step) (variable-lacks (memory_of program s) variable trap is)
 count-step-lacks program s _ trap is = refl
 
 -- Counts
@@ -163,7 +166,7 @@ count-lacks program s buffer count trap is =
 target-lacks : (program : Program) (word : ℤ) (s : ProgramState) (layer : What-F What Statement) (trap : ValueTrap)
     → trap_of_target (memory_of program s) layer ≡ Some trap → given_in program word s layer ≡ None
 target-lacks program word s (What-F.AssignCall to procedure arguments) trap is =
-    ap (λ (cell : Option Cell). assigned s cell (Some word)) (spot-lacks (memory_of program s) to trap is)
+    ap (λ (cell : Option Cell). state_after_assigning s cell (Some word)) (spot-lacks (memory_of program s) to trap is)
 target-lacks program word s _ trap is = absurd (cc)
 
 call-lacks : (program : Program) (word : ℤ) (s : ProgramState) (call : Option Entry) (trap : ValueTrap)
@@ -180,6 +183,6 @@ caller-lacks program word s (caller ∷ callers) trap is = call-lacks program wo
 
 pub word-lacks : (program : Program) (s : ProgramState) (word : Option ℤ) (trap : ValueTrap)
     → trap_of_call (memory_of program (left s)) (next_of (left s).frames) ≡ Some trap
-    → returned program s word ≡ None
+    → state_after_return program s word ≡ None
 word-lacks program s None trap is = refl
 word-lacks program s (Some word) trap is = caller-lacks program word (left s) (drop 1 s.frames) trap is

@@ -1,7 +1,7 @@
 ghost use Rattle.std.specs.Option.{option_or};
 ghost use Rattle.std.specs.Prelude.{◌≡◌, IfOk};
 ghost use Rattle.process_semantics.specs.State.{words_of};
-ghost use Rattle.tal_values.specs.Seen.{seen};
+ghost use Rattle.tal_values.specs.Seen.{memory_now};
 ghost use Rattle.program_ends.specs.Traps.{trap_of_count, trap_of_number};
 
 use crate::ending::Trap;
@@ -22,8 +22,8 @@ pub(crate) fn trap_of_counts(
     send: &Expr,
     room: &Expr,
 ) -> Result<Option<Trap>, NoMemory>
-    ensures { IfOk result (λ trap. trap ≡ option_or (trap_of_count (seen memory.entry) buffer send.now)
-        (trap_of_count (seen memory.entry) buffer room.now)) }
+    ensures { IfOk result (λ trap. trap ≡ option_or (trap_of_count (memory_now memory.entry) buffer send.now)
+        (trap_of_count (memory_now memory.entry) buffer room.now)) }
 {
     let first = trap_of_count(alloc, memory, buffer, send)?;
     let second = trap_of_count(alloc, memory, buffer, room)?;
@@ -37,7 +37,7 @@ pub(crate) fn trap_of_count(
     buffer: u16,
     count: &Expr,
 ) -> Result<Option<Trap>, NoMemory>
-    ensures { IfOk result (λ trap. trap ≡ trap_of_count (seen memory.entry) buffer count.now) }
+    ensures { IfOk result (λ trap. trap ≡ trap_of_count (memory_now memory.entry) buffer count.now) }
 {
     let count = value_or_trap(alloc, memory, count)?;
     Ok(trap_of_number(words_of(memory.globals, buffer), count))

@@ -3,7 +3,7 @@ ghost use Rattle.std.specs.Option.{option_map};
 ghost use Rattle.process_semantics.specs.SeenEntries.{entry_of};
 ghost use Rattle.program_entries.specs.Entries.{entries_of};
 ghost use Rattle.tal_tree.specs.declared.statement.What.{out-What};
-ghost use Rattle.tal_values.specs.Seen.{seen};
+ghost use Rattle.tal_values.specs.Seen.{memory_now};
 ghost use Rattle.program_ends.specs.Ends.{at_end, at_entry, at_return, at_statement, by_count, by_value};
 ghost use Rattle.program_ends.specs.Ends.{end_of_program, line_of_entry, line_of_number, met_or_lacking, of_reading};
 ghost use Rattle.program_ends.specs.Ends.{of_replying, target_in, target_of, trapping, why};
@@ -110,7 +110,7 @@ fn target_of(
     memory: Memory<'_>,
     call: Option<Entry<'_>>,
 ) -> Result<WordTarget, NoMemory>
-    ensures { IfOk result (λ target. target ≡ target_of (seen memory.entry) (option_map entry_of call.entry)) }
+    ensures { IfOk result (λ target. target ≡ target_of (memory_now memory.entry) (option_map entry_of call.entry)) }
 {
     let trap = trap_of_call(alloc, memory, call)?;
     Ok(WordTarget {
@@ -156,7 +156,7 @@ fn at_entry(
     next: Option<Entry<'_>>,
 ) -> Result<LastStep, NoMemory>
     ensures { IfOk result (λ step. step
-        ≡ at_entry (seen memory.entry) target in_hand (option_map entry_of next.entry)) }
+        ≡ at_entry (memory_now memory.entry) target in_hand (option_map entry_of next.entry)) }
 {
     match next {
         None => Ok(at_end(target)),
@@ -238,7 +238,7 @@ fn at_statement(
     statement: &Statement,
 ) -> Result<LastStep, NoMemory>
     ensures { IfOk result (λ step. step
-        ≡ at_statement (seen memory.entry) target in_hand statement.now.line (out-What statement.now.what)) }
+        ≡ at_statement (memory_now memory.entry) target in_hand statement.now.line (out-What statement.now.what)) }
 {
     let line = statement.line;
     match &statement.what {
@@ -268,7 +268,7 @@ fn returning(
     value: &Option<Expr>,
 ) -> Result<LastStep, NoMemory>
     ensures { IfOk result (λ step. step
-        ≡ at_return target line (trap_of_result (seen memory.entry) value.now)) }
+        ≡ at_return target line (trap_of_result (memory_now memory.entry) value.now)) }
 {
     let trap = trap_of_result(alloc, memory, value)?;
     Ok(at_return(target, line, trap))
@@ -282,7 +282,7 @@ fn trapping(
     line: u32,
     what: &What,
 ) -> Result<LastStep, NoMemory>
-    ensures { IfOk result (λ step. step ≡ trapping (seen memory.entry) in_hand line (out-What what.now)) }
+    ensures { IfOk result (λ step. step ≡ trapping (memory_now memory.entry) in_hand line (out-What what.now)) }
 {
     let trap = why(alloc, memory, in_hand, what)?;
     Ok(LastStep::Trapped { line, trap })
@@ -290,7 +290,7 @@ fn trapping(
 
 /// Why a statement trapped.
 fn why(alloc: Global, memory: Memory<'_>, in_hand: bool, what: &What) -> Result<Trap, NoMemory>
-    ensures { IfOk result (λ trap. trap ≡ why (seen memory.entry) in_hand (out-What what.now)) }
+    ensures { IfOk result (λ trap. trap ≡ why (memory_now memory.entry) in_hand (out-What what.now)) }
 {
     match what {
         What::ReadUpdate { buffer, most, .. } => {
@@ -327,7 +327,7 @@ fn why(alloc: Global, memory: Memory<'_>, in_hand: bool, what: &What) -> Result<
 
 /// A trap of a value that a statement works out.
 fn of_value(alloc: Global, memory: Memory<'_>, what: &What) -> Result<Trap, NoMemory>
-    ensures { IfOk result (λ trap. trap ≡ by_value (trap_in_statement (seen memory.entry) (out-What what.now))) }
+    ensures { IfOk result (λ trap. trap ≡ by_value (trap_in_statement (memory_now memory.entry) (out-What what.now))) }
 {
     let trap = trap_in_statement(alloc, memory, what)?;
     Ok(by_value(trap))

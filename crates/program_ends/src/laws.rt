@@ -3,7 +3,8 @@ ghost use Rattle.std.specs.Prelude.{◌≡◌, ◌⊎◌, ℕ, ℤ, Bool, true, 
 ghost use Rattle.process_semantics.specs.Changes.{left};
 ghost use Rattle.process_semantics.specs.Points.{point_in};
 ghost use Rattle.process_semantics.specs.State.{ProgramState, count_of, memory_of, next_of};
-ghost use Rattle.process_semantics.specs.Steps.{counted_in, inner, inner_entry, inner_in, returned, tested_in};
+ghost use Rattle.process_semantics.specs.Steps.{state_after_count_in, inner, inner_entry, inner_in, state_after_return};
+ghost use Rattle.process_semantics.specs.Steps.{tested_in};
 ghost use Rattle.process_semantics.specs.declared.point.Point.TheVariants as point;
 ghost use Rattle.tal_tree.specs.declared.expression.Expr.{Expr};
 ghost use Rattle.tal_tree.specs.declared.expression.Variable.{Variable};
@@ -51,10 +52,10 @@ pub fn a_trap_that_is_told_is_one()
         (trap : ValueTrap) → trap_in_test (memory_of program s) layer ≡ Some trap
         → tested_in program s statement layer ≡ None }
     ensures last { (program : Program) (s : ProgramState) (layer : What-F What Statement) (trap : ValueTrap)
-        → trap_in_count (memory_of program s) layer ≡ Some trap → counted_in program s layer ≡ None }
+        → trap_in_count (memory_of program s) layer ≡ Some trap → state_after_count_in program s layer ≡ None }
     ensures word { (program : Program) (s : ProgramState) (word : Option ℤ) (trap : ValueTrap)
         → trap_of_call (memory_of program (left s)) (next_of (left s).frames) ≡ Some trap
-        → returned program s word ≡ None }
+        → state_after_return program s word ≡ None }
     ensures count { (program : Program) (s : ProgramState) (buffer : ℕ) (count : Expr) (trap : Trap)
         → trap_of_count (memory_of program s) buffer count ≡ Some trap → count_of program s buffer count ≡ None }
 {}
@@ -72,7 +73,7 @@ pub fn each_trap_is_told()
         → IsSome (trap_in_test (memory_of program s) (What-F.For variable from to down step body last)) }
     ensures last { (program : Program) (s : ProgramState) (variable : Variable) (from to : Expr) (down : Bool)
         (step : ℤ) (body : List Statement) (last : ℕ)
-        → counted_in program s (What-F.For variable from to down step body last) ≡ None
+        → state_after_count_in program s (What-F.For variable from to down step body last) ≡ None
         → IsSome (trap_in_count (memory_of program s) (What-F.For variable from to down step body last)) }
     ensures word { (program : Program) (s : ProgramState) (statement : Statement) (value : Option Expr)
         → inner_in program s statement (What-F.Return value) ≡ None

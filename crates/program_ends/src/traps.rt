@@ -3,7 +3,7 @@ ghost use Rattle.std.specs.Option.{option_map, option_or};
 ghost use Rattle.process_semantics.specs.SeenEntries.{entry_of};
 ghost use Rattle.tal_tree.specs.declared.statement.What.{out-What};
 ghost use Rattle.value_traps.specs.Traps.{trap_of};
-ghost use Rattle.tal_values.specs.Seen.{seen};
+ghost use Rattle.tal_values.specs.Seen.{memory_now};
 ghost use Rattle.program_ends.specs.Traps.{trap_among, trap_in_count, trap_in_statement, trap_in_test};
 ghost use Rattle.program_ends.specs.Traps.{trap_of_call, trap_of_result, trap_of_spot, trap_of_target, trap_of_test};
 ghost use Rattle.program_ends.specs.Traps.{trap_of_variable};
@@ -22,7 +22,7 @@ pub(crate) fn trap_in_statement(
     memory: Memory<'_>,
     what: &What,
 ) -> Result<Option<ValueTrap>, NoMemory>
-    ensures { IfOk result (λ trap. trap ≡ trap_in_statement (seen memory.entry) (out-What what.now)) }
+    ensures { IfOk result (λ trap. trap ≡ trap_in_statement (memory_now memory.entry) (out-What what.now)) }
 {
     match what {
         What::Assign { to, value } => trap_of_assignment(alloc, memory, to, value),
@@ -49,7 +49,7 @@ pub(crate) fn trap_in_test(
     memory: Memory<'_>,
     what: &What,
 ) -> Result<Option<ValueTrap>, NoMemory>
-    ensures { IfOk result (λ trap. trap ≡ trap_in_test (seen memory.entry) (out-What what.now)) }
+    ensures { IfOk result (λ trap. trap ≡ trap_in_test (memory_now memory.entry) (out-What what.now)) }
 {
     match what {
         What::For { variable, to, .. } => trap_of_limit(alloc, memory, *variable, to),
@@ -72,7 +72,7 @@ pub(crate) fn trap_in_test(
 
 /// The trap that the last assignment of a FOR meets.
 pub(crate) fn trap_in_count(memory: Memory<'_>, what: &What) -> Option<ValueTrap>
-    ensures { result ≡ trap_in_count (seen memory.entry) (out-What what.now) }
+    ensures { result ≡ trap_in_count (memory_now memory.entry) (out-What what.now) }
 {
     match what {
         What::For { variable, .. } => trap_of_variable(memory, *variable),
@@ -99,7 +99,7 @@ pub(crate) fn trap_of_call(
     memory: Memory<'_>,
     call: Option<Entry<'_>>,
 ) -> Result<Option<ValueTrap>, NoMemory>
-    ensures { IfOk result (λ trap. trap ≡ trap_of_call (seen memory.entry) (option_map entry_of call.entry)) }
+    ensures { IfOk result (λ trap. trap ≡ trap_of_call (memory_now memory.entry) (option_map entry_of call.entry)) }
 {
     match call {
         Some(Entry::Run(statement)) => trap_of_target(alloc, memory, &statement.what),
@@ -114,7 +114,7 @@ fn trap_of_target(
     memory: Memory<'_>,
     what: &What,
 ) -> Result<Option<ValueTrap>, NoMemory>
-    ensures { IfOk result (λ trap. trap ≡ trap_of_target (seen memory.entry) (out-What what.now)) }
+    ensures { IfOk result (λ trap. trap ≡ trap_of_target (memory_now memory.entry) (out-What what.now)) }
 {
     match what {
         What::AssignCall { to, .. } => trap_of_spot(alloc, memory, to),
@@ -142,7 +142,7 @@ fn trap_of_assignment(
     value: &Expr,
 ) -> Result<Option<ValueTrap>, NoMemory>
     ensures { IfOk result (λ trap. trap
-        ≡ option_or (trap_of (seen memory.entry) value.now) (trap_of_spot (seen memory.entry) to.now)) }
+        ≡ option_or (trap_of (memory_now memory.entry) value.now) (trap_of_spot (memory_now memory.entry) to.now)) }
 {
     let first = trap_of(alloc, memory, value)?;
     let second = trap_of_spot(alloc, memory, to)?;
@@ -156,7 +156,7 @@ fn trap_of_limit(
     to: &Expr,
 ) -> Result<Option<ValueTrap>, NoMemory>
     ensures { IfOk result (λ trap. trap
-        ≡ option_or (trap_of_variable (seen memory.entry) variable) (trap_of (seen memory.entry) to.now)) }
+        ≡ option_or (trap_of_variable (memory_now memory.entry) variable) (trap_of (memory_now memory.entry) to.now)) }
 {
     let limit = trap_of(alloc, memory, to)?;
     Ok(trap_of_variable(memory, variable).or(limit))
@@ -168,7 +168,7 @@ fn trap_among(
     memory: Memory<'_>,
     arguments: &[Expr],
 ) -> Result<Option<ValueTrap>, NoMemory>
-    ensures { IfOk result (λ trap. trap ≡ trap_among (seen memory.entry) arguments.now) }
+    ensures { IfOk result (λ trap. trap ≡ trap_among (memory_now memory.entry) arguments.now) }
 {
     let mut left = arguments;
     while let Some((argument, rest)) = left.split_first() {
@@ -187,7 +187,7 @@ pub(crate) fn trap_of_result(
     memory: Memory<'_>,
     value: &Option<Expr>,
 ) -> Result<Option<ValueTrap>, NoMemory>
-    ensures { IfOk result (λ trap. trap ≡ trap_of_result (seen memory.entry) value.now) }
+    ensures { IfOk result (λ trap. trap ≡ trap_of_result (memory_now memory.entry) value.now) }
 {
     match value {
         None => Ok(None),
@@ -196,7 +196,7 @@ pub(crate) fn trap_of_result(
 }
 
 fn trap_of(alloc: Global, memory: Memory<'_>, expr: &Expr) -> Result<Option<ValueTrap>, NoMemory>
-    ensures { IfOk result (λ trap. trap ≡ trap_of (seen memory.entry) expr.now) }
+    ensures { IfOk result (λ trap. trap ≡ trap_of (memory_now memory.entry) expr.now) }
 {
     let value = value_or_trap(alloc, memory, expr)?;
     Ok(value.err())
@@ -207,7 +207,7 @@ fn trap_of_spot(
     memory: Memory<'_>,
     spot: &Spot,
 ) -> Result<Option<ValueTrap>, NoMemory>
-    ensures { IfOk result (λ trap. trap ≡ trap_of_spot (seen memory.entry) spot.now) }
+    ensures { IfOk result (λ trap. trap ≡ trap_of_spot (memory_now memory.entry) spot.now) }
 {
     let cell = cell_or_trap(alloc, memory, spot)?;
     Ok(cell.err())
@@ -218,14 +218,14 @@ fn trap_of_test(
     memory: Memory<'_>,
     test: &Cond,
 ) -> Result<Option<ValueTrap>, NoMemory>
-    ensures { IfOk result (λ trap. trap ≡ trap_of_test (seen memory.entry) test.now) }
+    ensures { IfOk result (λ trap. trap ≡ trap_of_test (memory_now memory.entry) test.now) }
 {
     let truth = truth_or_trap(alloc, memory, test)?;
     Ok(truth.err())
 }
 
 fn trap_of_variable(memory: Memory<'_>, variable: Variable) -> Option<ValueTrap>
-    ensures { result ≡ trap_of_variable (seen memory.entry) variable }
+    ensures { result ≡ trap_of_variable (memory_now memory.entry) variable }
 {
     word_or_trap(memory, variable_cell(variable)).err()
 }

@@ -13,7 +13,7 @@ use Rattle.sync_ids.specs.checkpoint_image.specs.declared.receive.OpenerBlock.{O
 use Rattle.sync_ids.specs.checkpoint_image.specs.declared.receive.ReceiveBlock.{ReceiveBlock}
 use Rattle.sync_ids.specs.Tables.{Remembered, are_of_depths, can_hold, fits, is_unanswered}
 use Rattle.sync_ids.proofs.Tables.{and-left, and-right, depth-at, lengths}
-use Rattle.sync_ids.specs.Changes.{add_few, adds_few, change_at, change_between, changed, changes_from}
+use Rattle.sync_ids.specs.Changes.{add_few, adds_few, change_at, change_between, table_with_change, changes_from}
 use Rattle.sync_ids.specs.Changes.{fits_change, is_untouched, put_at, put_in, with_changes}
 use Rattle.receive_changes.specs.Later.{ComesTo, Same, Taken, Answered}
 use Rattle.sync_ids.specs.declared.change.OpenerChange.{OpenerChange}
@@ -336,7 +336,7 @@ openers-apart earlier later sound since =
 
 pub later-gives : (earlier : Remembered) (later : ReceiveBlock) → fits earlier earlier.table ≡ true
     → ComesTo earlier.depths earlier.table later
-    → changed earlier.depths earlier.table (change_between earlier.table later) ≡ later
+    → table_with_change earlier.depths earlier.table (change_between earlier.table later) ≡ later
 later-gives earlier later sound came =
     let openers = earlier.table.openers in
     let since = comes-since earlier later sound came in

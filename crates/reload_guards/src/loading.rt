@@ -2,7 +2,8 @@ ghost use Rattle.std.specs.Prelude.{◌≡◌, ℕ, true, false, [], ◌∷◌, 
 ghost use Rattle.std.specs.Option.{is_some, option_map};
 ghost use Rattle.world_semantics.specs.Core.{Core};
 ghost use Rattle.world_semantics.specs.Examples.{disc_site};
-ghost use Rattle.world_semantics.specs.Rules.{blank_copy, reloaded_by, renewals_ended, renewed, taker, without_downs};
+ghost use Rattle.world_semantics.specs.Rules.{blank_copy, reloaded_by, renewals_ended, copy_with_renewal, taker};
+ghost use Rattle.world_semantics.specs.Rules.{without_downs};
 ghost use Rattle.world_semantics.specs.World.{Copy, Pair, is_marked_by_all, is_pair_of, is_whole};
 ghost use Rattle.world_semantics.specs.declared.role.Role.TheVariants.{Acting, Blank, Gone, Watching};
 ghost use Rattle.world_semantics.specs.declared.which.Which.TheVariants.{First, Second};
@@ -85,12 +86,12 @@ pub fn a_second_copy_is_loaded_again()
 /// What the copy that has to send everything had sent counts no more. It has its core, its requests and its acts as
 /// before.
 pub fn a_renewed_copy_has_sent_nothing()
-    ensures sent { (copy : Copy) → (renewed copy).sent ≡ false }
-    ensures acknowledged { (copy : Copy) → (renewed copy).acknowledged ≡ false }
-    ensures core { (copy : Copy) → (renewed copy).core ≡ copy.core }
-    ensures waiting { (copy : Copy) → (renewed copy).waiting ≡ copy.waiting }
-    ensures position { (copy : Copy) → (renewed copy).position ≡ copy.position }
-    ensures held { (copy : Copy) → (renewed copy).held ≡ copy.held }
+    ensures sent { (copy : Copy) → (copy_with_renewal copy).sent ≡ false }
+    ensures acknowledged { (copy : Copy) → (copy_with_renewal copy).acknowledged ≡ false }
+    ensures core { (copy : Copy) → (copy_with_renewal copy).core ≡ copy.core }
+    ensures waiting { (copy : Copy) → (copy_with_renewal copy).waiting ≡ copy.waiting }
+    ensures position { (copy : Copy) → (copy_with_renewal copy).position ≡ copy.position }
+    ensures held { (copy : Copy) → (copy_with_renewal copy).held ≡ copy.held }
 {}
 
 /// A blank copy has the core of the beginning, and nothing else.

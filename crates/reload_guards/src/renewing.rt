@@ -3,7 +3,7 @@ ghost use Rattle.process_semantics.specs.Process.{Runs};
 ghost use Rattle.process_semantics.specs.State.{ProgramState};
 ghost use Rattle.process_semantics.specs.declared.point.Point.TheVariants.{AtCheckpoint, Await, Inner};
 ghost use Rattle.process_images.specs.Images.{all_files_of, everything_of};
-ghost use Rattle.world_semantics.specs.Core.{Core, carried, carried_by, carried_whole};
+ghost use Rattle.world_semantics.specs.Core.{Core, carried_image, carried_by, carried_whole};
 ghost use Rattle.world_semantics.specs.Examples.{bank, disc_site};
 ghost use Rattle.world_semantics.specs.Messages.{Asking, Checkpointing, Handing, Message, Taking, sent_at};
 ghost use Rattle.world_semantics.specs.Passes.{MaySend, point_at};
@@ -70,7 +70,7 @@ pub fn everything_is_named()
     ensures items { (s : ProgramState) → everything_of (Runs bank s) ≡ 0 ∷ 1 ∷ 4 ∷ 5 ∷ [] }
     ensures files { (s : ProgramState) → all_files_of (Runs bank s) ≡ 1 ∷ [] }
     ensures whole { (core : Core) → carried_by true core ≡ carried_whole core }
-    ensures named { (core : Core) → carried_by false core ≡ carried core }
+    ensures named { (core : Core) → carried_by false core ≡ carried_image core }
 {}
 
 /// A copy sends no checkpoint where it awaits a reply, and elsewhere than at a checkpoint only if it has to send

@@ -21,7 +21,7 @@ use Rattle.packet_wires.specs.Play.{Packeted, Underway, acted, underway, deliver
 use Rattle.packet_wires.specs.Play.{lose_acted, made_by, packet_at, play, pulled, pulled_running, pulls, pulls_its}
 use Rattle.packet_wires.specs.Play.{reload_acted, repeat_acted, stop_acted, taken_off, tick_acted}
 use Rattle.packet_wires.specs.Runs.{IsPlayed, played_none, played_more, skipped}
-use Rattle.packet_wires.specs.Wires.{Midst, Wires, bus_named, ticked}
+use Rattle.packet_wires.specs.Wires.{Midst, Wires, bus_named, midst_after_tick}
 use Rattle.packets_laws.proofs.Going as going
 use Rattle.packets_laws.proofs.Going.{Goes, play-goes}
 use Rattle.command_dues.specs.packet_runs.proofs.Played.{played}
@@ -124,9 +124,9 @@ tick-there node s = by (is_running s.world.stopped node)
     line midst (Some processor) = at midst processor (slice_get s.world.stopped processor) refl
 
     by : (test : Bool) → StopsThere s (if test then pulls_its node
-        (record s { wires = ticked s.site.processors node s.wires }) else Skips)
-    by true = line (ticked s.site.processors node s.wires)
-        (line_of node (record s { wires = ticked s.site.processors node s.wires }))
+        (record s { wires = midst_after_tick s.site.processors node s.wires }) else Skips)
+    by true = line (midst_after_tick s.site.processors node s.wires)
+        (line_of node (record s { wires = midst_after_tick s.site.processors node s.wires }))
     by false = tt
 
 acted-there : (s : Packeted) (event : Event) → StopsThere (underway s) (acted s event)

@@ -1,6 +1,6 @@
 ghost use Rattle.std.specs.Prelude.{◌≡◌, true, false, Some, None, [], ◌∷◌};
 ghost use Rattle.checkpoint_image.specs.Receive.{after_taking};
-ghost use Rattle.sync_ids.specs.Changes.{change_between, changed, fits_change};
+ghost use Rattle.sync_ids.specs.Changes.{change_between, table_with_change, fits_change};
 ghost use Rattle.request_guards.specs.Tables.{deep, deeper, fresh, remembered, reply, shallow, since, table};
 ghost use Rattle.request_guards.specs.Tables.{table_in_hand};
 
@@ -22,10 +22,10 @@ pub fn a_change_names_what_was_taken_and_answered()
 /// A change is put into the openers that it names: the replies that it adds are kept behind the others, of which the
 /// oldest go.
 pub fn a_change_is_put_into_its_openers()
-    ensures added { changed remembered.depths table
+    ensures added { table_with_change remembered.depths table
         (record { changes = since 1 9 (reply 8 ∷ reply 9 ∷ []) ∷ []; in_hand = None })
         ≡ record { openers = shallow ∷ deeper ∷ fresh ∷ []; in_hand = None } }
-    ensures taken { changed remembered.depths table (record { changes = since 0 6 [] ∷ []; in_hand = Some 0 })
+    ensures taken { table_with_change remembered.depths table (record { changes = since 0 6 [] ∷ []; in_hand = Some 0 })
         ≡ after_taking 0 shallow table }
 {}
 

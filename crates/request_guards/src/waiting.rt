@@ -1,8 +1,8 @@
 ghost use Rattle.std.specs.Prelude.{◌≡◌, Some, None, [], ◌∷◌};
 ghost use Rattle.file_calls.specs.declared.waiting.Arrival.TheVariants.{Waits, Dropped, Again};
 ghost use Rattle.file_calls.specs.Queue.{arrival_of};
-ghost use Rattle.file_calls.specs.Takeover.{settled};
-ghost use Rattle.checkpoint_image.specs.Receive.{came, chosen, reply_to, still_waiting, waits};
+ghost use Rattle.file_calls.specs.Takeover.{settlement_of};
+ghost use Rattle.checkpoint_image.specs.Receive.{came, choice_among, reply_to, still_waiting, waits};
 ghost use Rattle.request_guards.specs.Tables.{reply, request, table, table_in_hand};
 
 /// Of one opener one request waits: a greater number takes the place of a smaller one and goes to the end, an equal and
@@ -29,15 +29,16 @@ pub fn a_request_comes_by_its_standing()
 
 /// What is taken is the first request that is next, in the order in which they came, whatever else waits.
 pub fn the_first_that_is_next_is_taken()
-    ensures first { chosen table (request 0 7 ∷ request 1 8 ∷ request 2 1 ∷ [])
+    ensures first { choice_among table (request 0 7 ∷ request 1 8 ∷ request 2 1 ∷ [])
         ≡ Some (record { request = request 1 8; rest = request 0 7 ∷ request 2 1 ∷ [] }) }
-    ensures none { chosen table (request 0 7 ∷ request 1 9 ∷ []) ≡ None }
+    ensures none { choice_among table (request 0 7 ∷ request 1 9 ∷ []) ≡ None }
 {}
 
 /// A takeover sends the kept reply to the first request that has one, drops what is old before it, and leaves the rest.
 pub fn a_takeover_settles_in_order()
-    ensures kept { settled table (request 0 4 ∷ request 1 6 ∷ request 2 1 ∷ [])
+    ensures kept { settlement_of table (request 0 4 ∷ request 1 6 ∷ request 2 1 ∷ [])
         ≡ record { reply = Some (reply_to (request 1 6) (reply 6)); rest = request 2 1 ∷ [] } }
-    ensures none { settled table (request 0 4 ∷ request 2 1 ∷ []) ≡ record { reply = None; rest = request 2 1 ∷ [] } }
+    ensures none { settlement_of table (request 0 4 ∷ request 2 1 ∷ [])
+        ≡ record { reply = None; rest = request 2 1 ∷ [] } }
     ensures still { still_waiting table (request 0 4 ∷ request 1 6 ∷ request 2 1 ∷ []) ≡ request 2 1 ∷ [] }
 {}

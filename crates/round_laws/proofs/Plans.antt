@@ -17,7 +17,7 @@ use Rattle.player.specs.declared.standing.Rule.TheVariants as rule
 use Rattle.player.specs.declared.standing.LinePlace.TheVariants as standing
 use Rattle.player.specs.Ended.{under_way}
 use Rattle.player.specs.Rounds.{next_turn}
-use Rattle.player.specs.Lines.{begun, is_before, moved, proposed, is_reached, decided, decided_move, next_event}
+use Rattle.player.specs.Lines.{begun, is_before, moved, proposed, is_reached, event_by_counts, decided_move, next_event}
 use Rattle.agendas.specs.Agendas.{Plan, planned_by, stopped_by}
 use Rattle.round_laws.specs.Stretches.{is_drain}
 use Rattle.round_laws.specs.Turns.{Turns}
@@ -32,7 +32,7 @@ pub data LineGives (sizes : Sizes) (counts : Counts) (kind : Rule) (left : ℕ) 
   is_past : (is_before at ≡ true) ⊎ (is_reached kind counts ≡ true) → LineGives sizes counts kind left at None
 
 decided-drain : (kind : Rule) (left : ℕ) (at : Place) (counts : Counts) (event : Event) → is_drain kind ≡ true
-    → decided (standing.Rounds kind left at) counts event ≡ event
+    → event_by_counts (standing.Rounds kind left at) counts event ≡ event
 decided-drain rule.Drain left at counts event drain = refl
 decided-drain (rule.Mute node) left at counts event drain = absurd (cc)
 decided-drain (rule.Until writes count) left at counts event drain = refl

@@ -15,7 +15,7 @@ use Rattle.player.specs.declared.standing.LinePlace.{LinePlace}
 use Rattle.player.specs.declared.standing.LinePlace.TheVariants as standing
 use Rattle.player.specs.Ended.{under_way}
 use Rattle.player.specs.Lines.{begun, is_before, next_event}
-use Rattle.agendas.specs.Agendas.{Agenda, Plan, planned_by, coming, stopped_by, upcoming_after, upcoming}
+use Rattle.agendas.specs.Agendas.{Agenda, Plan, planned_by, coming, stopped_by, upcoming_after, next_plan}
 use Rattle.round_laws.specs.Buses.{HasBuses}
 use Rattle.round_laws.specs.Rounds.{TurnsIn, InRound, begins, goes_on, stops, AreRounds, no_round, one_more}
 use Rattle.round_laws.specs.Stretches.{is_drain, GoesOn, at_once, plays, IsNextLine, itself, later, BeginsRound}
@@ -93,7 +93,7 @@ in-line : {S P : Type 0} (sizes : Sizes) (buses : S → Bool → List P) (counts
     → (kind : Rule) (all : ℕ) (rest : List Line) (start first s : S) (left made : ℕ) (came : Bool → List P) (at : Place)
     → left + under_way at + made ≡ all → AreRounds sizes buses goes start made first
     → InRound sizes buses goes first came at s → is_drain kind ≡ true → (before : ℕ) (stop : Option ProcessorStop)
-    → IfPlan (Onward sizes buses goes kind all rest start s) (upcoming sizes before (counts s)
+    → IfPlan (Onward sizes buses goes kind all rest start s) (next_plan sizes before (counts s)
     (record { standing = standing.Rounds kind left at; lines = rest; stop = stop; held_back = None }))
 in-line {S} {P} sizes buses counts goes has counted kind all rest start first s left made came at count rounds round
     drain
@@ -125,7 +125,7 @@ in-line {S} {P} sizes buses counts goes has counted kind all rest start first s 
 past-line : {S P : Type 0} (sizes : Sizes) (buses : S → Bool → List P) (counts : S → Counts)
     (goes : S → Event → S → Type 0) (kind : Rule) (all : ℕ) (rest : List Line) (start s : S) (now : LinePlace)
     (lines : List Line) → length lines < length rest → (before : ℕ) (stop : Option ProcessorStop) (held : Option Event)
-    → IfPlan (Onward sizes buses goes kind all rest start s) (upcoming sizes before (counts s)
+    → IfPlan (Onward sizes buses goes kind all rest start s) (next_plan sizes before (counts s)
     (record { standing = now; lines = lines; stop = stop; held_back = held }))
 past-line sizes buses counts goes kind all rest start s now lines low before stop (Some event) = λ next g. behind low
 past-line sizes buses counts goes kind all rest start s now lines low before stop None =
@@ -151,7 +151,7 @@ stage-on : {S P : Type 0} (sizes : Sizes) (buses : S → Bool → List P) (count
     → (kind : Rule) (all : ℕ) (rest : List Line) (start s : S) → is_drain kind ≡ true → (before : ℕ) (now : LinePlace)
     (lines : List Line) (stop : Option ProcessorStop) (held : Option Event)
     → Stage sizes buses goes kind all rest start s now lines held
-    → IfPlan (Onward sizes buses goes kind all rest start s) (upcoming sizes before (counts s)
+    → IfPlan (Onward sizes buses goes kind all rest start s) (next_plan sizes before (counts s)
     (record { standing = now; lines = lines; stop = stop; held_back = held }))
 stage-on sizes buses counts goes has counted kind all rest start s drain before _ _ stop _ (between left made count
     rounds) =
@@ -192,7 +192,7 @@ stretch-stage {S} {P} sizes buses counts goes has counted kind all rest before a
     earlier)
     is g)
   where
-    starts : upcoming sizes now (counts start) agenda ≡ Some plan
+    starts : next_plan sizes now (counts start) agenda ≡ Some plan
         → Onward sizes buses goes kind all rest start start plan
     starts is = plan-is (Onward sizes buses goes kind all rest start start) _ plan
         (in-line sizes buses counts goes has counted kind all rest start start start all zero (λ bus. []) place.Before
@@ -202,11 +202,11 @@ stretch-stage {S} {P} sizes buses counts goes has counted kind all rest before a
         ∙ subst (λ held. upcoming_after sizes now (counts start) agenda held ≡ Some plan) first.free is)
 
     by : ((there ≡ agenda) × (t ≡ start)) ⊎ Stage sizes buses goes kind all rest start t there.standing there.lines
-        there.held_back → upcoming sizes now (counts t) there ≡ Some plan → goes t plan.event next
+        there.held_back → next_plan sizes now (counts t) there ≡ Some plan → goes t plan.event next
         → Stage sizes buses goes kind all rest start next plan.agenda.standing plan.agenda.lines plan.agenda.held_back
     by (inl here) is g = starts
-        (subst (λ a. upcoming sizes now (counts start) a ≡ Some plan) here.0
-        (subst (λ u. upcoming sizes now (counts u) there ≡ Some plan) here.1 is)) next
+        (subst (λ a. next_plan sizes now (counts start) a ≡ Some plan) here.0
+        (subst (λ u. next_plan sizes now (counts u) there ≡ Some plan) here.1 is)) next
         (subst (λ u. goes u plan.event next) here.1 g)
     by (inr stage) is g = plan-is (Onward sizes buses goes kind all rest start t) _ plan
         (stage-on sizes buses counts goes has counted kind all rest start t drain now there.standing there.lines

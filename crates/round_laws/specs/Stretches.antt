@@ -11,7 +11,7 @@ use Rattle.player.specs.declared.standing.Rule.TheVariants as rule
 use Rattle.player.specs.declared.standing.LinePlace.{LinePlace}
 use Rattle.player.specs.declared.standing.LinePlace.TheVariants as standing
 use Rattle.player.specs.Lines.{begun, next_event}
-use Rattle.agendas.specs.Agendas.{Agenda, Plan, upcoming}
+use Rattle.agendas.specs.Agendas.{Agenda, Plan, next_plan}
 
 -- a rule by which all packets are delivered
 abbrev pub is_drain : Rule → Bool
@@ -25,7 +25,7 @@ pub data GoesOn {S : Type 0} (sizes : Sizes) (counts : S → Counts) (goes : S �
   at_once : GoesOn sizes counts goes before agenda s before agenda s
   plays : {now : ℕ} {there : Agenda} {t next : S} → (plan : Plan)
       → GoesOn sizes counts goes before agenda s now there t
-      → upcoming sizes now (counts t) there ≡ Some plan → goes t plan.event next
+      → next_plan sizes now (counts t) there ≡ Some plan → goes t plan.event next
       → GoesOn sizes counts goes before agenda s (now + 1) plan.agenda next
 
 -- the next event is one of a line that stands so, with these lines after it: that of the line which stands now, or of

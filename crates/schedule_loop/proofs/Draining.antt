@@ -15,7 +15,7 @@ use Rattle.player.specs.declared.standing.Rule.TheVariants as rule
 use Rattle.player.specs.declared.standing.Sizes.{Sizes}
 use Rattle.player.specs.declared.standing.Turn.{Turn}
 use Rattle.player.specs.declared.stop.ProcessorStop.{ProcessorStop}
-use Rattle.player.specs.Lines.{draining, moved, next_event, with_packets_left}
+use Rattle.player.specs.Lines.{bus_to_drain, moved, next_event, with_packets_left}
 use Rattle.player.specs.Rounds.{delivers_y, next_turn, ticks, turn}
 use Rattle.agendas.specs.Agendas.{Plan, coming, stopped_by}
 use Rattle.machine_states.specs.States.{DiscLoss, Makes, Played, SecondStop, Settles, Skips, State, Would}
@@ -29,7 +29,7 @@ use Rattle.schedule_loop.specs.Seen.{IsDraining, Scheduled, event_in, with_left}
 use Rattle.schedule_loop.proofs.Playing.{Coming, goes_on}
 
 -- a drain stands in a round that delivers
-drains : (at : LinePlace) (y : Bool) (packets : ℕ) → draining at ≡ Some (y, packets)
+drains : (at : LinePlace) (y : Bool) (packets : ℕ) → bus_to_drain at ≡ Some (y, packets)
     → (left : ℕ) × (at ≡ standing.Rounds rule.Drain left (place.Delivers y packets))
 drains standing.Ended y packets is = absurd (cc)
 drains (standing.Event event left) y packets is = absurd (cc)

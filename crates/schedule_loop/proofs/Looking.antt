@@ -12,7 +12,7 @@ use Rattle.player.specs.declared.standing.Rule.{Rule}
 use Rattle.player.specs.declared.standing.Rule.TheVariants as rule
 use Rattle.player.specs.declared.standing.Sizes.{Sizes}
 use Rattle.player.specs.Lines.{decided_move, event_of, is_before, is_mixed, is_over, moved, next_event, proposed}
-use Rattle.player.specs.Lines.{spared, stands_after}
+use Rattle.player.specs.Lines.{event_when_spared, stands_after}
 use Rattle.player.specs.Rounds.{next_turn}
 use Rattle.schedule_loop.specs.Looks.{asks_packet, loses}
 
@@ -68,11 +68,12 @@ loses_any (Some one) = loses one
 
 -- an event that it doesn't lose is the next one, whatever is counted of its packet
 module _ (told seen : Counts) (unseen : told.alive ≡ false) where
-  kept : (one found : Event) → loses one ≡ false → Some one ≡ Some (spared told found)
-      → Some one ≡ Some (spared seen found)
+  kept : (one found : Event) → loses one ≡ false → Some one ≡ Some (event_when_spared told found)
+      → Some one ≡ Some (event_when_spared seen found)
   kept one (event.Lose y k) none is =
-      let same : loses one ≡ loses (spared told (event.Lose y k)) = ap (λ (found : Option Event). loses_any found) is in
-      let lost : loses (spared told (event.Lose y k)) ≡ true =
+      let same : loses one ≡ loses (event_when_spared told (event.Lose y k)) =
+      ap (λ (found : Option Event). loses_any found) is in
+      let lost : loses (event_when_spared told (event.Lose y k)) ≡ true =
       ap (λ (alive : Bool). loses (if alive then event.Deliver y k else event.Lose y k)) unseen in
       absurd (cc)
   kept one (event.Deliver y k) none is = is

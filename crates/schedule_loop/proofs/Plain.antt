@@ -8,7 +8,7 @@ use Rattle.player.specs.Lines.{begun, next_event}
 use Rattle.player.specs.declared.standing.Sizes.{Sizes}
 use Rattle.player.specs.declared.standing.Move.{Move}
 use Rattle.player.specs.declared.stop.ProcessorStop.{ProcessorStop}
-use Rattle.agendas.specs.Agendas.{Agenda, PlaysOn, coming, planned_by, plays_none, plays_on, stopped_by, upcoming}
+use Rattle.agendas.specs.Agendas.{Agenda, PlaysOn, coming, planned_by, plays_none, plays_on, stopped_by, next_plan}
 use Rattle.agendas.specs.Agendas.{upcoming_after}
 use Rattle.schedule_loop.specs.Plans.{PlaysSeen, planned_seen, seen_none, seen_on, upcoming_seen, upcoming_seen_after}
 
@@ -29,7 +29,7 @@ same-after sizes before counts agenda None =
 
 -- the same event comes next
 pub same-upcoming : (sizes : Sizes) (before : ℕ) (counts : Counts) (agenda : Agenda)
-    → upcoming sizes before counts agenda ≡ upcoming_seen sizes before (λ player. counts) agenda
+    → next_plan sizes before counts agenda ≡ upcoming_seen sizes before (λ player. counts) agenda
 same-upcoming sizes before counts agenda = same-after sizes before counts agenda agenda.held_back
 
 pub plays-on : {S : Type 0} {sizes : Sizes} {counts : S → Counts} {goes : S → Event → S → Type 0} {start : S}

@@ -3,7 +3,7 @@ use Rattle.std.specs.Prelude.{◌≡◌, ℕ, Bool, true, false, List, [], ◌�
 use Rattle.std.specs.Option.{option_map}
 use Rattle.schedule.specs.declared.event.Event.{Event}
 use Rattle.schedule.specs.declared.line.Line.{Line}
-use Rattle.player.specs.Lines.{begun, draining, with_packets_left}
+use Rattle.player.specs.Lines.{begun, bus_to_drain, with_packets_left}
 use Rattle.player.specs.declared.player.Player.{Player}
 use Rattle.player.specs.declared.standing.Sizes.{Sizes}
 use Rattle.agendas.specs.Agendas.{Agenda, Plan}
@@ -29,7 +29,7 @@ IsBegun (line ∷ rest) before began after =
 -- with no event held back, the bus whose packets a drain delivers next is this one, with so many of them left
 abbrev pub IsDraining : Agenda → Option (Bool × ℕ) → Type 0
 IsDraining agenda None = Unit {0}
-IsDraining agenda (Some packets) = (agenda.held_back ≡ None) × (draining agenda.standing ≡ Some packets)
+IsDraining agenda (Some packets) = (agenda.held_back ≡ None) × (bus_to_drain agenda.standing ≡ Some packets)
 
 -- the schedule with so many packets left that its line delivers
 abbrev pub with_left : ℕ → Scheduled → Scheduled

@@ -8,7 +8,7 @@ use Rattle.schedule.specs.declared.line.Line.{Line}
 use Rattle.player.specs.declared.stop.ProcessorStop.{ProcessorStop}
 pub use Rattle.agendas.specs.Agendas.{Agenda, Plan, PlaysOn, plays_none, plays_on}
 pub use Rattle.agendas.specs.Sizes.{sizes_of}
-pub use Rattle.agendas.specs.Agendas.{agenda_of, coming, planned_by, stopped_by, upcoming, upcoming_after}
+pub use Rattle.agendas.specs.Agendas.{agenda_of, coming, planned_by, stopped_by, next_plan, upcoming_after}
 use Rattle.machine_states.specs.States.{Makes, Skips, Would, Harm}
 use Rattle.pair_machine.specs.message_wires.specs.Idle.{is_idle}
 use Rattle.pair_machine.specs.message_wires.specs.Play.{MachineState, play, machine_at_boot}
@@ -44,7 +44,7 @@ pub record RunsOut (site : Site) (lines : List Line) (stop : Option ProcessorSto
     (s : MachineState) : Type 0 where
   pub agenda : Agenda
   pub played : PlaysSchedule site lines stop events agenda s
-  pub over : upcoming (sizes_of site) (length events) (counts_of s) agenda ≡ None
+  pub over : next_plan (sizes_of site) (length events) (counts_of s) agenda ≡ None
 
 -- or it ends before an event that would do harm
 pub record RunsToHarm (site : Site) (lines : List Line) (stop : Option ProcessorStop) (events : List Event)
@@ -52,5 +52,5 @@ pub record RunsToHarm (site : Site) (lines : List Line) (stop : Option Processor
   pub agenda : Agenda
   pub plan : Plan
   pub played : PlaysSchedule site lines stop events agenda s
-  pub comes : upcoming (sizes_of site) (length events) (counts_of s) agenda ≡ Some plan
+  pub comes : next_plan (sizes_of site) (length events) (counts_of s) agenda ≡ Some plan
   pub would : play s plan.event ≡ Would harm

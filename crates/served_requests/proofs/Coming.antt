@@ -8,7 +8,7 @@ use Rattle.tal_tree.specs.declared.site.Who.{Who}
 use Rattle.plain_semantics.specs.declared.slot.Opener.{Opener}
 use Rattle.plain_semantics.specs.Openers.{opener_of}
 use Rattle.checkpoint_image.specs.declared.receive.RequestStanding.TheVariants.{Kept}
-use Rattle.checkpoint_image.specs.Receive.{standing, standing_at, is_waiting, repeated, waits, came}
+use Rattle.checkpoint_image.specs.Receive.{request_standing, standing_at, is_waiting, reply_sent_again, waits, came}
 use Rattle.world_semantics.specs.declared.role.Role.TheVariants.{Acting}
 use Rattle.world_semantics.specs.declared.which.Which.{Which}
 use Rattle.world_semantics.specs.declared.which.Which.TheVariants.{First, Second}
@@ -111,7 +111,7 @@ module _ (site : Site) (fit : IsFit site) (events : ℕ) (w : World) (good : IsG
       watching = λ r. absurd (acting-gets-none (copy_of k pair).role role r);
       next = λ r is.
           let stands = next-is (copy_of k pair).core.receive opener.place n is in
-          let wait : is_waiting (standing (copy_of k pair).core.receive (request_of opener n words)) ≡ true =
+          let wait : is_waiting (request_standing (copy_of k pair).core.receive (request_of opener n words)) ≡ true =
           rw is refl in
           rw wait (waits-now (request_of opener n words) (copy_of k pair).waiting (λ other among.
           let known = (good.invariant.processes opener.server pair there).2.waiting k other among in (
@@ -129,16 +129,16 @@ module _ (site : Site) (fit : IsFit site) (events : ℕ) (w : World) (good : IsG
 
     -- what is kept is told again
     told-again : {sendings : List Sending} → sendings
-        ≡ sent_at (copy_of k pair).processor (map Replying (repeated (copy_of k pair).core.receive request))
+        ≡ sent_at (copy_of k pair).processor (map Replying (reply_sent_again (copy_of k pair).core.receive request))
         → (words : List ℤ) → standing_at (copy_of k pair).core.receive opener.place n ≡ Kept words
         → IsAmong (record { node = (copy_of k pair).processor; message = Replying (reply_of opener n words) }) sendings
     told-again sent words kept =
-        let among : IsAmong (reply_of opener n words) (repeated (copy_of k pair).core.receive request) =
-        subst (λ r. IsAmong (reply_of opener n words) (repeated (copy_of k pair).core.receive r)) (sym is)
+        let among : IsAmong (reply_of opener n words) (reply_sent_again (copy_of k pair).core.receive request) =
+        subst (λ r. IsAmong (reply_of opener n words) (reply_sent_again (copy_of k pair).core.receive r)) (sym is)
         (rw kept (inl refl)) in
         rw sent (sent-in (copy_of k pair).processor (Replying (reply_of opener n words))
-        (map Replying (repeated (copy_of k pair).core.receive request))
-        (map-in Replying (reply_of opener n words) (repeated (copy_of k pair).core.receive request) among))
+        (map Replying (reply_sent_again (copy_of k pair).core.receive request))
+        (map-in Replying (reply_of opener n words) (reply_sent_again (copy_of k pair).core.receive request) among))
 
     heard-early-seen : receives (copy_of k pair).role ≡ true → IsAwaited site w asker one n
         → ((request : Request) → IsAmong request (copy_of k pair).waiting → IsEarly site w k request)

@@ -8,8 +8,9 @@ use Rattle.gd_words.specs.Members.{IsAmong}
 use Rattle.gd_words.specs.declared.message.Request.{Request}
 use Rattle.gd_words.proofs.Among.{among-left, among-right}
 use Rattle.checkpoint_image.specs.declared.receive.ReceiveBlock.{ReceiveBlock}
-use Rattle.checkpoint_image.specs.Receive.{is_same_opener, is_outdone, waits, is_waiting, standing, came, Chosen}
-use Rattle.checkpoint_image.specs.Receive.{is_next, chosen_after, chosen_by, chosen}
+use Rattle.checkpoint_image.specs.Receive.{is_same_opener, is_outdone, waits, is_waiting, request_standing, came}
+use Rattle.checkpoint_image.specs.Receive.{Chosen}
+use Rattle.checkpoint_image.specs.Receive.{is_next, chosen_after, chosen_by, choice_among}
 use Rattle.world_semantics.proofs.Lists.{some-same}
 use Rattle.world_semantics.proofs.Roles.{both-true}
 use Rattle.letter_laws.specs.takeover_laws.proofs.Checkpoints.{either}
@@ -105,7 +106,7 @@ waits-now request waiting most = by (is_outdone request waiting) refl
 pub came-still : (table : ReceiveBlock) (request other : Request) (waiting : List Request) → IsAmong other waiting
     → (other.opener ≡ request.opener → request.number ≤ other.number)
     → IsAmong other (came table waiting request)
-came-still table request other waiting among most = by (is_waiting (standing table request))
+came-still table request other waiting among most = by (is_waiting (request_standing table request))
   where
     by : (wait : Bool) → IsAmong other (if wait then waits waiting request else waiting)
     by true = waits-still request other waiting among most
@@ -115,12 +116,13 @@ came-still table request other waiting among most = by (is_waiting (standing tab
 
 -- what isn't of the opener whose request is taken waits on
 pub chosen-leaves : (table : ReceiveBlock) (waiting : List Request) (found : Chosen) (other : Request)
-    → chosen table waiting ≡ Some found
+    → choice_among table waiting ≡ Some found
     → IsAmong other waiting
     → other.opener ≢ found.request.opener → IsAmong other found.rest
 chosen-leaves table [] found other e among apart = absurd among
 chosen-leaves table (first ∷ rest) found other e among apart =
-    by (is_next (standing table first)) (chosen table rest) refl e among (λ later. chosen-leaves table rest later other)
+    by (is_next (request_standing table first)) (choice_among table rest) refl e among
+    (λ later. chosen-leaves table rest later other)
   where
     up : (later : Chosen) → chosen_after first later ≡ found → (other ≡ first) ⊎ IsAmong other rest
         → (IsAmong other rest → other.opener ≢ later.request.opener → IsAmong other later.rest)
@@ -130,9 +132,10 @@ chosen-leaves table (first ∷ rest) found other e among apart =
         subst (λ (c : Chosen). IsAmong other c.rest) same
         (inr (deeper there (λ is. apart (is ∙ ap (λ (c : Chosen). c.request.opener) same))))
 
-    by : (test : Bool) (later : Option Chosen) → chosen table rest ≡ later
+    by : (test : Bool) (later : Option Chosen) → choice_among table rest ≡ later
         → chosen_by test first rest later ≡ Some found → (other ≡ first) ⊎ IsAmong other rest
-        → ((later : Chosen) → chosen table rest ≡ Some later → IsAmong other rest → other.opener ≢ later.request.opener
+        → ((later : Chosen) → choice_among table rest ≡ Some later → IsAmong other rest
+        → other.opener ≢ later.request.opener
         → IsAmong other later.rest)
         → IsAmong other found.rest
     by true later is e (inl here) deeper =

@@ -10,7 +10,7 @@ use Rattle.plain_semantics.specs.declared.slot.Opener.{Opener}
 use Rattle.checkpoint_image.specs.declared.receive.OpenerBlock.{OpenerBlock}
 use Rattle.checkpoint_image.specs.declared.receive.ReceiveBlock.{ReceiveBlock}
 use Rattle.checkpoint_image.specs.declared.receive.RequestStanding.TheVariants.{Next, Kept}
-use Rattle.checkpoint_image.specs.Receive.{standing, standing_at, is_waiting, repeated}
+use Rattle.checkpoint_image.specs.Receive.{request_standing, standing_at, is_waiting, reply_sent_again}
 use Rattle.world_semantics.specs.declared.role.Role.TheVariants.{Acting}
 use Rattle.world_semantics.specs.Messages.{Asking, Replying, Sending, Cause, Handing}
 use Rattle.world_semantics.specs.World.{Copy, receives}
@@ -157,21 +157,21 @@ module _ (site : Site) (post next : Post) (asker : ℕ) (one : Who) (opener : Op
   turn-seen (has_taken_over watched acts away table waits told) has = record {
     watching = λ r. absurd (acting-gets-none after.role acts r);
     next = λ r is.
-        let next : standing before.core.receive wait.0 ≡ Next =
+        let next : request_standing before.core.receive wait.0 ≡ Next =
         rw (wait.3, wait.4) (subst (λ t. standing_at t opener.place n ≡ Next) table is) in (
           wait.0,
           subst (λ ws. IsAmong wait.0 ws) (sym waits)
-              (filter-in (λ request. is_waiting (standing before.core.receive request)) wait.0 before.waiting
+              (filter-in (λ request. is_waiting (request_standing before.core.receive request)) wait.0 before.waiting
               (rw next refl) wait.1),
           wait.2,
           wait.3,
           wait.4,
         );
     kept = λ r words is.
-        let kept : standing before.core.receive wait.0 ≡ Kept words =
+        let kept : request_standing before.core.receive wait.0 ≡ Kept words =
         rw (wait.3, wait.4) (subst (λ t. IsKeptIn t words) table is) in
         moved words (leaves.told words (told (reply_of opener n words)
-        (among-given (repeated before.core.receive) wait.0 (reply_of opener n words) before.waiting wait.1
+        (among-given (reply_sent_again before.core.receive) wait.0 (reply_of opener n words) before.waiting wait.1
         (rw (kept, wait.2, wait.3, wait.4) (inl refl)))));
   }
     where

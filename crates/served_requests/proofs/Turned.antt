@@ -8,7 +8,7 @@ use Rattle.gd_words.specs.declared.message.Reply.{Reply}
 use Rattle.gd_words.proofs.Among.{among-at, among-given}
 use Rattle.tal_tree.specs.declared.act.Act.{Act}
 use Rattle.tal_tree.specs.declared.site.Site.{Site}
-use Rattle.checkpoint_image.specs.Receive.{waits, came, repeated, all_repeated}
+use Rattle.checkpoint_image.specs.Receive.{waits, came, reply_sent_again, all_repeated}
 use Rattle.world_semantics.specs.declared.role.Role.TheVariants.{Acting}
 use Rattle.world_semantics.specs.declared.which.Which.{Which}
 use Rattle.world_semantics.specs.declared.which.Which.TheVariants.{First, Second}
@@ -218,8 +218,8 @@ module _ (site : Site) (fit : IsFit site) (events : ℕ) (w : World) (good : IsG
         refl,
         has_heard request role role refl refl refl
             (λ reply among. sent-in (copy_of k pair).processor (Replying reply)
-            (map Replying (repeated (copy_of k pair).core.receive request))
-            (map-in Replying reply (repeated (copy_of k pair).core.receive request) among)) refl,
+            (map Replying (reply_sent_again (copy_of k pair).core.receive request))
+            (map-in Replying reply (reply_sent_again (copy_of k pair).core.receive request) among)) refl,
       )
       (refl, is_quiet (like pair.first pair.first refl refl refl))
       (refl, is_quiet (like pair.second pair.second refl refl refl)))

@@ -14,8 +14,8 @@ use Rattle.plain_semantics.specs.declared.slot.Opener.{Opener}
 use Rattle.plain_semantics.specs.Openers.{openers_of, opener_of}
 use Rattle.checkpoint_image.specs.declared.message.ImageMessage.{ImageMessage}
 use Rattle.checkpoint_image.specs.declared.receive.OpenerBlock.{OpenerBlock}
-use Rattle.checkpoint_image.specs.Receive.{waits, came, repeated, still_waiting, all_repeated, after_taking}
-use Rattle.checkpoint_image.specs.Receive.{after_answering, Chosen, chosen}
+use Rattle.checkpoint_image.specs.Receive.{waits, came, reply_sent_again, still_waiting, all_repeated, after_taking}
+use Rattle.checkpoint_image.specs.Receive.{after_answering, Chosen, choice_among}
 use Rattle.world_semantics.specs.declared.role.Role.TheVariants.{Acting, Watching}
 use Rattle.world_semantics.specs.declared.which.Which.{Which}
 use Rattle.world_semantics.specs.declared.which.Which.TheVariants.{First, Second}
@@ -62,7 +62,7 @@ pub data Turns (site : Site) (number : ℕ) (cause : Cause) (sendings : List Sen
       → Turns site number cause sendings before after
   has_taken : (found : Chosen) (block : OpenerBlock) → before.role ≡ Acting → after.role ≡ Acting
       → process.point after.core.state ≢ point.Await
-      → before.core.receive.in_hand ≡ None → chosen before.core.receive before.waiting ≡ Some found
+      → before.core.receive.in_hand ≡ None → choice_among before.core.receive before.waiting ≡ Some found
       → slice_get before.core.receive.openers found.request.opener ≡ Some block
       → after.core.receive ≡ after_taking found.request.opener block before.core.receive → after.waiting ≡ found.rest
       → Turns site number cause sendings before after
@@ -79,7 +79,7 @@ pub data Turns (site : Site) (number : ℕ) (cause : Cause) (sendings : List Sen
   has_heard : (request : Request) → before.role ≡ Acting → after.role ≡ Acting → after.core ≡ before.core
       → request.process ≡ number
       → after.waiting ≡ came before.core.receive before.waiting request
-      → ((reply : Reply) → IsAmong reply (repeated before.core.receive request)
+      → ((reply : Reply) → IsAmong reply (reply_sent_again before.core.receive request)
       → IsAmong (record { node = before.processor; message = Replying reply }) sendings)
       → cause ≡ Handing before.processor (Asking request) → Turns site number cause sendings before after
   has_heard_early : (request : Request) → receives before.role ≡ true → receives after.role ≡ true

@@ -15,10 +15,11 @@ use Rattle.process_semantics.specs.Changes.{done, left, variable_cell, variable_
 use Rattle.process_semantics.specs.Remains.{Remains}
 use Rattle.process_semantics.specs.State.{Entry, Frame, Last, ProgramState, Run, Test, first_of, memory_of, next_of}
 use Rattle.process_semantics.specs.State.{runs_of}
-use Rattle.process_semantics.specs.Steps.{assigned, counted_in, counted, entered, entered_by, for_begun, given}
+use Rattle.process_semantics.specs.Steps.{state_after_assigning, state_after_count_in, state_after_count}
+use Rattle.process_semantics.specs.Steps.{state_after_entry, entered_by, for_begun, given}
 use Rattle.process_semantics.specs.Steps.{given_in, given_to, goes_round, inner, inner_entry, inner_in, or_ends}
 use Rattle.process_semantics.specs.Steps.{result_of}
-use Rattle.process_semantics.specs.Steps.{returned, tested, tested_in, values_of}
+use Rattle.process_semantics.specs.Steps.{state_after_return, tested, tested_in, values_of}
 use Rattle.process_semantics.proofs.Standing.{entry-stands}
 use Rattle.whole_states.specs.Whole.{AreFrames, IsFrame}
 use Rattle.told_reports.specs.Words.{AreWords, IsWord}
@@ -37,7 +38,7 @@ or-ends s None has is = ends-words s has
 or-ends s (Some next) has is = is
 
 assigned-words : (s : ProgramState) (to : Option Cell) (value : Option ℤ) → IfWord value → HasStateWords s
-    → IfState (assigned s to value)
+    → IfState (state_after_assigning s to value)
 assigned-words s to None is has = tt
 assigned-words s None (Some word) is has = tt
 assigned-words s (Some to) (Some word) is has = done-words (with_word to word s) (word-words to word s is has)
@@ -56,7 +57,7 @@ begun-words s statement variable (Some word) is has =
     before-words (Test statement ∷ []) (done put) (done-words put (word-words (variable_cell variable) word s is has))
 
 counted-words : (s : ProgramState) (to : Cell) (down : Bool) (step : ℤ) (value : Option ℤ) → HasStateWords s
-    → IfState (counted s to down step value)
+    → IfState (state_after_count s to down step value)
 counted-words s to down step None has = tt
 counted-words s to false step (Some word) has =
     let next = wrap (word +ℤ step) in
@@ -72,7 +73,7 @@ module _ (program : Program) where
   entered-by-words s number arguments (Some procedure) are has = entering-words number arguments procedure s are has
 
   entered-words : (s : ProgramState) (number : ℕ) (values : Option (List ℤ)) → IfSo AreWords values → HasStateWords s
-      → IfState (entered program s number values)
+      → IfState (state_after_entry program s number values)
   entered-words s number None are has = tt
   entered-words s number (Some arguments) are has =
       entered-by-words s number arguments (slice_get program.procedures number) are has
@@ -96,7 +97,7 @@ module _ (program : Program) where
   given-to-words word s (caller ∷ callers) is has = given-words word s (first_of caller.rest) is has
 
   returned-words : (s : ProgramState) (value : Option ℤ) → IfWord value → HasStateWords s
-      → IfState (returned program s value)
+      → IfState (state_after_return program s value)
   returned-words s None is has = tt
   returned-words s (Some word) is has = given-to-words word (left s) (drop 1 s.frames) is (left-words s has)
 
@@ -139,7 +140,7 @@ module _ (program : Program) where
   test-words s statement _ has = tt
 
   last-words : (s : ProgramState) (layer : What-F What Statement) → HasStateWords s
-      → IfState (counted_in program s layer)
+      → IfState (state_after_count_in program s layer)
   last-words s (What-F.For variable from to down step body last) has =
       counted-words s (variable_cell variable) down step (variable_of program s variable) has
   last-words s _ has = tt

@@ -15,11 +15,12 @@ use Rattle.player.specs.declared.standing.Sizes.{Sizes}
 use Rattle.player.specs.declared.standing.LinePlace.{LinePlace}
 use Rattle.player.specs.declared.standing.LinePlace.TheVariants as standing
 use Rattle.player.specs.declared.stop.ProcessorStop.{ProcessorStop}
-use Rattle.player.specs.Lines.{begun, decided, decided_move, is_before, is_before_mixed, is_over, moved, moved_mixed}
-use Rattle.player.specs.Lines.{muted, next_event, proposed, spared}
+use Rattle.player.specs.Lines.{begun, event_by_counts, decided_move, is_before, is_before_mixed, is_over, moved}
+use Rattle.player.specs.Lines.{moved_mixed}
+use Rattle.player.specs.Lines.{event_when_muted, next_event, proposed, event_when_spared}
 use Rattle.player.specs.Rounds.{next_turn}
 use Rattle.player.specs.Mixes.{next_mixed}
-use Rattle.schedule_runs.specs.Runs.{Agenda, Plan, coming, planned_by, stopped_by, upcoming, upcoming_after}
+use Rattle.schedule_runs.specs.Runs.{Agenda, Plan, coming, planned_by, stopped_by, next_plan, upcoming_after}
 use Rattle.single_stops.specs.StopsAsked.{stops_in, stops_of, stops_of_lines, stops_of_words}
 use Rattle.single_stops.proofs.Turns.{mixed-calm, turn-calm}
 
@@ -53,7 +54,8 @@ abbrev IsPaidMove : ℕ → Option Move → Type 0
 IsPaidMove most None = Unit {0}
 IsPaidMove most (Some move) = stops_in move.event 1 + stops_left move.standing ≤ most
 
-muted-stops : (node : ℕ) (counts : Counts) (event : Event) → stops_in (muted node counts event) 1 ≡ stops_in event 1
+muted-stops : (node : ℕ) (counts : Counts) (event : Event)
+    → stops_in (event_when_muted node counts event) 1 ≡ stops_in event 1
 muted-stops node counts (event.Deliver y k) = by (counts.alive && (counts.sender == node))
   where
     by : (test : Bool) → stops_in (if test then event.Lose y k else event.Deliver y k) 1 ≡ 0
@@ -68,7 +70,7 @@ muted-stops node counts (event.Fail processor) = refl
 muted-stops node counts (event.Reload processor) = refl
 muted-stops node counts (event.Drive turn) = refl
 
-spared-stops : (counts : Counts) (event : Event) → stops_in (spared counts event) 1 ≡ stops_in event 1
+spared-stops : (counts : Counts) (event : Event) → stops_in (event_when_spared counts event) 1 ≡ stops_in event 1
 spared-stops counts (event.Lose y k) = by counts.alive
   where
     by : (test : Bool) → stops_in (if test then event.Deliver y k else event.Lose y k) 1 ≡ 0
@@ -84,7 +86,7 @@ spared-stops counts (event.Reload processor) = refl
 spared-stops counts (event.Drive turn) = refl
 
 decided-stops : (at : LinePlace) (counts : Counts) (event : Event)
-    → stops_in (decided at counts event) 1 ≡ stops_in event 1
+    → stops_in (event_by_counts at counts event) 1 ≡ stops_in event 1
 decided-stops (standing.Rounds (rule.Mute node) left place) counts event = muted-stops node counts event
 decided-stops (standing.Mixed left place draws) counts event = spared-stops counts event
 decided-stops (standing.Rounds rule.Drain left place) counts event = refl
@@ -192,7 +194,7 @@ stopped-paid most before (Some stop) (Some plan) paid = by (stop.after == before
     by false = paid.0
 
 pub upcoming-paid : (sizes : Sizes) (before : ℕ) (counts : Counts) (agenda : Agenda)
-    → IsPaid (to_come agenda) (upcoming sizes before counts agenda)
+    → IsPaid (to_come agenda) (next_plan sizes before counts agenda)
 upcoming-paid sizes before counts agenda = by agenda.held_back refl
   where
     by : (held : Option Event) → agenda.held_back ≡ held

@@ -14,11 +14,13 @@ use Rattle.node.specs.Calls.{address_if_alive, alive_address}
 use Rattle.node.specs.machine_states.specs.States.{Settles}
 use Rattle.node.specs.machine_states.specs.declared.effect.Effect.TheVariants as effect
 use Rattle.node.specs.packet_wires.specs.Nodes.{Node, end_at}
-use Rattle.node.specs.packet_wires.specs.Play.{Packeted, underway, completed, deliver_acted, ended, handed_words, over}
+use Rattle.node.specs.packet_wires.specs.Play.{Packeted, underway, message_at_end, deliver_acted, ended, handed_words}
+use Rattle.node.specs.packet_wires.specs.Play.{over}
 use Rattle.node.specs.packet_wires.specs.Play.{received}
-use Rattle.node.specs.packet_wires.specs.Wires.{Wires, arrived, nothing_sent, on_bus, with_bus, without_packet}
+use Rattle.node.specs.packet_wires.specs.Wires.{Wires, midst_after_arrival, nothing_sent, on_bus, with_bus}
+use Rattle.node.specs.packet_wires.specs.Wires.{without_packet}
 use Rattle.node.specs.event_parts.specs.Numbers.{CanPush}
-use Rattle.node.specs.event_parts.specs.Parts.{carried_out, completed_by, delivered, is_current_in}
+use Rattle.node.specs.event_parts.specs.Parts.{carried_out, completed_by, wires_after_delivery, is_current_in}
 use Rattle.node.specs.event_parts.proofs.Numbers.{can-arrived}
 use Rattle.site_machine.specs.Needs.{CanHand, HaveNumbersLeft, IsReady}
 use Rattle.site_machine.specs.Told.{after_part}
@@ -86,16 +88,17 @@ module _ (name : BusName) (k : ℕ) (s : Packeted) where
     pub left-off : HaveNumbersLeft s.wires.nodes → HaveNumbersLeft mid.wires.nodes
     left-off left = subst HaveNumbersLeft (sym mid-nodes) left
 
-    pub arrived-off : (later : Packeted) → later ≡ record mid { wires = carried_out (arrived name packet) mid.wires }
-        → later ≡ record s { wires = delivered name k (Some packet) s.wires }
+    pub arrived-off : (later : Packeted) → later
+        ≡ record mid { wires = carried_out (midst_after_arrival name packet) mid.wires }
+        → later ≡ record s { wires = wires_after_delivery name k (Some packet) s.wires }
     arrived-off later came =
-        came ∙ ap (λ (m : Packeted). record m { wires = carried_out (arrived name packet) m.wires }) took
+        came ∙ ap (λ (m : Packeted). record m { wires = carried_out (midst_after_arrival name packet) m.wires }) took
 
     pub whole-off : (words : Option (List ℤ))
-        → words ≡ completed packet (end_at mid.wires.nodes packet.receiver packet.sender)
+        → words ≡ message_at_end packet (end_at mid.wires.nodes packet.receiver packet.sender)
         → words ≡ completed_by (Some packet) s.wires.nodes
     whole-off words whole =
-        whole ∙ ap (λ (nodes : List Node). completed packet (end_at nodes packet.receiver packet.sender)) mid-nodes
+        whole ∙ ap (λ (nodes : List Node). message_at_end packet (end_at nodes packet.receiver packet.sender)) mid-nodes
 
   dropped : (of : BusName) → record s { wires = without_packet of k s.wires }
       ≡ over (without_packet of k s.wires) (underway s)
@@ -116,22 +119,22 @@ module _ (name : BusName) (k : ℕ) (s : Packeted) where
 
   turned : (of : BusName) (packet : Packet)
       → after_part (handed_words packet.receiver
-      (completed packet (end_at s.wires.nodes packet.receiver packet.sender)))
-      (record s { wires = carried_out (arrived of packet) (without_packet of k s.wires) })
+      (message_at_end packet (end_at s.wires.nodes packet.receiver packet.sender)))
+      (record s { wires = carried_out (midst_after_arrival of packet) (without_packet of k s.wires) })
       ≡ over (without_packet of k s.wires) (received of packet (underway s))
   turned bus.X packet =
-      sym (handed-in-turn (arrived bus.X packet) packet.receiver
-      (completed packet (end_at s.wires.nodes packet.receiver packet.sender))
+      sym (handed-in-turn (midst_after_arrival bus.X packet) packet.receiver
+      (message_at_end packet (end_at s.wires.nodes packet.receiver packet.sender))
       (record s { wires = without_packet bus.X k s.wires }))
   turned bus.Y packet =
-      sym (handed-in-turn (arrived bus.Y packet) packet.receiver
-      (completed packet (end_at s.wires.nodes packet.receiver packet.sender))
+      sym (handed-in-turn (midst_after_arrival bus.Y packet) packet.receiver
+      (message_at_end packet (end_at s.wires.nodes packet.receiver packet.sender))
       (record s { wires = without_packet bus.Y k s.wires }))
 
   pub delivery-comes : (found : Option Packet) (receiver : ℕ) (mid after : Packeted) (words : Option (List ℤ))
       → Some receiver ≡ option_map (λ (packet : Packet). packet.receiver) found
       → comes receiver found ≡ true → words ≡ completed_by found s.wires.nodes
-      → mid ≡ record s { wires = delivered name k found s.wires }
+      → mid ≡ record s { wires = wires_after_delivery name k found s.wires }
       → after ≡ after_part (handed_words receiver words) mid
       → Settles (ended off (deliver_acted name (underway s) found)) s effect.Done after
   delivery-comes None receiver mid after words is runs whole came hands = absurd cc
@@ -140,9 +143,9 @@ module _ (name : BusName) (k : ℕ) (s : Packeted) where
     hands
         ∙ ap (after_part (handed_words receiver words)) came
         ∙ ap (λ (w : Option (List ℤ)). after_part (handed_words receiver w)
-        (record s { wires = delivered name k (Some packet) s.wires })) whole
+        (record s { wires = wires_after_delivery name k (Some packet) s.wires })) whole
         ∙ ap (λ (r : ℕ). after_part (handed_words r (completed_by (Some packet) s.wires.nodes))
-        (record s { wires = delivered name k (Some packet) s.wires })) (some-same is)
+        (record s { wires = wires_after_delivery name k (Some packet) s.wires })) (some-same is)
         ∙ turned name packet
         ∙ sym (ap (λ (b : Bool). over off (if b then received name packet (underway s) else underway s))
         (ap (λ (r : ℕ). comes r (Some packet)) (sym (some-same is)) ∙ runs)),
@@ -151,7 +154,7 @@ module _ (name : BusName) (k : ℕ) (s : Packeted) where
   -- an I'm-alive packet is all that comes with it
   pub alive-comes : (found : Option Packet) (receiver sender : ℕ) (after : Packeted)
       → alive_address found ≡ Some (receiver, sender) → comes receiver found ≡ true
-      → completed_by found s.wires.nodes ≡ None → after ≡ record s { wires = delivered name k found s.wires }
+      → completed_by found s.wires.nodes ≡ None → after ≡ record s { wires = wires_after_delivery name k found s.wires }
       → Settles (ended off (deliver_acted name (underway s) found)) s effect.Done after
   alive-comes found receiver sender after is runs none came =
       delivery-comes found receiver after after None (alive-receiver found receiver sender is) runs (sym none) came refl
@@ -164,19 +167,19 @@ module _ (name : BusName) (k : ℕ) (s : Packeted) where
       delivery-dropped found receiver after (alive-receiver found receiver sender is) stops same
 
   arrives : (of : BusName) (packet : Packet) → HaveNumbersLeft s.wires.nodes → CanPush s.wires.nodes
-      → CanPush (arrived of packet (nothing_sent (without_packet of k s.wires).nodes)).nodes
+      → CanPush (midst_after_arrival of packet (nothing_sent (without_packet of k s.wires).nodes)).nodes
   arrives bus.X packet left can = can-arrived bus.X packet (nothing_sent s.wires.nodes)
       (λ node there e has. left packet.receiver packet.sender node e there has) can
   arrives bus.Y packet left can = can-arrived bus.Y packet (nothing_sent s.wires.nodes)
       (λ node there e has. left packet.receiver packet.sender node e there has) can
 
   pub can-delivered : (found : Option Packet) → HaveNumbersLeft s.wires.nodes → CanPush s.wires.nodes
-      → CanPush (delivered name k found s.wires).nodes
+      → CanPush (wires_after_delivery name k found s.wires).nodes
   can-delivered None left can = can
   can-delivered (Some packet) left can = arrives name packet left can
 
   pub can-hand : (mid : Packeted) (found : Option Packet) → IsReady s
-      → mid ≡ record s { wires = delivered name k found s.wires } → CanHand mid
+      → mid ≡ record s { wires = wires_after_delivery name k found s.wires } → CanHand mid
   can-hand mid found ready same =
       let can : CanPush s.wires.nodes =
       λ x node there y e has up idle. (ready.numbers x y node e there has).0 in

@@ -16,7 +16,7 @@ use Rattle.open_links.specs.world_copies.specs.message_wires.specs.HasRoom.{Copy
 use Rattle.node.specs.packet_wires.specs.Lines.{line_pulled}
 use Rattle.node.specs.packet_wires.specs.Play.{Packeted, ended, line_of, marks_and_declares, over, pulled, pulls}
 use Rattle.node.specs.packet_wires.specs.Play.{pulled_running, pulls_its}
-use Rattle.node.specs.packet_wires.specs.Wires.{nothing_sent, ticked}
+use Rattle.node.specs.packet_wires.specs.Wires.{nothing_sent, midst_after_tick}
 use Rattle.node.specs.event_parts.specs.Numbers.{CanPush}
 use Rattle.node.specs.event_parts.specs.Parts.{carried_out}
 use Rattle.node.specs.event_parts.proofs.Numbers.{can-ticked}
@@ -32,7 +32,8 @@ pub ready-can : (s : Packeted) → IsReady s → CanPush s.wires.nodes
 ready-can s ready x node there y e has up idle = (ready.numbers x y node e there has).0
 
 pub ticked-can : (s after : Packeted) (node : ℕ) → IsReady s
-    → after ≡ record s { wires = carried_out (ticked s.site.processors node) s.wires } → CanPush after.wires.nodes
+    → after ≡ record s { wires = carried_out (midst_after_tick s.site.processors node) s.wires }
+    → CanPush after.wires.nodes
 ticked-can s after node ready same =
     subst (λ (one : Packeted). CanPush one.wires.nodes) (sym same)
     (can-ticked s.site.processors node (nothing_sent s.wires.nodes) (ready-can s ready))
@@ -65,7 +66,8 @@ stopped-watching processor pairs room =
 
 abbrev pub line_in : ℕ → ℕ → Packeted → Option ℕ
 line_in processors node s =
-    option_and_then (line_pulled node) (slice_get (ticked processors node (nothing_sent s.wires.nodes)).nodes node)
+    option_and_then (line_pulled node) (slice_get
+    (midst_after_tick processors node (nothing_sent s.wires.nodes)).nodes node)
 
 pub tick-settles : (s after : Packeted) (answer : Effect) (node : ℕ) (line : Option ℕ)
     → is_running s.world.stopped node ≡ true → line ≡ line_of node (in_tick node s)
@@ -80,16 +82,16 @@ tick-settles s after answer node line runs is settles =
 
 -- the line of a processor that has stopped is pulled
 pub stopped-pulled : (s mid after : Packeted) (node processor : ℕ)
-    → mid ≡ record s { wires = carried_out (ticked s.site.processors node) s.wires }
+    → mid ≡ record s { wires = carried_out (midst_after_tick s.site.processors node) s.wires }
     → after ≡ after_part (marks_and_declares node processor) mid
     → after ≡ over s.wires (marks_and_declares node processor (in_tick node s))
 stopped-pulled s mid after node processor ticks marks =
     marks ∙ ap (after_part (marks_and_declares node processor)) ticks
-    ∙ sym (declared-in-turn (ticked s.site.processors node) node processor s)
+    ∙ sym (declared-in-turn (midst_after_tick s.site.processors node) node processor s)
 
 -- the line of one that runs is pulled, and it stops
 pub running-pulled : (s mid halted after : Packeted) (node processor : ℕ)
-    → mid ≡ record s { wires = carried_out (ticked s.site.processors node) s.wires }
+    → mid ≡ record s { wires = carried_out (midst_after_tick s.site.processors node) s.wires }
     → halted ≡ record mid { world = stopped_world processor mid.world }
     → after ≡ after_part (marks_and_declares node processor) halted
     → after ≡ over s.wires (marks_and_declares node processor
@@ -98,7 +100,7 @@ running-pulled s mid halted after node processor ticks halts marks =
     marks
     ∙ ap (after_part (marks_and_declares node processor))
     (halts ∙ ap (λ (one : Packeted). record one { world = stopped_world processor one.world }) ticks)
-    ∙ sym (declared-in-turn (ticked s.site.processors node) node processor
+    ∙ sym (declared-in-turn (midst_after_tick s.site.processors node) node processor
     (record s { world = stopped_world processor s.world }))
 
 pub first-settles : (s after : Packeted) (node processor : ℕ) → slice_get s.world.stopped processor ≡ Some false

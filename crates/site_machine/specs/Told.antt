@@ -8,7 +8,7 @@ pub use Rattle.node.specs.machine_states.specs.Answered.{unsent}
 use Rattle.node.specs.machine_states.specs.declared.effect.Effect.{Effect}
 use Rattle.node.specs.packet_wires.specs.Parcels.{parcels_of}
 use Rattle.node.specs.packet_wires.specs.Play.{Packeted, Underway, underway, over}
-use Rattle.node.specs.packet_wires.specs.Wires.{all_posted, nothing_sent, ticked}
+use Rattle.node.specs.packet_wires.specs.Wires.{all_posted, nothing_sent, midst_after_tick}
 use Rattle.node.specs.event_parts.specs.Parts.{carried_out}
 
 -- the state after these messages were sent, by its routes
@@ -29,4 +29,4 @@ after_part part s = over s.wires (part (underway s))
 
 -- a state in the midst of a tick, after the node sent what its tick sends
 abbrev pub in_tick : ℕ → Packeted → Underway
-in_tick node s = record (underway s) { wires = ticked s.site.processors node (nothing_sent s.wires.nodes) }
+in_tick node s = record (underway s) { wires = midst_after_tick s.site.processors node (nothing_sent s.wires.nodes) }

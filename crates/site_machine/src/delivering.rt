@@ -5,10 +5,10 @@ ghost use Rattle.node.specs.machine_states.specs.States.{Settles};
 ghost use Rattle.node.specs.machine_states.specs.declared.effect.Effect.TheVariants as effects;
 ghost use Rattle.node.specs.Calls.{alive_address};
 ghost use Rattle.node.specs.packet_wires.specs.Nodes.{end_at};
-ghost use Rattle.node.specs.packet_wires.specs.Play.{completed, deliver_acted, ended, play, underway};
-ghost use Rattle.node.specs.packet_wires.specs.Wires.{arrived, bus_named, on_bus, without_packet};
+ghost use Rattle.node.specs.packet_wires.specs.Play.{message_at_end, deliver_acted, ended, play, underway};
+ghost use Rattle.node.specs.packet_wires.specs.Wires.{midst_after_arrival, bus_named, on_bus, without_packet};
 ghost use Rattle.node.specs.world_semantics.specs.World.{is_running};
-ghost use Rattle.node.specs.event_parts.specs.Parts.{carried_out, completed_by, delivered, is_current_in};
+ghost use Rattle.node.specs.event_parts.specs.Parts.{carried_out, completed_by, wires_after_delivery, is_current_in};
 ghost use Rattle.site_machine.specs.Needs.{HaveNumbersLeft, IsReady};
 
 use crate::whole::MachineParts;
@@ -54,8 +54,8 @@ impl MachineParts {
         }
     }
 
-    /// Delivers the first packet of a bus, if it is an I'm-alive packet, and answers whether it was. In line, so that it is
-    /// found once where the packet stands on that bus.
+    /// Delivers the first packet of a bus, if it is an I'm-alive packet, and answers whether it was. In line, so that it
+    /// is found once where the packet stands on that bus.
     #[inline(always)]
     fn deliver_first(&mut self, bus: BusName) -> bool
         ensures alive { result ≡ is_some (alive_address (slice_get (on_bus bus self.old.wires) 0)) }
@@ -119,7 +119,7 @@ impl MachineParts {
         requires { alive_address (slice_get (on_bus bus self.old.wires) 0) ≡ Some (receiver, sender) }
         ensures completed { completed_by (slice_get (on_bus bus self.old.wires) 0) self.old.wires.nodes ≡ None }
         ensures after { self.new ≡ record self.old
-            { wires = delivered bus 0 (slice_get (on_bus bus self.old.wires) 0) self.old.wires } }
+            { wires = wires_after_delivery bus 0 (slice_get (on_bus bus self.old.wires) 0) self.old.wires } }
     {
         self.wires.hear_at(bus, 0, receiver, sender);
     }
@@ -137,9 +137,9 @@ impl MachineParts {
     fn arrive(&mut self, bus: BusName, packet: &Packet) -> Result<Option<List<i16>>, NoMemory>
         requires { HaveNumbersLeft self.old.wires.nodes }
         ensures completed { IfOk result (λ words. words
-            ≡ completed packet.now (end_at self.old.wires.nodes packet.now.receiver packet.now.sender)) }
+            ≡ message_at_end packet.now (end_at self.old.wires.nodes packet.now.receiver packet.now.sender)) }
         ensures after { OnOk result (self.new ≡ record self.old
-            { wires = carried_out (arrived bus packet.now) self.old.wires }) }
+            { wires = carried_out (midst_after_arrival bus packet.now) self.old.wires }) }
     {
         let words = self.wires.arrive(bus, packet)?;
         Ok(words)

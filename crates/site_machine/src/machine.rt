@@ -13,9 +13,9 @@ ghost use Rattle.node.specs.packet_wires.specs.Idle.{is_idle};
 ghost use Rattle.node.specs.packet_wires.specs.Nodes.{end_at};
 ghost use Rattle.node.specs.packet_wires.specs.Play.{count_on, kind_at, packet_at, packeted_at_boot, play, sender_at};
 ghost use Rattle.node.specs.packet_wires.specs.Lines.{line_pulled};
-ghost use Rattle.node.specs.packet_wires.specs.Wires.{bus_named, nothing_sent, ticked};
+ghost use Rattle.node.specs.packet_wires.specs.Wires.{bus_named, nothing_sent, midst_after_tick};
 ghost use Rattle.open_links.specs.world_copies.specs.process_copies.specs.Starting.{IsStartable};
-ghost use Rattle.node.specs.world_semantics.specs.disc_device.specs.mirror.specs.States.{standing};
+ghost use Rattle.node.specs.world_semantics.specs.disc_device.specs.mirror.specs.States.{drive_state_at};
 ghost use Rattle.open_links.specs.world_copies.specs.node_copies.specs.Seen.{drives_on, sectors_on};
 ghost use Rattle.open_links.specs.world_copies.specs.Seen.{ArePlaced, drives_in, pairs_in, sectors_of};
 ghost use Rattle.node.specs.world_semantics.specs.Kept.{acts_of};
@@ -157,7 +157,7 @@ impl Machine {
     /// The processor whose line a node would pull after a tick made now.
     pub fn line_after_tick(&self, node: u8) -> Option<u8>
         ensures { (processors : ℕ) → result ≡ option_and_then (line_pulled node)
-            (slice_get (ticked processors node (nothing_sent self.now.state.wires.nodes)).nodes node) }
+            (slice_get (midst_after_tick processors node (nothing_sent self.now.state.wires.nodes)).nodes node) }
     {
         self.whole.wires.line_after_tick(node)
     }
@@ -247,7 +247,7 @@ impl Machine {
 
     /// How a drive of a process stands; one that isn't there has failed.
     pub fn standing(&self, process: u8, drive: u8) -> DriveState
-        ensures { result ≡ standing (unwrap_or (slice_get self.now.state.drives process) []) drive }
+        ensures { result ≡ drive_state_at (unwrap_or (slice_get self.now.state.drives process) []) drive }
     {
         self.whole.world.standing(process, drive)
     }

@@ -4,7 +4,7 @@ ghost use Rattle.node.specs.event_parts.specs.Numbers.{CanPush};
 ghost use Rattle.node.specs.event_parts.specs.Parts.{carried_out};
 ghost use Rattle.node.specs.machine_states.specs.States.{Settles};
 ghost use Rattle.node.specs.packet_wires.specs.Play.{ended, marks_and_declares, play, pulled, pulls};
-ghost use Rattle.node.specs.packet_wires.specs.Wires.{declares, ticked};
+ghost use Rattle.node.specs.packet_wires.specs.Wires.{declares, midst_after_tick};
 ghost use Rattle.open_links.specs.world_copies.specs.Room.{AllWatchersHaveRoom};
 ghost use Rattle.site_machine.specs.Needs.{IsReady, DownsWithin};
 ghost use Rattle.site_machine.specs.Told.{after_part, in_tick};
@@ -89,7 +89,7 @@ impl MachineParts {
     fn tick_wires(&mut self, node: u8) -> Result<(), NoMemory>
         requires { CanPush self.old.wires.nodes }
         ensures { OnOk result (self.new ≡ record self.old
-            { wires = carried_out (ticked self.old.site.processors node) self.old.wires }) }
+            { wires = carried_out (midst_after_tick self.old.site.processors node) self.old.wires }) }
     {
         let processors = self.world.site().processors;
         self.wires.tick(node, processors)?;

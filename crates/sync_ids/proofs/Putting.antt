@@ -3,7 +3,7 @@ use Rattle.std.proofs.Common.{◌≡◌, ℕ, ◌<◌, ◌&&◌, Bool, true, fal
 use Rattle.std.proofs.Common.{slice_set, ap, ap₂, sym, subst, ◌∙◌}
 use Rattle.std.proofs.lemmas.List.{map-set}
 use Rattle.checkpoint_image.specs.declared.receive.OpenerBlock.{OpenerBlock}
-use Rattle.sync_ids.specs.Changes.{add_few, changed, fits_change, put_at, put_in, with_change, with_changes}
+use Rattle.sync_ids.specs.Changes.{add_few, table_with_change, fits_change, put_at, put_in, with_change, with_changes}
 use Rattle.sync_ids.specs.Changing.{all_fit, can_hold_after}
 use Rattle.sync_ids.specs.Openers.{block_of, depth_of, remembered}
 use Rattle.sync_ids.specs.Tables.{IsDepth, IsSound, Remembered, are_of_depths, can_hold, fits}
@@ -63,7 +63,7 @@ sound_after old new before r change is fit blocks depths sound = record {
   table = ap₂ (λ (bs : List OpenerBlock) (ds : List ℕ). are_of_depths bs ds && can_hold bs change.in_hand) blocks
       depths
       ∙ and-right (add_few (map depth_of old) 0 change.changes)
-      (fits (remembered old before) (changed (map depth_of old) (remembered old before).table change))
+      (fits (remembered old before) (table_with_change (map depth_of old) (remembered old before).table change))
       (ap (λ (s : Remembered). fits_change s change) is ∙ fit);
 }
 
@@ -71,7 +71,7 @@ sound_after old new before r change is fit blocks depths sound = record {
 pub table_after : (old new : List Opener) (before : Option ℕ) (r : Remembered) (change : ReceiveChange)
     → remembered old before ≡ r
     → map block_of new ≡ with_changes (map depth_of old) (map block_of old) change.changes
-    → (remembered new change.in_hand).table ≡ changed r.depths r.table change
+    → (remembered new change.in_hand).table ≡ table_with_change r.depths r.table change
 table_after old new before r change is blocks =
     ap (λ (bs : List OpenerBlock). record { openers = bs; in_hand = change.in_hand }) blocks
-    ∙ ap (λ (s : Remembered). changed s.depths s.table change) is
+    ∙ ap (λ (s : Remembered). table_with_change s.depths s.table change) is

@@ -68,8 +68,8 @@ with_changes depths blocks [] = blocks
 with_changes depths blocks (change ∷ changes) = with_changes depths (with_change depths blocks change) changes
 
 -- a receive table of openers of these depths with a change put in
-abbrev pub changed : List ℕ → ReceiveBlock → ReceiveChange → ReceiveBlock
-changed depths table change =
+abbrev pub table_with_change : List ℕ → ReceiveBlock → ReceiveChange → ReceiveBlock
+table_with_change depths table change =
     record { openers = with_changes depths table.openers change.changes; in_hand = change.in_hand }
 
 -- Which changes fit
@@ -92,4 +92,4 @@ add_few depths least (change ∷ changes) =
 abbrev pub fits_change : Remembered → ReceiveChange → Bool
 fits_change remembered change =
     add_few remembered.depths 0 change.changes
-    && fits remembered (changed remembered.depths remembered.table change)
+    && fits remembered (table_with_change remembered.depths remembered.table change)

@@ -1,5 +1,5 @@
 ghost use Rattle.std.specs.Prelude.{◌≡◌, if◌then◌else◌, map, slice_get};
-ghost use Rattle.sync_ids.specs.Changes.{changed, fits_change, with_change, with_changes};
+ghost use Rattle.sync_ids.specs.Changes.{table_with_change, fits_change, with_change, with_changes};
 ghost use Rattle.sync_ids.specs.Changing.{all_fit, can_hold_after, fits_at};
 ghost use Rattle.sync_ids.specs.Openers.{block_of, depth_of};
 ghost use Rattle.sync_ids.specs.Tables.{IsSound};
@@ -22,7 +22,7 @@ impl Receive {
     pub fn put_change(&mut self, change: &ReceiveChange) -> bool
         ensures told { result ≡ fits_change self.old change.now }
         ensures table { self.new.table
-            ≡ (if result then changed self.old.depths self.old.table change.now else self.old.table) }
+            ≡ (if result then table_with_change self.old.depths self.old.table change.now else self.old.table) }
         ensures depths { self.new.depths ≡ self.old.depths }
         ensures sound { IsSound self.new }
     {

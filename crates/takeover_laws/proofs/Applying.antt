@@ -13,7 +13,7 @@ use Rattle.process_semantics.specs.declared.point.Point.{Point}
 use Rattle.world_semantics.specs.checkpoint_image.specs.declared.message.ImageMessage.{ImageMessage}
 use Rattle.world_semantics.specs.checkpoint_image.specs.declared.message.TakenMessage.{TakenMessage}
 use Rattle.world_semantics.specs.declared.role.Role.TheVariants.{Watching}
-use Rattle.world_semantics.specs.Core.{Core, Deed, Checkpointed, checkpoints, after_passing, carried, put_in}
+use Rattle.world_semantics.specs.Core.{Core, Deed, Checkpointed, checkpoints, after_passing, carried_image, put_in}
 use Rattle.world_semantics.specs.Core.{imaged_core}
 use Rattle.world_semantics.specs.declared.which.Which.TheVariants.{Second}
 use Rattle.world_semantics.specs.World.{Copy, Pair, receives}
@@ -278,13 +278,13 @@ module _ (site : Site) (regular : AreRegular site) (kept : List Act) (shown : Li
   applies pair message applied few receiving sent era next put most
       (with_other role (is_level {held = held} {more = more} is holds pos done is_sent)
       (is_due w was_sent told ahead at body) dated) =
-      let image : message.image ≡ carried pair.first.core =
+      let image : message.image ≡ carried_image pair.first.core =
       body message sent (era ∙ w.era) (omega (arith, ahead, next)) in
       let whole : (more ++ w.since) ++ w.before ≡ more ++ ledger.deeds number =
       append_assoc more w.since w.before ∙ ap (λ g. more ++ g) (sym w.split) in
       let bounded : AreBounded ((more ++ w.since) ++ w.before) =
       subst AreBounded (sym whole) (many-bounded pair held more is holds few) in
-      let restored : put_in pair.second.core (carried pair.first.core) ≡ Some (after_passing pair.first.core) =
+      let restored : put_in pair.second.core (carried_image pair.first.core) ≡ Some (after_passing pair.first.core) =
       disciplined.resume (more ++ w.since) w.before pair.first.core pair.second.core
       (subst (λ g. HasDone site number spec g pair.first.core) (sym whole) done)
       (uncheckpointed-join more w.since (held-uncheckpointed holds) (repeatable-uncheckpointed w.since w.repeatable))

@@ -11,7 +11,7 @@ use Rattle.world_semantics.specs.declared.which.Which.{Which}
 use Rattle.world_semantics.specs.declared.which.Which.TheVariants.{First, Second}
 use Rattle.world_semantics.specs.World.{Copy, Pair, is_running, receives}
 use Rattle.world_semantics.specs.Rules.{stopped_pair, taken_over, taker, pair_after_down, after_takeover, pair_at_down}
-use Rattle.world_semantics.specs.Rules.{blank_copy, reloaded_by, reloaded_pair, renewals_ended, renewed}
+use Rattle.world_semantics.specs.Rules.{blank_copy, reloaded_by, reloaded_pair, renewals_ended, copy_with_renewal}
 use Rattle.world_semantics.proofs.Roles.{RolesOf, Takes, taker-is, mark-roles}
 use Rattle.plain_histories.specs.process_histories.specs.Histories.{HasDone}
 use Rattle.plain_histories.specs.Booking.{none_held}
@@ -262,7 +262,7 @@ module _ (site : Site) (ledger : Ledger) (number : ℕ) (spec : ProcessSpec) (de
       → pair.first.role ≡ Acting → pair.second.role ≡ Gone → FirstLeads site ledger number spec deeds pair
       → FirstLeads site ledger number spec deeds
       (record pair {
-        first = renewed pair.first;
+        first = copy_with_renewal pair.first;
         second = blank_copy pair.second.processor (pair.first.era + 1) core;
         led = led;
       })

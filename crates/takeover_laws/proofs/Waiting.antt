@@ -9,8 +9,8 @@ use Rattle.world_semantics.specs.checkpoint_image.specs.declared.receive.Receive
 use Rattle.world_semantics.specs.checkpoint_image.specs.declared.receive.RequestStanding.{RequestStanding}
 use Rattle.world_semantics.specs.checkpoint_image.specs.declared.receive.RequestStanding.TheVariants.{Next, InHand}
 use Rattle.world_semantics.specs.checkpoint_image.specs.declared.receive.RequestStanding.TheVariants.{Kept, Old, Ahead}
-use Rattle.world_semantics.specs.checkpoint_image.specs.Receive.{Chosen, chosen, chosen_by, chosen_after, is_next}
-use Rattle.world_semantics.specs.checkpoint_image.specs.Receive.{is_waiting, standing}
+use Rattle.world_semantics.specs.checkpoint_image.specs.Receive.{Chosen, choice_among, chosen_by, chosen_after, is_next}
+use Rattle.world_semantics.specs.checkpoint_image.specs.Receive.{is_waiting, request_standing}
 use Rattle.world_semantics.specs.checkpoint_image.specs.Receive.{standing_by, standing_in, kept_or_old, reply_kept}
 use Rattle.world_semantics.specs.checkpoint_image.specs.Receive.{answered, holds, waits}
 use Rattle.world_semantics.specs.checkpoint_image.specs.Receive.{came, still_waiting}
@@ -21,7 +21,7 @@ use Rattle.world_semantics.proofs.Waiting.{waits-all}
 pub came-all : (P : Request → Type 0) (table : ReceiveBlock) (waiting : List Request) (request : Request) → P request
     → ((one : Request) → IsAmong one waiting → P one)
     → (one : Request) → IsAmong one (came table waiting request) → P one
-came-all P table waiting request new all one = by (is_waiting (standing table request))
+came-all P table waiting request new all one = by (is_waiting (request_standing table request))
   where
     by : (wait : Bool) → IsAmong one (if wait then waits waiting request else waiting) → P one
     by true among = waits-all P waiting request new all one among
@@ -31,7 +31,7 @@ pub still-all : (P : Request → Type 0) (table : ReceiveBlock) (waiting : List 
     → ((one : Request) → IsAmong one waiting → P one)
     → (one : Request) → IsAmong one (still_waiting table waiting) → P one
 still-all P table waiting all one among =
-    all one (among-filter one (λ (r : Request). is_waiting (standing table r)) waiting among).0
+    all one (among-filter one (λ (r : Request). is_waiting (request_standing table r)) waiting among).0
 
 -- the request that is taken waited, and has the number after the last that was taken
 pub record IsChosen (table : ReceiveBlock) (waiting : List Request) (request : Request) : Type 0 where
@@ -65,11 +65,13 @@ next-by : (held : Bool) (block : Option OpenerBlock) (n : ℕ) → standing_by h
 next-by held None n e = absurd (cc)
 next-by held (Some block) n e = (block, refl, next-in held block n e)
 
-pub chosen-is : (table : ReceiveBlock) (waiting : List Request) (found : Chosen) → chosen table waiting ≡ Some found
+pub chosen-is : (table : ReceiveBlock) (waiting : List Request) (found : Chosen)
+    → choice_among table waiting ≡ Some found
     → IsChosen table waiting found.request
 chosen-is table [] found e = absurd (cc)
 chosen-is table (first ∷ rest) found e =
-    by (λ later there. chosen-is table rest later there) (is_next (standing table first)) refl (chosen table rest) refl
+    by (λ later there. chosen-is table rest later there) (is_next (request_standing table first)) refl
+    (choice_among table rest) refl
     e
   where
     up : (later : Chosen) → IsChosen table rest later.request → chosen_after first later ≡ found
@@ -77,13 +79,13 @@ chosen-is table (first ∷ rest) found e =
     up later is same = subst (λ (c : Chosen). IsChosen table (first ∷ rest) c.request) same
         (record { waited = inr is.waited; block = is.block; there = is.there; next = is.next })
 
-    by : ((later : Chosen) → chosen table rest ≡ Some later → IsChosen table rest later.request) → (test : Bool)
-        → is_next (standing table first) ≡ test
-        → (later : Option Chosen) → chosen table rest ≡ later → chosen_by test first rest later ≡ Some found
+    by : ((later : Chosen) → choice_among table rest ≡ Some later → IsChosen table rest later.request) → (test : Bool)
+        → is_next (request_standing table first) ≡ test
+        → (later : Option Chosen) → choice_among table rest ≡ later → chosen_by test first rest later ≡ Some found
         → IsChosen table (first ∷ rest) found.request
     by deeper true is later there e =
         let next = next-by (holds table first.opener) (slice_get table.openers first.opener) first.number
-        (is-next (standing table first) is) in
+        (is-next (request_standing table first) is) in
         subst (λ (c : Chosen). IsChosen table (first ∷ rest) c.request) (some-same e)
         (record { waited = inl refl; block = next.0; there = next.1; next = next.2 })
     by deeper false is None there e = absurd (cc)

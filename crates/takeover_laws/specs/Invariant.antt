@@ -14,7 +14,7 @@ use Rattle.world_semantics.specs.plain_semantics.specs.Openers.{opener_of}
 use Rattle.world_semantics.specs.checkpoint_image.specs.declared.message.ImageMessage.{ImageMessage}
 use Rattle.world_semantics.specs.checkpoint_image.specs.declared.message.TakenMessage.{TakenMessage}
 use Rattle.world_semantics.specs.declared.role.Role.TheVariants.{Watching, Gone, Acting, Blank}
-use Rattle.world_semantics.specs.Core.{Deed, Checkpointed, Took, carried, carried_whole}
+use Rattle.world_semantics.specs.Core.{Deed, Checkpointed, Took, carried_image, carried_whole}
 use Rattle.world_semantics.specs.declared.which.Which.{Which}
 use Rattle.world_semantics.specs.World.{Copy, Pair, Terminal, World, copy_of, receives}
 use Rattle.plain_histories.specs.process_histories.specs.Devices.{sectors_after}
@@ -114,7 +114,7 @@ pub data IsOther (site : Site) (number : ℕ) (spec : ProcessSpec) (deeds : List
       → process.point pair.first.core.state ≡ point.AtCheckpoint
       → ((message : ImageMessage) → IsAmong message pair.checkpoints → message.era ≡ pair.first.era
       → message.number ≡ pair.first.number
-      → message.image ≡ carried pair.first.core)
+      → message.image ≡ carried_image pair.first.core)
       → IsOther site number spec deeds pair Level
   is_even : {stage : Stage} → stage ≢ Applied → Watches site number spec deeds pair
       → pair.first.number ≡ pair.second.number → pair.first.sent ≡ false

@@ -6,7 +6,7 @@ use Rattle.tal_values.specs.declared.chain.Tail.{Tail}
 use Rattle.tal_values.specs.declared.chain.Link.{Link}
 use Rattle.tal_values.specs.declared.chain.Junction.{Junction}
 use Rattle.tal_values.specs.declared.chain.Junction.TheVariants as junction
-use Rattle.tal_values.specs.Chain.{chained, joined, linked}
+use Rattle.tal_values.specs.Chain.{with_tails, joined, with_links}
 use Rattle.tal_values.proofs.ChainSteps.{chained-push, linked-push}
 use Rattle.tal_values.proofs.ValueSteps as value
 use Rattle.tal_values.proofs.TruthSteps as truth
@@ -18,14 +18,14 @@ use Rattle.tal_code.proofs.Waits.{first_waits, first_test_waits, waiting-two, wa
 pub record Grows (old code : PartStack) (tails : List Tail) (whole : Expr) : Type 0 where
   pub below : Expr
   pub code_is : code ≡ with_part (Valued below) old
-  pub chain : chained below tails ≡ whole
+  pub chain : with_tails below tails ≡ whole
 
 -- the next operator taken from those that are left
 next-chain : {old code : PartStack} {whole : Expr} {items : List Tail} (tails : List Tail) (tail : Tail)
     → items ≡ tails ++ tail ∷ []
-    → (so_far : Grows old code items whole) → chained (Two tail.op so_far.below tail.right.now) tails ≡ whole
+    → (so_far : Grows old code items whole) → with_tails (Two tail.op so_far.below tail.right.now) tails ≡ whole
 next-chain tails tail popped so_far =
-    sym (chained-push so_far.below tails tail) ∙ ap (chained so_far.below) (sym popped) ∙ so_far.chain
+    sym (chained-push so_far.below tails tail) ∙ ap (with_tails so_far.below) (sym popped) ∙ so_far.chain
 
 pub grows-on : {old code new : PartStack} {whole : Expr} {items : List Tail} (tails : List Tail) (tail : Tail)
     → items ≡ tails ++ tail ∷ [] → new ≡ record code { top = two_part tail.op code.top (Valued tail.right.now) }
@@ -65,7 +65,7 @@ tail-waits {old} {code} {whole} {items} tails tail popped low so_far =
 pub record Joins (old code : PartStack) (links : List Link) (whole : Cond) : Type 0 where
   pub below : Cond
   pub code_is : code ≡ with_part (Tested below) old
-  pub chain : linked below links ≡ whole
+  pub chain : with_links below links ≡ whole
 
 joined-part : (j : Junction) (left right : Cond)
     → joined_part j (Tested left) (Tested right) ≡ Tested (joined j left right)
@@ -74,9 +74,10 @@ joined-part junction.Or left right = refl
 
 next-link : {old code : PartStack} {whole : Cond} {items : List Link} (links : List Link) (link : Link)
     → items ≡ links ++ link ∷ []
-    → (so_far : Joins old code items whole) → linked (joined link.junction so_far.below link.right.now) links ≡ whole
+    → (so_far : Joins old code items whole)
+    → with_links (joined link.junction so_far.below link.right.now) links ≡ whole
 next-link links link popped so_far =
-    sym (linked-push so_far.below links link) ∙ ap (linked so_far.below) (sym popped) ∙ so_far.chain
+    sym (linked-push so_far.below links link) ∙ ap (with_links so_far.below) (sym popped) ∙ so_far.chain
 
 pub joins-on : {old code new : PartStack} {whole : Cond} {items : List Link} (links : List Link) (link : Link)
     → items ≡ links ++ link ∷ [] → new ≡ record code

@@ -10,7 +10,7 @@ use Rattle.tal_values.specs.declared.chain.Tail.{Tail}
 use Rattle.tal_values.specs.declared.chain.Link.{Link}
 use Rattle.tal_values.specs.declared.chain.Junction.{Junction}
 use Rattle.tal_values.specs.declared.chain.Junction.TheVariants as junction
-use Rattle.tal_values.specs.Chain.{chained, joined, linked}
+use Rattle.tal_values.specs.Chain.{with_tails, joined, with_links}
 use Rattle.tal_code.specs.Waiting.{is_variable, one_more, waiting_of, waiting_of_spot, waiting_for, waiting_of_test}
 
 pub waiting-read : (spot : Spot) → waiting_of (Read spot) ≡ waiting_of_spot spot
@@ -49,12 +49,13 @@ pub for-two : (op : Op) (left right : Expr)
     → waiting_for (Two op left right) ≡ max (waiting_of left) (waiting_for right) + 1
 for-two op left right = ap waiting_for (two-is op left right)
 
-pub first_waits : (first : Expr) (tails : List Tail) → waiting_of first ≤ waiting_of (chained first tails)
+pub first_waits : (first : Expr) (tails : List Tail) → waiting_of first ≤ waiting_of (with_tails first tails)
 first_waits first [] = omega arith
 first_waits first (tail ∷ tails) =
-    omega (arith, first_waits first tails, waiting-two tail.op (chained first tails) tail.right.now)
+    omega (arith, first_waits first tails, waiting-two tail.op (with_tails first tails) tail.right.now)
 
-pub first_test_waits : (first : Cond) (links : List Link) → waiting_of_test first ≤ waiting_of_test (linked first links)
+pub first_test_waits : (first : Cond) (links : List Link)
+    → waiting_of_test first ≤ waiting_of_test (with_links first links)
 first_test_waits first [] = omega arith
 first_test_waits first (link ∷ links) =
-    omega (arith, first_test_waits first links, waiting-joined link.junction (linked first links) link.right.now)
+    omega (arith, first_test_waits first links, waiting-joined link.junction (with_links first links) link.right.now)

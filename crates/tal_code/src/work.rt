@@ -1,5 +1,5 @@
 ghost use Rattle.std.specs.Prelude.{◌≡◌, length};
-ghost use Rattle.tal_values.specs.Seen.{seen};
+ghost use Rattle.tal_values.specs.Seen.{memory_now};
 ghost use Rattle.tal_values.specs.Value.{value_of};
 ghost use Rattle.tal_code.specs.Words.{operand_expr, element_word, truth_word, compared_word, not_word, and_word};
 ghost use Rattle.tal_code.specs.Words.{or_word, as_word, words_after, light_word};
@@ -14,7 +14,7 @@ use tal_values::{Cell, Memory};
 /// Makes one step of code.
 pub fn work(memory: Memory<'_>, step: Instruction, stack: &mut Stack)
     requires { IsRoom step (length stack.old.below) }
-    ensures { stack.new ≡ words_after (seen memory.entry) step stack.old }
+    ensures { stack.new ≡ words_after (memory_now memory.entry) step stack.old }
 {
     match step {
         Instruction::Load(operand) => stack.push(word(memory, operand)),
@@ -51,7 +51,7 @@ pub fn work(memory: Memory<'_>, step: Instruction, stack: &mut Stack)
 
 /// The word on top after a step that needs no stack.
 pub fn light_word(memory: Memory<'_>, step: Instruction, top: Option<i16>) -> Option<Option<i16>>
-    ensures { result ≡ light_word (seen memory.entry) step top }
+    ensures { result ≡ light_word (memory_now memory.entry) step top }
 {
     match step {
         Instruction::With(op, operand) => Some(applied(op, top, word(memory, operand))),
@@ -66,7 +66,7 @@ pub fn light_word(memory: Memory<'_>, step: Instruction, top: Option<i16>) -> Op
 
 /// The word of an operand.
 pub fn word(memory: Memory<'_>, operand: Operand) -> Option<i16>
-    ensures { result ≡ value_of (seen memory.entry) (operand_expr operand) }
+    ensures { result ≡ value_of (memory_now memory.entry) (operand_expr operand) }
 {
     match operand {
         Operand::Number(word) => Some(word),
@@ -77,7 +77,7 @@ pub fn word(memory: Memory<'_>, operand: Operand) -> Option<i16>
 
 /// The word of the element of an item at an index.
 fn element_word(memory: Memory<'_>, item: u16, index: Option<i16>) -> Option<i16>
-    ensures { result ≡ element_word (seen memory.entry) item index }
+    ensures { result ≡ element_word (memory_now memory.entry) item index }
 {
     let cell = element(memory, item, index)?;
     memory.word(cell)

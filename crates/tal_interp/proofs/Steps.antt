@@ -9,7 +9,7 @@ use Rattle.process_semantics.specs.tal_values.specs.declared.memory.Cell.{Cell}
 use Rattle.process_semantics.specs.State.{Entry, ProgramState, memory_of, rest_of}
 use Rattle.process_semantics.specs.Steps.{inner, or_ends}
 use Rattle.tal_table.specs.program_deeds.specs.Deed.{Deed, Assigns, Tests, deed_of}
-use Rattle.tal_table.specs.program_deeds.specs.Doing.{chosen, deed_inner, stored}
+use Rattle.tal_table.specs.program_deeds.specs.Doing.{state_after_test, deed_inner, state_after_store}
 use Rattle.tal_table.specs.program_deeds.proofs.Inner.{inner-is}
 
 inner-by : (program : Program) (s : ProgramState) (deed : Deed) → deed ≡ deed_of (rest_of s.frames)
@@ -20,14 +20,14 @@ pub assign-by : (program : Program) (s : ProgramState) (to : Spot) (value : Expr
     (place : Option Cell) (word : Option ℤ)
     → place ≡ cell_of (memory_of program s) to → word ≡ value_of (memory_of program s) value
     → Assigns to value rest ≡ deed_of (rest_of s.frames)
-    → or_ends s (stored rest s place word) ≡ inner program s
+    → or_ends s (state_after_store rest s place word) ≡ inner program s
 assign-by program s to value rest place word at is told =
-    ap (λ p. or_ends s (stored rest s p word)) at
-    ∙ ap (λ w. or_ends s (stored rest s (cell_of (memory_of program s) to) w)) is
+    ap (λ p. or_ends s (state_after_store rest s p word)) at
+    ∙ ap (λ w. or_ends s (state_after_store rest s (cell_of (memory_of program s) to) w)) is
     ∙ inner-by program s (Assigns to value rest) told
 
 pub test-by : (program : Program) (s : ProgramState) (test : Cond) (first second : List Entry) (holds : Option Bool)
     → holds ≡ truth_of (memory_of program s) test → Tests test first second ≡ deed_of (rest_of s.frames)
-    → or_ends s (chosen first second s holds) ≡ inner program s
+    → or_ends s (state_after_test first second s holds) ≡ inner program s
 test-by program s test first second holds is told =
-    ap (λ b. or_ends s (chosen first second s b)) is ∙ inner-by program s (Tests test first second) told
+    ap (λ b. or_ends s (state_after_test first second s b)) is ∙ inner-by program s (Tests test first second) told

@@ -1,9 +1,10 @@
 ghost use Rattle.std.specs.Prelude.{◌≡◌, ◌≤◌, ◌∷◌, [], false, drop, length, IfSome};
 ghost use Rattle.std.specs.Bool.{OnTrue, OnFalse};
-ghost use Rattle.process_semantics.specs.tal_values.specs.Seen.{seen};
+ghost use Rattle.process_semantics.specs.tal_values.specs.Seen.{memory_now};
 ghost use Rattle.process_semantics.specs.Changes.{left};
-ghost use Rattle.process_semantics.specs.Steps.{entered, inner, or_ends, result_of, values_of};
-ghost use Rattle.tal_table.specs.program_deeds.specs.Doing.{caller_given, chosen, gives_back, stored};
+ghost use Rattle.process_semantics.specs.Steps.{state_after_entry, inner, or_ends, result_of, values_of};
+ghost use Rattle.tal_table.specs.program_deeds.specs.Doing.{caller_given, state_after_test, gives_back};
+ghost use Rattle.tal_table.specs.program_deeds.specs.Doing.{state_after_store};
 ghost use Rattle.tal_table.specs.Places.{places, rest_at};
 ghost use Rattle.gd_words.specs.declared.limits.TheConstants.{MOST_LOCALS};
 
@@ -63,7 +64,8 @@ impl Interpreter {
     fn store(&mut self, to: Option<Cell>, word: Option<i16>, next: u16)
         ensures { self.new ≡ record self.old {
           state =
-              or_ends self.old.state (stored (rest_at (places self.old.program) next) self.old.state to word);
+              or_ends self.old.state (state_after_store (rest_at (places self.old.program) next)
+              self.old.state to word);
         } }
     {
         match word {
@@ -82,7 +84,7 @@ impl Interpreter {
     fn choose(&mut self, holds: Option<bool>, yes: u16, no: u16)
         ensures { self.new ≡ record self.old {
           state =
-              or_ends self.old.state (chosen (rest_at (places self.old.program) yes)
+              or_ends self.old.state (state_after_test (rest_at (places self.old.program) yes)
               (rest_at (places self.old.program) no) self.old.state holds);
         } }
     {
@@ -100,7 +102,7 @@ impl Interpreter {
         requires few { IfSome arguments (λ words. length words ≤ MOST_LOCALS) }
         ensures { self.new ≡ record self.old {
           state =
-              or_ends self.old.state (entered self.old.program self.old.state procedure arguments);
+              or_ends self.old.state (state_after_entry self.old.program self.old.state procedure arguments);
         } }
     {
         match arguments {
@@ -200,7 +202,7 @@ impl Interpreter {
 /// The values of arguments, from left to right.
 fn values(memory: Memory<'_>, arguments: &[Code]) -> Option<Locals>
     requires { length arguments.now ≤ MOST_LOCALS }
-    ensures words { result ≡ values_of (seen memory.entry) arguments.now }
+    ensures words { result ≡ values_of (memory_now memory.entry) arguments.now }
     ensures few { IfSome result (λ words. length words ≤ MOST_LOCALS) }
 {
     let mut words = Locals::new();
@@ -212,7 +214,7 @@ fn values(memory: Memory<'_>, arguments: &[Code]) -> Option<Locals>
 
 /// The word that a RETURN gives.
 fn returned(memory: Memory<'_>, value: &Option<Code>) -> Option<i16>
-    ensures { result ≡ result_of (seen memory.entry) value.now }
+    ensures { result ≡ result_of (memory_now memory.entry) value.now }
 {
     match value {
         None => Some(0),

@@ -1,5 +1,5 @@
 ghost use Rattle.std.specs.Prelude.{◌≡◌, ◌≤◌, [], false, length, drop, IfOk, IfSome, IfNone};
-ghost use Rattle.process_semantics.specs.tal_values.specs.Seen.{seen};
+ghost use Rattle.process_semantics.specs.tal_values.specs.Seen.{memory_now};
 ghost use Rattle.process_semantics.specs.Changes.{done, ends, with_hand, with_waiting, with_word, with_words};
 ghost use Rattle.process_semantics.specs.Rests.{next_number};
 ghost use Rattle.process_semantics.specs.State.{memory_of, rest_of, start, words_of};
@@ -85,7 +85,7 @@ impl Interpreter {
 
     /// What the expressions at the number that comes next read.
     pub(crate) fn memory(&self) -> Memory<'_>
-        ensures { seen result ≡ memory_of self.now.program self.now.state }
+        ensures { memory_now result ≡ memory_of self.now.program self.now.state }
     {
         let locals: &[i16] = match &self.running {
             None => &[],

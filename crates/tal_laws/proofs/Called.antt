@@ -32,7 +32,7 @@ use Rattle.tal_faultless.specs.tal_rules.specs.Expressions.{spot_faults}
 use Rattle.tal_names.specs.Places.{first_of_spot, name_of_expr, arguments_of}
 use Rattle.tal_names.specs.Scopes.{meaning_of}
 use Rattle.tal_names.specs.Systems.{system_of}
-use Rattle.tal_faultless.specs.tal_rules.specs.Statements.{stepped, inside_do, after, statement_faults, else_faults}
+use Rattle.tal_faultless.specs.tal_rules.specs.Statements.{next_walk, inside_do, after, statement_faults, else_faults}
 use Rattle.tal_faultless.specs.tal_rules.specs.Statements.{row_faults}
 use Rattle.tal_faultless.specs.tal_rules.specs.Statements.{return_faults, right_by, right_named, is_below_one}
 use Rattle.tal_faultless.specs.tal_rules.specs.Statements.{step_faults}
@@ -276,25 +276,25 @@ module _ (program : Program) (locals : ℕ) (s : Scope) (meant : AreThere progra
     statement_right w (g.if_then head test then_at t o) fine =
         let parts = split fine in
         let heads = split parts.0 in
-        let xs = statements_of s (stepped w) t in
-        let ys = else_statements s (after s (stepped w) t) o in
+        let xs = statements_of s (next_walk w) t in
+        let ys = else_statements s (after s (next_walk w) t) o in
         everywhere_one IsRight w.number head.place.line (what.If (cond_of_expr s test) xs ys)
         (What-F.If (cond_of_expr s test) xs ys) (rolls-If (cond_of_expr s test) xs ys)
         (test_expr program locals s meant test)
-        (among_append IsRight _ _ (statement_right (stepped w) t heads.1)
-        (else_right (after s (stepped w) t) o parts.1))
+        (among_append IsRight _ _ (statement_right (next_walk w) t heads.1)
+        (else_right (after s (next_walk w) t) o parts.1))
     statement_right w (g.while_do head test do_at t) fine =
         let parts = split fine in
-        let xs = statements_of s (stepped w) t in
+        let xs = statements_of s (next_walk w) t in
         everywhere_one IsRight w.number head.place.line (what.While (cond_of_expr s test) xs)
         (What-F.While (cond_of_expr s test) xs) (rolls-While (cond_of_expr s test) xs)
         (test_expr program locals s meant test)
-        (statement_right (stepped w) t parts.1)
+        (statement_right (next_walk w) t parts.1)
     statement_right w (g.for_do head at name set_at from direction to step do_at t) fine =
         let parts = split fine in
         let heads = split parts.0 in
-        let xs = statements_of s (stepped (stepped w)) t in
-        let last = (after s (stepped (stepped w)) t).number in
+        let xs = statements_of s (next_walk (next_walk w)) t in
+        let last = (after s (next_walk (next_walk w)) t).number in
         let variable = variable_by (meaning_of s name) in
         let back = split heads.0 in
         let front = split back.0 in
@@ -307,7 +307,7 @@ module _ (program : Program) (locals : ℕ) (s : Scope) (meant : AreThere progra
           (named_expr program locals s meant from, named_expr program locals s meant to),
           stepping step back.1,
         )
-        (statement_right (stepped (stepped w)) t heads.1)
+        (statement_right (next_walk (next_walk w)) t heads.1)
     statement_right w (g.do_until head t at test) fine =
         let parts = split fine in
         let xs = statements_of s (inside_do w) t in

@@ -7,7 +7,7 @@ use Rattle.tal_tree.specs.declared.program.Program.{Program}
 use Rattle.tal_faultless.specs.tal_rules.specs.declared.walk.Progress.{Progress}
 use Rattle.tal_declarations.specs.Headings.{locals_of}
 use Rattle.tal_names.specs.Names.{Declarations}
-use Rattle.tal_faultless.specs.tal_rules.specs.Texts.{faults, headed_text, files_by, entered, after_procedure}
+use Rattle.tal_faultless.specs.tal_rules.specs.Texts.{faults, headed_text, files_by, walk_at_entry, after_procedure}
 use Rattle.tal_faultless.specs.tal_rules.specs.Texts.{procedure_faults}
 use Rattle.tal_faultless.specs.tal_rules.specs.Texts.{procedures_faults, first_progress}
 use Rattle.tal_faultless.specs.tal_meaning.specs.Programs.{tree_of, trees_of, tree_of_procedure, texts_of}
@@ -51,7 +51,7 @@ module _ (lines : g.Lines) (all : g.Procedures) (finish : At) (fine : faults (g.
       let parts = split none in
       let front = split parts.0 in
       body_right read (length (texts_of (parameters_by h ++ locals_of inner))) (scope_in lines all p.count h inner)
-      (are_there lines all finish fine p.count h outer inner front.0) (entered p h) first more front.1
+      (are_there lines all finish fine p.count h outer inner front.0) (walk_at_entry p h) first more front.1
 
   all_right : (p : Progress) (ps : g.Procedures) → procedures_faults globals files p ps ≡ []
       → (k : ℕ) (procedure : Procedure)

@@ -15,7 +15,7 @@ use Rattle.tal_names.specs.Names.{Declarations}
 use Rattle.tal_faultless.specs.tal_rules.specs.Texts.{faults, headed_after, headed_text, files_by, main_missing}
 use Rattle.tal_faultless.specs.tal_rules.specs.Texts.{procedure_faults}
 use Rattle.tal_faultless.specs.tal_rules.specs.Texts.{after_procedure, procedures_faults, first_progress, scope_of}
-use Rattle.tal_faultless.specs.tal_rules.specs.Texts.{entered}
+use Rattle.tal_faultless.specs.tal_rules.specs.Texts.{walk_at_entry}
 use Rattle.tal_faultless.specs.tal_meaning.specs.Programs.{items_with, tree_of, trees_of, tree_of_procedure}
 use Rattle.tal_faultless.specs.tal_meaning.specs.Programs.{body_statements}
 use Rattle.tal_reader.specs.Reads.{Reads}
@@ -67,7 +67,8 @@ module _ (globals files : Declarations) where
   procedure_within p (g.procedure h outer begin inner first more end last) fine =
       let parts = split fine in
       let front = split parts.0 in
-      locals_within h outer inner (body_statements (scope_of globals files p.count h inner) (entered p h) first more)
+      locals_within h outer inner (body_statements (scope_of globals files p.count h inner)
+      (walk_at_entry p h) first more)
       front.0
 
   pub procedures_within : (p : Progress) (ps : g.Procedures) → procedures_faults globals files p ps ≡ []

@@ -13,7 +13,7 @@ use Rattle.tal_rules.specs.declared.walk.Walk.{Walk}
 use Rattle.tal_rules.specs.tal_declarations.specs.Globals.{with_lines, nothing_declared}
 use Rattle.tal_names.specs.Names.{Declarations}
 use Rattle.tal_names.specs.Scopes.{meaning_of}
-use Rattle.tal_rules.specs.Statements.{stepped, inside_do, after}
+use Rattle.tal_rules.specs.Statements.{next_walk, inside_do, after}
 use Rattle.tal_rules.specs.Texts.{headed_text, files_by}
 use Rattle.tal_meaning.specs.Calls.{variable_by}
 use Rattle.tal_meaning.specs.Expressions.{value_of_expr, cond_of_expr}
@@ -31,21 +31,21 @@ module _ (s : Scope) (w inner : Walk) where
       ∙ append_assoc all (statements_of s w t) (row_statements s (after s w t) more)
 
   pub if-statements : (head then_at : At) (test : g.Expr) (t : g.Statement) (o : g.Otherwise)
-      (all first second new : List Statement) → inner ≡ after s (stepped w) t
-      → first ≡ statements_of s (stepped w) t → second ≡ else_statements s inner o
+      (all first second new : List Statement) → inner ≡ after s (next_walk w) t
+      → first ≡ statements_of s (next_walk w) t → second ≡ else_statements s inner o
       → new ≡ all ++ one w head (what.If (cond_of_expr s test) first second)
       → new ≡ all ++ statements_of s w (g.if_then head test then_at t o)
   if-statements head then_at test t o all first second new e f h k =
       k
       ∙ ap (λ (l : List Statement). all ++ one w head (what.If (cond_of_expr s test) l second)) f
       ∙ ap (λ (l : List Statement). all ++ one w head
-      (what.If (cond_of_expr s test) (statements_of s (stepped w) t) l))
+      (what.If (cond_of_expr s test) (statements_of s (next_walk w) t) l))
       (h ∙ ap (λ (x : Walk). else_statements s x o) e)
 
   pub for-statements : (head at set_at do_at : At) (name : List ℕ) (from : g.Expr) (direction : g.Direction)
       (to : g.Expr) (step : g.Step) (t : g.Statement)
-      (all body new : List Statement) → inner ≡ after s (stepped (stepped w)) t
-      → body ≡ statements_of s (stepped (stepped w)) t
+      (all body new : List Statement) → inner ≡ after s (next_walk (next_walk w)) t
+      → body ≡ statements_of s (next_walk (next_walk w)) t
       → new ≡ all ++ one w head (what.For (variable_by (meaning_of s name)) (value_of_expr s from) (value_of_expr s to)
       (is_down direction) (step_of s step) body inner.number)
       → new ≡ all ++ statements_of s w (g.for_do head at name set_at from direction to step do_at t)
@@ -55,7 +55,8 @@ module _ (s : Scope) (w inner : Walk) where
       (what.For (variable_by (meaning_of s name)) (value_of_expr s from) (value_of_expr s to) (is_down direction)
       (step_of s step) l inner.number)) f
       ∙ ap (λ (x : Walk). all ++ one w head (what.For (variable_by (meaning_of s name)) (value_of_expr s from)
-      (value_of_expr s to) (is_down direction) (step_of s step) (statements_of s (stepped (stepped w)) t) x.number)) e
+      (value_of_expr s to) (is_down direction) (step_of s step)
+      (statements_of s (next_walk (next_walk w)) t) x.number)) e
 
   pub do-statements : (head at : At) (t : g.Statement) (test : g.Expr) (all body new : List Statement)
       → inner ≡ after s (inside_do w) t → body ≡ statements_of s (inside_do w) t

@@ -17,7 +17,8 @@ use Rattle.tal_rules.specs.tal_declarations.specs.Globals.{with_lines, nothing_d
 use Rattle.tal_rules.specs.tal_declarations.specs.Headings.{parameters_of, locals_of}
 use Rattle.tal_names.specs.Names.{Declarations, meaning_in}
 use Rattle.tal_rules.specs.Statements.{after}
-use Rattle.tal_rules.specs.Texts.{scope_of, gives_by, entered, after_procedure, first_progress, headed_text, files_by}
+use Rattle.tal_rules.specs.Texts.{scope_of, gives_by, walk_at_entry, after_procedure, first_progress, headed_text}
+use Rattle.tal_rules.specs.Texts.{files_by}
 use Rattle.tal_meaning.specs.Statements.{statements_of, row_statements}
 use Rattle.tal_tree.specs.gd_words.specs.declared.limits.TheConstants.{MOST_LOCALS}
 
@@ -57,7 +58,7 @@ procedure_with h inner body = record {
 
 abbrev pub tree_of_procedure : Declarations → Declarations → Progress → g.Procedure → Procedure
 tree_of_procedure globals files p (g.procedure h outer begin inner first more end last) =
-    procedure_with h inner (body_statements (scope_of globals files p.count h inner) (entered p h) first more)
+    procedure_with h inner (body_statements (scope_of globals files p.count h inner) (walk_at_entry p h) first more)
 
 -- the procedures from one on, where so much stands before it
 abbrev pub trees_of : Declarations → Declarations → Progress → g.Procedures → List Procedure

@@ -15,7 +15,7 @@ use Rattle.tal_names.specs.Places.{first_of_spot, name_of_expr, arguments_of}
 use Rattle.tal_names.specs.Scopes.{meaning_of}
 use Rattle.tal_rules.specs.tal_declarations.specs.Files.{named_in}
 use Rattle.tal_rules.specs.tal_declarations.specs.Globals.{atom_of, constant_value}
-use Rattle.tal_rules.specs.Statements.{stepped, inside_do, after}
+use Rattle.tal_rules.specs.Statements.{next_walk, inside_do, after}
 use Rattle.tal_meaning.specs.Calls.{values_of, procedure_by, variable_by, call_what, meaning_by}
 use Rattle.tal_meaning.specs.Expressions.{value_of_expr, cond_of_expr, target_of_spot}
 
@@ -50,14 +50,14 @@ module _ (s : Scope) where
     statements_of w g.nothing = []
     statements_of w (g.block begin first more end) = statements_of w first ++ row_statements (after s w first) more
     statements_of w (g.if_then head test then_at t o) =
-        one w head (what.If (cond_of_expr s test) (statements_of (stepped w) t)
-        (else_statements (after s (stepped w) t) o))
+        one w head (what.If (cond_of_expr s test) (statements_of (next_walk w) t)
+        (else_statements (after s (next_walk w) t) o))
     statements_of w (g.while_do head test do_at t) =
-        one w head (what.While (cond_of_expr s test) (statements_of (stepped w) t))
+        one w head (what.While (cond_of_expr s test) (statements_of (next_walk w) t))
     statements_of w (g.for_do head at name set_at from direction to step do_at t) =
         one w head (what.For (variable_by (meaning_of s name)) (value_of_expr s from) (value_of_expr s to)
-        (is_down direction) (step_of s step) (statements_of (stepped (stepped w)) t)
-        (after s (stepped (stepped w)) t).number)
+        (is_down direction) (step_of s step) (statements_of (next_walk (next_walk w)) t)
+        (after s (next_walk (next_walk w)) t).number)
     statements_of w (g.do_until head t at test) =
         one (after s (inside_do w) t) at (what.DoUntil (statements_of (inside_do w) t) (cond_of_expr s test))
     statements_of w (g.call head at name a) = one w head (call_what s name (arguments_of a) (system_of name))

@@ -2,7 +2,7 @@ ghost use Rattle.std.specs.Prelude.{◌≡◌, [], ◌++◌, ◌∷◌, None, On
 ghost use Rattle.tal_names.specs.Systems.{system_of};
 ghost use Rattle.tal_names.specs.Places.{arguments_of, first_of_spot, name_of_expr};
 ghost use Rattle.tal_names.specs.Scopes.{meaning_of};
-ghost use Rattle.tal_rules.specs.Statements.{stepped, inside_do, after_call, after, after_else, after_row};
+ghost use Rattle.tal_rules.specs.Statements.{next_walk, inside_do, after_call, after, after_else, after_row};
 ghost use Rattle.tal_syntax.specs.Grammar as g;
 ghost use Rattle.tal_syntax.specs.Seen.{seen_spot, seen_expr, seen_answer, seen_arguments, seen_values, seen_statement};
 ghost use Rattle.tal_syntax.specs.Seen.{seen_direction, seen_step, seen_otherwise, seen_row};
@@ -138,7 +138,7 @@ fn push_assign(
     said: &Assign,
     all: &mut List<tal_tree::Statement>,
 ) -> Result<Walk, NoMemory>
-    ensures walk { IfOk result (λ w. w ≡ stepped walk) }
+    ensures walk { IfOk result (λ w. w ≡ next_walk walk) }
     ensures statements { OnOk result (all.new
         ≡ all.old ++ one walk (first_of_spot (seen_spot said.now.target))
         (assign_by scope.now (seen_spot said.now.target) (seen_expr said.now.value)
@@ -156,7 +156,7 @@ fn push_assign_call(
     said: &AssignCall,
     all: &mut List<tal_tree::Statement>,
 ) -> Result<Walk, NoMemory>
-    ensures walk { IfOk result (λ w. w ≡ stepped walk) }
+    ensures walk { IfOk result (λ w. w ≡ next_walk walk) }
     ensures statements { OnOk result (all.new
         ≡ all.old ++ one walk (first_of_spot (seen_spot said.now.target))
         (what.AssignCall (target_of_spot scope.now (seen_spot said.now.target))
@@ -200,7 +200,7 @@ fn push_return(
     said: &Return,
     all: &mut List<tal_tree::Statement>,
 ) -> Result<Walk, NoMemory>
-    ensures walk { IfOk result (λ w. w ≡ stepped walk) }
+    ensures walk { IfOk result (λ w. w ≡ next_walk walk) }
     ensures statements { OnOk result (all.new
         ≡ all.old ++ one walk said.now.head (what.Return (answer_of scope.now (seen_answer said.now.answer)))) }
 {

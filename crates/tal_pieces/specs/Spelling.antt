@@ -174,5 +174,5 @@ abbrev pub blank : Sheet
 blank = record { text = []; depth = 0; ending = ending.Nothing }
 
 -- the text of these pieces; its last line ends with a line feed
-abbrev pub spelled : List Piece → List ℕ
-spelled ks = (lay blank ks).text ++ 10 ∷ []
+abbrev pub text_of_pieces : List Piece → List ℕ
+text_of_pieces ks = (lay blank ks).text ++ 10 ∷ []

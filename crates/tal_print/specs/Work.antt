@@ -15,7 +15,7 @@ use Rattle.tal_pieces.specs.Weights.{statements_weight, items_weight, procedures
 use Rattle.tal_pieces.specs.Printed.Names.{named, target_piece}
 use Rattle.tal_pieces.specs.Printed.Expressions.{value_pieces, spot_pieces, test_pieces, more_values, arguments}
 use Rattle.tal_pieces.specs.Printed.Statements.{step_pieces, what_pieces, inner_pieces, body_pieces, more_statements}
-use Rattle.tal_pieces.specs.Printed.Statements.{kept}
+use Rattle.tal_pieces.specs.Printed.Statements.{checkpoint_list}
 use Rattle.tal_pieces.specs.Printed.Statements.{more_items, more_files}
 use Rattle.tal_pieces.specs.Printed.Procedures.{word_if, items_pieces, parameters_pieces, more_names, locals_pieces}
 use Rattle.tal_pieces.specs.Printed.Procedures.{procedures_pieces, main_pieces}
@@ -32,7 +32,7 @@ part_pieces p locals (part.Inner statements) ks = inner_pieces p locals statemen
 part_pieces p locals (part.Statements statements) ks = more_statements p locals statements.now ks
 part_pieces p locals (part.Arguments exprs) ks = arguments p locals exprs.now ks
 part_pieces p locals (part.Body statements) ks = body_pieces p locals statements.now ks
-part_pieces p locals (part.Checkpoint items files) ks = kept p items.now files.now ks
+part_pieces p locals (part.Checkpoint items files) ks = checkpoint_list p items.now files.now ks
 part_pieces p locals (part.Parameters names) ks = parameters_pieces names.now ks
 part_pieces p locals (part.Kept items) ks = more_items p items.now ks
 part_pieces p locals (part.Files files) ks = more_files p files.now ks

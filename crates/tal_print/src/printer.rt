@@ -1,8 +1,8 @@
 ghost use Rattle.std.specs.Prelude.{◌≡◌, ◌<◌, ◌+◌, ℕ, List as Items, [], IfOk, OnOk};
 ghost use Rattle.tal_pieces.specs.Printed.Names.{target_piece};
-ghost use Rattle.tal_pieces.specs.Printed.Procedures.{printed};
+ghost use Rattle.tal_pieces.specs.Printed.Procedures.{program_pieces};
 ghost use Rattle.tal_pieces.specs.ReadsAgain.{ReadsAgain};
-ghost use Rattle.tal_pieces.specs.Spelling.{lay, spelled};
+ghost use Rattle.tal_pieces.specs.Spelling.{lay, text_of_pieces};
 ghost use Rattle.tal_print.specs.Work.{part_pieces, part_weight, pieces_left, work_left};
 ghost use Rattle.tal_reader.specs.Reads.{Reads};
 
@@ -98,7 +98,7 @@ fn write_all<'a>(
 
 /// The pieces of a program, laid out.
 fn lay_program(alloc: Global, program: &Program) -> Result<List<u8>, NoMemory>
-    ensures { IfOk result (λ bytes. bytes ≡ spelled (printed program.now)) }
+    ensures { IfOk result (λ bytes. bytes ≡ text_of_pieces (program_pieces program.now)) }
 {
     let procedures = program.procedures.as_slice();
     let main = usize::from(program.main);
@@ -116,7 +116,7 @@ fn lay_program(alloc: Global, program: &Program) -> Result<List<u8>, NoMemory>
 /// The text of a program: one declaration a line, without comments and LITERALs. It reads back as the same program, but
 /// for the lines of its statements.
 pub fn print_program(alloc: Global, program: &Program) -> Result<List<u8>, NoMemory>
-    ensures text { IfOk result (λ bytes. bytes ≡ spelled (printed program.now)) }
+    ensures text { IfOk result (λ bytes. bytes ≡ text_of_pieces (program_pieces program.now)) }
     ensures again { IfOk result (λ bytes. (source : Items ℕ) → Reads source program.now
         → ReadsAgain bytes program.now) }
 {

@@ -1,7 +1,8 @@
 ghost use Rattle.std.specs.Prelude.{◌≡◌, ◌<◌, ◌+◌, ℕ, [], ◌∷◌, length, true, OnOk, pos};
 ghost use Rattle.std.specs.Option.{option_copied};
 ghost use Rattle.tal_pieces.specs.Printed.Statements as printed;
-ghost use Rattle.tal_pieces.specs.Printed.Statements.{body_pieces, inner_pieces, kept, more_files, more_items};
+ghost use Rattle.tal_pieces.specs.Printed.Statements.{body_pieces, inner_pieces, checkpoint_list, more_files};
+ghost use Rattle.tal_pieces.specs.Printed.Statements.{more_items};
 ghost use Rattle.tal_pieces.specs.Printed.Statements.{more_statements, step_pieces, what_pieces};
 ghost use Rattle.tal_print.specs.Work.{pieces_left, returns_or_calls_the_system, work_left};
 ghost use Rattle.tal_pieces.specs.Weights.{list_weight, statements_weight, what_weight};
@@ -140,7 +141,7 @@ pub fn take_checkpoint<'a>(
     list: &mut WorkList<'a>,
 ) -> Result<(), NoMemory>
     ensures pieces { OnOk result (pieces_left program.now locals.now list.new.works.items
-        ≡ kept program.now items.now files.now (pieces_left program.now locals.now list.old.works.items)) }
+        ≡ checkpoint_list program.now items.now files.now (pieces_left program.now locals.now list.old.works.items)) }
     ensures less { OnOk result (work_left list.new.works.items
         < (list_weight items.now + list_weight files.now + 6) + work_left list.old.works.items) }
 {

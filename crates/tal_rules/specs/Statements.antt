@@ -51,8 +51,8 @@ abbrev pub next_file : ℕ → ℕ
 next_file n = if nat_lt MOST_FILES n then n else n + 1
 
 -- what stands before the statement that follows one with a number
-abbrev pub stepped : Walk → Walk
-stepped w = record w { number = next_number w.number; stage = stage_after w.stage }
+abbrev pub next_walk : Walk → Walk
+next_walk w = record w { number = next_number w.number; stage = stage_after w.stage }
 
 -- what stands before the statement inside a DO, which has no number there
 abbrev pub inside_do : Walk → Walk
@@ -67,12 +67,12 @@ after_call w arguments (Some system.Open) = record {
   files = next_file w.files;
   receive = w.receive || opens_receive (slice_get arguments 0);
 }
-after_call w arguments (Some system.Checkpoint) = stepped w
-after_call w arguments (Some system.ReadUpdate) = stepped w
-after_call w arguments (Some system.Reply) = stepped w
-after_call w arguments (Some system.Stop) = stepped w
-after_call w arguments (Some system.WriteRead) = stepped w
-after_call w arguments None = stepped w
+after_call w arguments (Some system.Checkpoint) = next_walk w
+after_call w arguments (Some system.ReadUpdate) = next_walk w
+after_call w arguments (Some system.Reply) = next_walk w
+after_call w arguments (Some system.Stop) = next_walk w
+after_call w arguments (Some system.WriteRead) = next_walk w
+after_call w arguments None = next_walk w
 
 -- at most 2,000 numbered statements
 abbrev pub number_faults : ℕ → At → List RuleFault
@@ -140,14 +140,15 @@ module _ (s : Scope) where
     pub after : Walk → g.Statement → Walk
     after w g.nothing = w
     after w (g.block begin first more end) = after_row (after w first) more
-    after w (g.if_then head test then_at t o) = after_else (after (stepped w) t) o
-    after w (g.while_do head test do_at t) = after (stepped w) t
-    after w (g.for_do head at name set_at from direction to step do_at t) = stepped (after (stepped (stepped w)) t)
-    after w (g.do_until head t at test) = stepped (after (inside_do w) t)
+    after w (g.if_then head test then_at t o) = after_else (after (next_walk w) t) o
+    after w (g.while_do head test do_at t) = after (next_walk w) t
+    after w (g.for_do head at name set_at from direction to step do_at t) =
+        next_walk (after (next_walk (next_walk w)) t)
+    after w (g.do_until head t at test) = next_walk (after (inside_do w) t)
     after w (g.call head at name a) = after_call w (arguments_of a) (system_of name)
-    after w (g.return head a) = stepped w
-    after w (g.assign target at e) = stepped w
-    after w (g.assign_call target at name_at name start first more close) = stepped w
+    after w (g.return head a) = next_walk w
+    after w (g.assign target at e) = next_walk w
+    after w (g.assign_call target at name_at name start first more close) = next_walk w
 
     pub after_else : Walk → g.Otherwise → Walk
     after_else w g.no_else = w
@@ -164,11 +165,11 @@ module _ (s : Scope) where
     statement_faults w g.nothing = []
     statement_faults w (g.block begin first more end) = statement_faults w first ++ row_faults (after w first) more
     statement_faults w (g.if_then head test then_at t o) =
-        test_faults s w head test ++ statement_faults (stepped w) t ++ else_faults (after (stepped w) t) o
-    statement_faults w (g.while_do head test do_at t) = test_faults s w head test ++ statement_faults (stepped w) t
+        test_faults s w head test ++ statement_faults (next_walk w) t ++ else_faults (after (next_walk w) t) o
+    statement_faults w (g.while_do head test do_at t) = test_faults s w head test ++ statement_faults (next_walk w) t
     statement_faults w (g.for_do head at name set_at from direction to step do_at t) =
-        for_head_faults s at name from to step ++ statement_faults (stepped (stepped w)) t
-        ++ number_faults (after (stepped (stepped w)) t).number head
+        for_head_faults s at name from to step ++ statement_faults (next_walk (next_walk w)) t
+        ++ number_faults (after (next_walk (next_walk w)) t).number head
     statement_faults w (g.do_until head t at test) =
         statement_faults (inside_do w) t ++ test_faults s (after (inside_do w) t) head test
     statement_faults w (g.call head at name a) = call_statement_faults s w head at name (arguments_of a)

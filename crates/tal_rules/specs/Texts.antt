@@ -66,8 +66,8 @@ stage_at true = stage.Start
 stage_at false = stage.Over
 
 -- what stands before the first statement of a procedure
-abbrev pub entered : Progress → g.Heading → Walk
-entered p h = record (p.walk) { stage = stage_at (is_main p h) }
+abbrev pub walk_at_entry : Progress → g.Heading → Walk
+walk_at_entry p h = record (p.walk) { stage = stage_at (is_main p h) }
 
 -- whether the main procedure doesn't begin with CHECKMONITOR
 abbrev pub lacks_monitor : Stage → Bool
@@ -90,17 +90,18 @@ body_faults s w first more = statement_faults s w first ++ row_faults s (after s
 abbrev pub procedure_faults : Declarations → Declarations → Progress → g.Procedure → List RuleFault
 procedure_faults globals files p (g.procedure h outer begin inner first more end last) =
     heading_locals_faults h outer inner
-    ++ body_faults (scope_of globals files p.count h inner) (entered p h) first more
-    ++ if_so (lacks_monitor (body_after (scope_of globals files p.count h inner) (entered p h) first more).stage)
+    ++ body_faults (scope_of globals files p.count h inner) (walk_at_entry p h) first more
+    ++ if_so (lacks_monitor (body_after (scope_of globals files p.count h inner) (walk_at_entry p h) first more).stage)
     (fault_at (name_place h) Prologue)
 
 -- what stands before the procedure that follows one of a heading, where its statements leave a walk
-abbrev pub passed : Progress → g.Heading → Walk → Progress
-passed p h w = record { count = next_procedure p.count; has_main = p.has_main || has_word_main h; walk = w }
+abbrev pub progress_after_procedure : Progress → g.Heading → Walk → Progress
+progress_after_procedure p h w =
+    record { count = next_procedure p.count; has_main = p.has_main || has_word_main h; walk = w }
 
 abbrev pub after_procedure : Declarations → Declarations → Progress → g.Procedure → Progress
 after_procedure globals files p (g.procedure h outer begin inner first more end last) =
-    passed p h (body_after (scope_of globals files p.count h inner) (entered p h) first more)
+    progress_after_procedure p h (body_after (scope_of globals files p.count h inner) (walk_at_entry p h) first more)
 
 abbrev pub procedures_faults : Declarations → Declarations → Progress → g.Procedures → List RuleFault
 procedures_faults globals files p g.no_procedures = []

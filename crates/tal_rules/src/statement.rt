@@ -7,7 +7,7 @@ ghost use Rattle.tal_names.specs.Systems.{system_of};
 ghost use Rattle.tal_names.specs.declared.meaning.Need.TheVariants.{Readable};
 ghost use Rattle.tal_names.specs.Places.{arguments_of, first_of_spot};
 ghost use Rattle.tal_rules.specs.Statements.{next_number, stage_after, stage_after_monitor, stage_after_open};
-ghost use Rattle.tal_rules.specs.Statements.{next_file, stepped, inside_do, after_call, number_faults, return_faults};
+ghost use Rattle.tal_rules.specs.Statements.{next_file, next_walk, inside_do, after_call, number_faults, return_faults};
 ghost use Rattle.tal_rules.specs.Statements.{right_by, right_faults, call_statement_faults, return_statement_faults};
 ghost use Rattle.tal_rules.specs.Statements.{assign_faults, assign_call_faults, is_below_one, step_faults};
 ghost use Rattle.tal_rules.specs.Statements.{for_head_faults, test_faults, after, after_else, after_row};
@@ -90,7 +90,7 @@ fn next_file(files: u8) -> u8
 
 /// What stands before the statement that follows one with a number.
 pub fn stepped(walk: Walk) -> Walk
-    ensures { result ≡ stepped walk }
+    ensures { result ≡ next_walk walk }
 {
     Walk {
         number: next_number(walk.number),
@@ -228,7 +228,7 @@ fn judge_return_statement(
     said: &Return,
     so_far: Option<RuleFault>,
 ) -> Judged
-    ensures walk { result.walk ≡ stepped walk }
+    ensures walk { result.walk ≡ next_walk walk }
     ensures least { result.least ≡ least so_far
         (return_statement_faults scope.now walk said.now.head (seen_answer said.now.answer)) }
 {
@@ -241,7 +241,7 @@ fn judge_return_statement(
 
 #[tactic(auto, using(crate::proofs::Parts::parts))]
 fn judge_assign(scope: &Scope, walk: Walk, said: &Assign, so_far: Option<RuleFault>) -> Judged
-    ensures walk { result.walk ≡ stepped walk }
+    ensures walk { result.walk ≡ next_walk walk }
     ensures least { result.least ≡ least so_far
         (assign_faults scope.now walk (seen_spot said.now.target) (seen_expr said.now.value)) }
 {
@@ -266,7 +266,7 @@ fn judge_assign_call(
     said: &AssignCall,
     so_far: Option<RuleFault>,
 ) -> Judged
-    ensures walk { result.walk ≡ stepped walk }
+    ensures walk { result.walk ≡ next_walk walk }
     ensures least { result.least ≡ least so_far
         (assign_call_faults scope.now walk (seen_spot said.now.target) said.now.name_at said.now.name
         (seen_expr said.now.first) (seen_values said.now.more)) }

@@ -4,9 +4,10 @@ ghost use Rattle.tal_declarations.specs.Files.{row_files, statement_files};
 ghost use Rattle.tal_declarations.specs.Globals.{with_lines, nothing_declared};
 ghost use Rattle.tal_declarations.specs.Headings.{with_headings};
 ghost use Rattle.tal_rules.specs.Texts.{locals_by, gives_by, scope_of, next_procedure, procedure_files, files_from};
-ghost use Rattle.tal_rules.specs.Texts.{is_main_by, has_word_main, name_place, is_main, stage_at, entered};
+ghost use Rattle.tal_rules.specs.Texts.{is_main_by, has_word_main, name_place, is_main, stage_at, walk_at_entry};
 ghost use Rattle.tal_rules.specs.Texts.{lacks_monitor, heading_locals_faults, body_after, body_faults};
-ghost use Rattle.tal_rules.specs.Texts.{procedure_faults, passed, after_procedure, procedures_faults, first_progress};
+ghost use Rattle.tal_rules.specs.Texts.{procedure_faults, progress_after_procedure, after_procedure, procedures_faults};
+ghost use Rattle.tal_rules.specs.Texts.{first_progress};
 ghost use Rattle.tal_rules.specs.Texts.{headed_after, no_files, main_missing, files_by, bodies_faults, headed_text};
 ghost use Rattle.tal_rules.specs.Texts.{faults};
 ghost use Rattle.tal_syntax.specs.Seen.{seen_main, seen_heading, seen_locals, seen_statement, seen_row, seen_procedure};
@@ -112,7 +113,7 @@ fn has_word_main(main: Main) -> bool
 
 /// What stands before the first statement of a procedure.
 pub fn entered(progress: Progress, heading: &Heading) -> Walk
-    ensures { result ≡ entered progress (seen_heading heading.now) }
+    ensures { result ≡ walk_at_entry progress (seen_heading heading.now) }
 {
     let main = has_word_main(heading.main) && !progress.has_main;
     let stage = if main { Stage::Start } else { Stage::Over };
@@ -179,7 +180,7 @@ fn judge_body(
 /// What is known after a procedure, from what was known before it, its heading, and the walk as its statements leave
 /// it.
 pub fn passed(progress: Progress, heading: &Heading, walk: Walk) -> Progress
-    ensures { result ≡ passed progress (seen_heading heading.now) walk }
+    ensures { result ≡ progress_after_procedure progress (seen_heading heading.now) walk }
 {
     Progress {
         count: next_procedure(progress.count),

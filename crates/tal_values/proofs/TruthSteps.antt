@@ -7,7 +7,7 @@ use Rattle.tal_tree.specs.declared.expression.Cond.TheViews.{sized-And, sized-Or
 use Rattle.tal_values.specs.declared.chain.Junction.{Junction}
 use Rattle.tal_values.specs.declared.chain.Junction.TheVariants as junction
 use Rattle.tal_values.specs.declared.chain.Link.{Link}
-use Rattle.tal_values.specs.Chain.{joined, joined_truth, linked}
+use Rattle.tal_values.specs.Chain.{joined, joined_truth, with_links}
 use Rattle.tal_values.specs.Value.{Memory, truth_of}
 use Rattle.tal_values.proofs.ChainSteps.{linked-push}
 
@@ -23,7 +23,7 @@ truth-joined m junction.Or left right = ap (truth_of m) (or-is left right)
 pub record Climbs (m : Memory) (left : Option Bool) (links : List Link) (whole : Cond) : Type 0 where
   pub below : Cond
   pub truth : truth_of m below ≡ left
-  pub chain : linked below links ≡ whole
+  pub chain : with_links below links ≡ whole
 
 pub climbs_up : (m : Memory) {left : Option Bool} {whole : Cond} {items : List Link} (links : List Link) (link : Link)
     → items ≡ links ++ link ∷ [] → Climbs m left items whole
@@ -32,7 +32,7 @@ climbs_up m {left} {whole} {items} links link popped so_far = record {
   below = joined link.junction so_far.below link.right.now;
   truth = truth-joined m link.junction so_far.below link.right.now
       ∙ (λ i. joined_truth link.junction (so_far.truth i) (truth_of m link.right.now));
-  chain = sym (linked-push so_far.below links link) ∙ ap (linked so_far.below) (sym popped) ∙ so_far.chain;
+  chain = sym (linked-push so_far.below links link) ∙ ap (with_links so_far.below) (sym popped) ∙ so_far.chain;
 }
 
 -- depths
@@ -44,16 +44,16 @@ pub right_within : (junction : Junction) (left right : Cond) → size-Cond right
 right_within junction.And left right = omega (arith, sized-And left right)
 right_within junction.Or left right = omega (arith, sized-Or left right)
 
-pub first_within : (first : Cond) (links : List Link) → size-Cond first ≤ size-Cond (linked first links)
+pub first_within : (first : Cond) (links : List Link) → size-Cond first ≤ size-Cond (with_links first links)
 first_within first [] = omega arith
 first_within first (link ∷ links) =
-    omega (arith, first_within first links, left_within link.junction (linked first links) link.right.now)
+    omega (arith, first_within first links, left_within link.junction (with_links first links) link.right.now)
 
 pub link_within : {m : Memory} {left : Option Bool} {whole : Cond} {items : List Link} (links : List Link) (link : Link)
     → items ≡ links ++ link ∷ [] → Climbs m left items whole → size-Cond link.right.now < size-Cond whole
 link_within {m} {left} {whole} {items} links link popped so_far =
-    let grown : linked (joined link.junction so_far.below link.right.now) links ≡ whole =
-    sym (linked-push so_far.below links link) ∙ ap (linked so_far.below) (sym popped) ∙ so_far.chain in
+    let grown : with_links (joined link.junction so_far.below link.right.now) links ≡ whole =
+    sym (linked-push so_far.below links link) ∙ ap (with_links so_far.below) (sym popped) ∙ so_far.chain in
     omega (
       arith,
       ap size-Cond grown,

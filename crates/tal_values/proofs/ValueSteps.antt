@@ -9,7 +9,7 @@ use Rattle.tal_tree.specs.declared.expression.Spot.{Spot}
 use Rattle.tal_tree.specs.declared.expression.Expr.{Expr, Read, Minus, Two, size-Expr}
 use Rattle.tal_tree.specs.declared.expression.Expr.TheViews.{sized-Two}
 use Rattle.tal_values.specs.declared.chain.Tail.{Tail}
-use Rattle.tal_values.specs.Chain.{chained}
+use Rattle.tal_values.specs.Chain.{with_tails}
 use Rattle.tal_values.specs.Value.{Memory, value_of, cell_of, word_at, both, result_of}
 use Rattle.tal_values.proofs.ChainSteps.{chained-push}
 
@@ -28,7 +28,7 @@ value-two m op left right = ap (value_of m) (two-is op left right)
 pub record Climbs (m : Memory) (left : Option ℤ) (tails : List Tail) (whole : Expr) : Type 0 where
   pub below : Expr
   pub value : value_of m below ≡ left
-  pub chain : chained below tails ≡ whole
+  pub chain : with_tails below tails ≡ whole
 
 pub climbs_up : (m : Memory) {left right : Option ℤ} {whole : Expr} {items : List Tail} (tails : List Tail)
     (tail : Tail)
@@ -38,7 +38,7 @@ climbs_up m {left} {right} {whole} {items} tails tail popped at_right so_far = r
   below = Two tail.op so_far.below tail.right.now;
   value = value-two m tail.op so_far.below tail.right.now
       ∙ (λ i. both (result_of tail.op) (so_far.value i) (sym at_right i));
-  chain = sym (chained-push so_far.below tails tail) ∙ ap (chained so_far.below) (sym popped) ∙ so_far.chain;
+  chain = sym (chained-push so_far.below tails tail) ∙ ap (with_tails so_far.below) (sym popped) ∙ so_far.chain;
 }
 
 -- depths
@@ -48,16 +48,16 @@ left_within op left right = omega (arith, sized-Two op left right)
 pub right_within : (op : Op) (left right : Expr) → size-Expr right < size-Expr (Two op left right)
 right_within op left right = omega (arith, sized-Two op left right)
 
-pub first_within : (first : Expr) (tails : List Tail) → size-Expr first ≤ size-Expr (chained first tails)
+pub first_within : (first : Expr) (tails : List Tail) → size-Expr first ≤ size-Expr (with_tails first tails)
 first_within first [] = omega arith
 first_within first (tail ∷ tails) =
-    omega (arith, first_within first tails, left_within tail.op (chained first tails) tail.right.now)
+    omega (arith, first_within first tails, left_within tail.op (with_tails first tails) tail.right.now)
 
 pub tail_within : {m : Memory} {left : Option ℤ} {whole : Expr} {items : List Tail} (tails : List Tail) (tail : Tail)
     → items ≡ tails ++ tail ∷ [] → Climbs m left items whole → size-Expr tail.right.now < size-Expr whole
 tail_within {m} {left} {whole} {items} tails tail popped so_far =
-    let grown : chained (Two tail.op so_far.below tail.right.now) tails ≡ whole =
-    sym (chained-push so_far.below tails tail) ∙ ap (chained so_far.below) (sym popped) ∙ so_far.chain in
+    let grown : with_tails (Two tail.op so_far.below tail.right.now) tails ≡ whole =
+    sym (chained-push so_far.below tails tail) ∙ ap (with_tails so_far.below) (sym popped) ∙ so_far.chain in
     omega (
       arith,
       ap size-Expr grown,

@@ -22,9 +22,9 @@ expr_of (operand.Read spot) = expr.Read spot.now
 expr_of (operand.Minus inner) = expr.Minus inner.now
 
 -- the expression that operators after an expression make of it
-abbrev pub chained : Expr → List Tail → Expr
-chained first [] = first
-chained first (tail ∷ tails) = expr.Two tail.op (chained first tails) tail.right.now
+abbrev pub with_tails : Expr → List Tail → Expr
+with_tails first [] = first
+with_tails first (tail ∷ tails) = expr.Two tail.op (with_tails first tails) tail.right.now
 
 -- the condition that a test stands for
 abbrev pub cond_of : Test → Cond
@@ -43,6 +43,6 @@ joined_truth junction.And left right = and_of left right
 joined_truth junction.Or left right = or_of left right
 
 -- the condition that AND and OR after a condition make of it
-abbrev pub linked : Cond → List Link → Cond
-linked first [] = first
-linked first (link ∷ links) = joined link.junction (linked first links) link.right.now
+abbrev pub with_links : Cond → List Link → Cond
+with_links first [] = first
+with_links first (link ∷ links) = joined link.junction (with_links first links) link.right.now

@@ -1,5 +1,5 @@
 ghost use Rattle.std.specs.Prelude.{◌≡◌, IfOk};
-ghost use Rattle.tal_values.specs.Chain.{expr_of, chained, cond_of, linked};
+ghost use Rattle.tal_values.specs.Chain.{expr_of, with_tails, cond_of, with_links};
 
 use std::alloc::Global;
 use tal_tree::{Cond, Expr, NoMemory, Op, Rel, Spot};
@@ -28,7 +28,7 @@ pub struct ExprChain<'a> {
 
 /// Goes down the left operands of an expression.
 pub fn expr_chain(alloc: Global, expr: &Expr) -> Result<ExprChain<'_>, NoMemory>
-    ensures { IfOk result (λ chain. chained (expr_of chain.first) chain.tails.items ≡ expr.now) }
+    ensures { IfOk result (λ chain. with_tails (expr_of chain.first) chain.tails.items ≡ expr.now) }
 {
     let mut tails = Vec::new(alloc);
     let mut rest = expr;
@@ -91,7 +91,7 @@ pub struct CondChain<'a> {
 
 /// Goes down the left sides of a condition.
 pub fn cond_chain(alloc: Global, cond: &Cond) -> Result<CondChain<'_>, NoMemory>
-    ensures { IfOk result (λ chain. linked (cond_of chain.first) chain.links.items ≡ cond.now) }
+    ensures { IfOk result (λ chain. with_links (cond_of chain.first) chain.links.items ≡ cond.now) }
 {
     let mut links = Vec::new(alloc);
     let mut rest = cond;

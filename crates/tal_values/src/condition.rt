@@ -1,7 +1,7 @@
 ghost use Rattle.std.specs.Prelude.{◌≡◌, pos, Bool, Option, Some, not, IfOk, option_map, if◌then◌else◌};
 ghost use Rattle.std.specs.Ordering.{int_eq};
 ghost use Rattle.tal_values.specs.Chain.{cond_of, joined_truth};
-ghost use Rattle.tal_values.specs.Seen.{seen};
+ghost use Rattle.tal_values.specs.Seen.{memory_now};
 ghost use Rattle.tal_values.specs.Value.{both, holds, truth_of};
 
 use crate::chain::{Junction, Link, Test, cond_chain};
@@ -14,7 +14,7 @@ use tal_tree::{Cond, NoMemory, Rel};
 /// The truth of a condition. None is a trap of a value that is looked at.
 #[cycle(truth)]
 pub fn truth(alloc: Global, memory: Memory<'_>, cond: &Cond) -> Result<Option<bool>, NoMemory>
-    ensures { IfOk result (λ truth. truth ≡ truth_of (seen memory.entry) cond.now) }
+    ensures { IfOk result (λ truth. truth ≡ truth_of (memory_now memory.entry) cond.now) }
 {
     let chain = cond_chain(alloc, cond)?;
     let mut links = chain.links;
@@ -33,7 +33,7 @@ fn joined(
     link: Link<'_>,
 ) -> Result<Option<bool>, NoMemory>
     ensures { IfOk result (λ truth. truth ≡ joined_truth link.entry.junction left
-        (truth_of (seen memory.entry) link.entry.right.now)) }
+        (truth_of (memory_now memory.entry) link.entry.right.now)) }
 {
     if is_decided(link.junction, left) {
         return Ok(left);
@@ -44,7 +44,7 @@ fn joined(
 
 #[cycle(truth)]
 fn tested(alloc: Global, memory: Memory<'_>, first: Test<'_>) -> Result<Option<bool>, NoMemory>
-    ensures { IfOk result (λ truth. truth ≡ truth_of (seen memory.entry) (cond_of first.entry)) }
+    ensures { IfOk result (λ truth. truth ≡ truth_of (memory_now memory.entry) (cond_of first.entry)) }
 {
     match first {
         Test::Truth(expr) => {

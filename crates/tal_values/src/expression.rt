@@ -1,6 +1,6 @@
 ghost use Rattle.std.specs.Prelude.{◌≡◌, IfOk, option_and_then};
 ghost use Rattle.tal_values.specs.Chain.{expr_of};
-ghost use Rattle.tal_values.specs.Seen.{seen};
+ghost use Rattle.tal_values.specs.Seen.{memory_now};
 ghost use Rattle.tal_values.specs.Value.{cell_of, value_of, word_at};
 
 use crate::chain::{Operand, expr_chain};
@@ -12,7 +12,7 @@ use tal_tree::{Expr, NoMemory, Spot};
 /// The value of an expression. None is a trap: a zero divisor, or an index outside the bounds of its array.
 #[cycle(value)]
 pub fn value(alloc: Global, memory: Memory<'_>, expr: &Expr) -> Result<Option<i16>, NoMemory>
-    ensures { IfOk result (λ value. value ≡ value_of (seen memory.entry) expr.now) }
+    ensures { IfOk result (λ value. value ≡ value_of (memory_now memory.entry) expr.now) }
 {
     let chain = expr_chain(alloc, expr)?;
     let mut tails = chain.tails;
@@ -27,7 +27,7 @@ pub fn value(alloc: Global, memory: Memory<'_>, expr: &Expr) -> Result<Option<i1
 /// The cell that a spot names. None is a trap: that of the index, or an index outside the bounds of its array.
 #[cycle(value)]
 pub fn cell(alloc: Global, memory: Memory<'_>, spot: &Spot) -> Result<Option<Cell>, NoMemory>
-    ensures { IfOk result (λ cell. cell ≡ cell_of (seen memory.entry) spot.now) }
+    ensures { IfOk result (λ cell. cell ≡ cell_of (memory_now memory.entry) spot.now) }
 {
     match spot {
         Spot::Local(place) => Ok(Some(Cell::Local(*place))),
@@ -44,7 +44,7 @@ pub fn cell(alloc: Global, memory: Memory<'_>, spot: &Spot) -> Result<Option<Cel
 
 #[cycle(value)]
 fn operand(alloc: Global, memory: Memory<'_>, first: Operand<'_>) -> Result<Option<i16>, NoMemory>
-    ensures { IfOk result (λ value. value ≡ value_of (seen memory.entry) (expr_of first.entry)) }
+    ensures { IfOk result (λ value. value ≡ value_of (memory_now memory.entry) (expr_of first.entry)) }
 {
     match first {
         Operand::Number(word) => Ok(Some(word)),
@@ -60,7 +60,7 @@ fn operand(alloc: Global, memory: Memory<'_>, first: Operand<'_>) -> Result<Opti
 }
 
 fn read(memory: Memory<'_>, cell: Option<Cell>) -> Option<i16>
-    ensures { result ≡ option_and_then (word_at (seen memory.entry)) cell }
+    ensures { result ≡ option_and_then (word_at (memory_now memory.entry)) cell }
 {
     memory.word(cell?)
 }

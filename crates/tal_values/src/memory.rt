@@ -1,6 +1,6 @@
 ghost use Rattle.std.specs.Prelude.{◌≡◌};
 ghost use Rattle.tal_values.specs.Value.{place_in, place_of, word_at};
-ghost use Rattle.tal_values.specs.Seen.{seen};
+ghost use Rattle.tal_values.specs.Seen.{memory_now};
 
 use tal_tree::{Item, List, Shape};
 
@@ -23,7 +23,7 @@ pub enum Cell {
 impl Memory<'_> {
     /// The word of a cell, where the cell is there.
     pub fn word(self, cell: Cell) -> Option<i16>
-        ensures { result ≡ word_at (seen self.entry) cell }
+        ensures { result ≡ word_at (memory_now self.entry) cell }
     {
         match cell {
             Cell::Local(place) => self.locals.get(usize::from(place)).copied(),
@@ -36,7 +36,7 @@ impl Memory<'_> {
 
     /// The place of an element of an item in the item's list.
     pub fn place(self, item: u16, index: i16) -> Option<u16>
-        ensures { result ≡ place_of (seen self.entry) item index }
+        ensures { result ≡ place_of (memory_now self.entry) item index }
     {
         match self.items.get(usize::from(item)) {
             None => None,

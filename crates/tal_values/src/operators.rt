@@ -1,6 +1,6 @@
 ghost use Rattle.std.specs.Prelude.{◌≡◌, neg_ℤ, option_map, option_and_then};
 ghost use Rattle.tal_tree.specs.gd_words.specs.Arithmetic.{wrap};
-ghost use Rattle.tal_values.specs.Seen.{seen};
+ghost use Rattle.tal_values.specs.Seen.{memory_now};
 ghost use Rattle.tal_values.specs.Value.{both, holds, place_of, result_of};
 
 use crate::memory::{Cell, Memory};
@@ -29,7 +29,7 @@ pub fn negated(value: Option<i16>) -> Option<i16>
 
 /// The cell of the element of an item at an index.
 pub fn element(memory: Memory<'_>, item: u16, index: Option<i16>) -> Option<Cell>
-    ensures { result ≡ option_map (Cell.Global item) (option_and_then (place_of (seen memory.entry) item) index) }
+    ensures { result ≡ option_map (Cell.Global item) (option_and_then (place_of (memory_now memory.entry) item) index) }
 {
     let offset = memory.place(item, index?)?;
     Some(Cell::Global { item, offset })

@@ -6,7 +6,7 @@ use Rattle.tal_tree.specs.declared.expression.Cond.{Cond, Not, size-Cond}
 use Rattle.tal_values.specs.declared.chain.Junction.{Junction}
 use Rattle.tal_values.specs.declared.chain.Junction.TheVariants as junction
 use Rattle.tal_values.specs.declared.chain.Link.{Link}
-use Rattle.tal_values.specs.Chain.{joined, linked}
+use Rattle.tal_values.specs.Chain.{joined, with_links}
 use Rattle.tal_values.specs.Value.{Memory}
 use Rattle.tal_values.proofs.ChainSteps.{linked-push}
 use Rattle.tal_values.proofs.TruthSteps.{first_within, right_within}
@@ -26,7 +26,7 @@ worked-joined m junction.Or left right = ap (truth_or_trap m) (or-is left right)
 pub record Climbs (m : Memory) (left : Worked Bool) (links : List Link) (whole : Cond) : Type 0 where
   pub below : Cond
   pub truth : truth_or_trap m below ≡ left
-  pub chain : linked below links ≡ whole
+  pub chain : with_links below links ≡ whole
 
 pub climbs_up : (m : Memory) {left : Worked Bool} {whole : Cond} {items : List Link} (links : List Link) (link : Link)
     → items ≡ links ++ link ∷ [] → Climbs m left items whole
@@ -35,14 +35,14 @@ climbs_up m {left} {whole} {items} links link popped so_far = record {
   below = joined link.junction so_far.below link.right.now;
   truth = worked-joined m link.junction so_far.below link.right.now
       ∙ (λ i. joined_worked link.junction (so_far.truth i) (truth_or_trap m link.right.now));
-  chain = sym (linked-push so_far.below links link) ∙ ap (linked so_far.below) (sym popped) ∙ so_far.chain;
+  chain = sym (linked-push so_far.below links link) ∙ ap (with_links so_far.below) (sym popped) ∙ so_far.chain;
 }
 
 pub link_within : {m : Memory} {left : Worked Bool} {whole : Cond} {items : List Link} (links : List Link) (link : Link)
     → items ≡ links ++ link ∷ [] → Climbs m left items whole → size-Cond link.right.now < size-Cond whole
 link_within {m} {left} {whole} {items} links link popped so_far =
-    let grown : linked (joined link.junction so_far.below link.right.now) links ≡ whole =
-    sym (linked-push so_far.below links link) ∙ ap (linked so_far.below) (sym popped) ∙ so_far.chain in
+    let grown : with_links (joined link.junction so_far.below link.right.now) links ≡ whole =
+    sym (linked-push so_far.below links link) ∙ ap (with_links so_far.below) (sym popped) ∙ so_far.chain in
     omega (
       arith,
       ap size-Cond grown,

@@ -7,7 +7,7 @@ use Rattle.tal_tree.specs.declared.expression.Op.{Op}
 use Rattle.tal_tree.specs.declared.expression.Spot.{Spot}
 use Rattle.tal_tree.specs.declared.expression.Expr.{Expr, Read, Minus, Two, size-Expr}
 use Rattle.tal_values.specs.declared.chain.Tail.{Tail}
-use Rattle.tal_values.specs.Chain.{chained}
+use Rattle.tal_values.specs.Chain.{with_tails}
 use Rattle.tal_values.specs.Value.{Memory}
 use Rattle.tal_values.proofs.ChainSteps.{chained-push}
 use Rattle.tal_values.proofs.ValueSteps.{first_within, right_within}
@@ -31,7 +31,7 @@ worked-two m op left right = ap (value_or_trap m) (two-is op left right)
 pub record Climbs (m : Memory) (left : Worked ℤ) (tails : List Tail) (whole : Expr) : Type 0 where
   pub below : Expr
   pub value : value_or_trap m below ≡ left
-  pub chain : chained below tails ≡ whole
+  pub chain : with_tails below tails ≡ whole
 
 pub climbs_up : (m : Memory) {left right : Worked ℤ} {whole : Expr} {items : List Tail} (tails : List Tail)
     (tail : Tail)
@@ -41,14 +41,14 @@ climbs_up m {left} {right} {whole} {items} tails tail popped at_right so_far = r
   below = Two tail.op so_far.below tail.right.now;
   value = worked-two m tail.op so_far.below tail.right.now
       ∙ (λ i. of_both (quotient_or_trap tail.op) (so_far.value i) (sym at_right i));
-  chain = sym (chained-push so_far.below tails tail) ∙ ap (chained so_far.below) (sym popped) ∙ so_far.chain;
+  chain = sym (chained-push so_far.below tails tail) ∙ ap (with_tails so_far.below) (sym popped) ∙ so_far.chain;
 }
 
 pub tail_within : {m : Memory} {left : Worked ℤ} {whole : Expr} {items : List Tail} (tails : List Tail) (tail : Tail)
     → items ≡ tails ++ tail ∷ [] → Climbs m left items whole → size-Expr tail.right.now < size-Expr whole
 tail_within {m} {left} {whole} {items} tails tail popped so_far =
-    let grown : chained (Two tail.op so_far.below tail.right.now) tails ≡ whole =
-    sym (chained-push so_far.below tails tail) ∙ ap (chained so_far.below) (sym popped) ∙ so_far.chain in
+    let grown : with_tails (Two tail.op so_far.below tail.right.now) tails ≡ whole =
+    sym (chained-push so_far.below tails tail) ∙ ap (with_tails so_far.below) (sym popped) ∙ so_far.chain in
     omega (
       arith,
       ap size-Expr grown,

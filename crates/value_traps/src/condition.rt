@@ -1,7 +1,7 @@
 ghost use Rattle.std.specs.Prelude.{◌≡◌, pos, not, Bool, Ok, IfOk, if◌then◌else◌};
 ghost use Rattle.std.specs.Ordering.{int_eq};
 ghost use Rattle.tal_values.specs.Chain.{cond_of};
-ghost use Rattle.tal_values.specs.Seen.{seen};
+ghost use Rattle.tal_values.specs.Seen.{memory_now};
 ghost use Rattle.tal_values.specs.Value.{holds};
 ghost use Rattle.value_traps.specs.Joined.{joined_worked};
 ghost use Rattle.value_traps.specs.Traps.{Worked, made, of_both, truth_or_trap};
@@ -21,7 +21,7 @@ pub fn truth_or_trap(
     memory: Memory<'_>,
     cond: &Cond,
 ) -> Result<Result<bool, ValueTrap>, NoMemory>
-    ensures { IfOk result (λ truth. truth ≡ truth_or_trap (seen memory.entry) cond.now) }
+    ensures { IfOk result (λ truth. truth ≡ truth_or_trap (memory_now memory.entry) cond.now) }
 {
     let chain = cond_chain(alloc, cond)?;
     let mut links = chain.links;
@@ -40,7 +40,7 @@ fn joined(
     link: Link<'_>,
 ) -> Result<Result<bool, ValueTrap>, NoMemory>
     ensures { IfOk result (λ truth. truth ≡ joined_worked link.entry.junction left
-        (truth_or_trap (seen memory.entry) link.entry.right.now)) }
+        (truth_or_trap (memory_now memory.entry) link.entry.right.now)) }
 {
     if is_decided(link.junction, left) {
         return Ok(left);
@@ -55,7 +55,7 @@ fn tested(
     memory: Memory<'_>,
     first: Test<'_>,
 ) -> Result<Result<bool, ValueTrap>, NoMemory>
-    ensures { IfOk result (λ truth. truth ≡ truth_or_trap (seen memory.entry) (cond_of first.entry)) }
+    ensures { IfOk result (λ truth. truth ≡ truth_or_trap (memory_now memory.entry) (cond_of first.entry)) }
 {
     match first {
         Test::Truth(expr) => {

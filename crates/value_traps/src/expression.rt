@@ -1,6 +1,6 @@
 ghost use Rattle.std.specs.Prelude.{◌≡◌, IfOk};
 ghost use Rattle.tal_values.specs.Chain.{expr_of};
-ghost use Rattle.tal_values.specs.Seen.{seen};
+ghost use Rattle.tal_values.specs.Seen.{memory_now};
 ghost use Rattle.value_traps.specs.Traps.{cell_or_trap, value_or_trap};
 
 use crate::operators::{applied, element, negated, read};
@@ -17,7 +17,7 @@ pub fn value_or_trap(
     memory: Memory<'_>,
     expr: &Expr,
 ) -> Result<Result<i16, ValueTrap>, NoMemory>
-    ensures { IfOk result (λ value. value ≡ value_or_trap (seen memory.entry) expr.now) }
+    ensures { IfOk result (λ value. value ≡ value_or_trap (memory_now memory.entry) expr.now) }
 {
     let chain = expr_chain(alloc, expr)?;
     let mut tails = chain.tails;
@@ -36,7 +36,7 @@ pub fn cell_or_trap(
     memory: Memory<'_>,
     spot: &Spot,
 ) -> Result<Result<Cell, ValueTrap>, NoMemory>
-    ensures { IfOk result (λ cell. cell ≡ cell_or_trap (seen memory.entry) spot.now) }
+    ensures { IfOk result (λ cell. cell ≡ cell_or_trap (memory_now memory.entry) spot.now) }
 {
     match spot {
         Spot::Local(place) => Ok(Ok(Cell::Local(*place))),
@@ -57,7 +57,7 @@ fn operand(
     memory: Memory<'_>,
     first: Operand<'_>,
 ) -> Result<Result<i16, ValueTrap>, NoMemory>
-    ensures { IfOk result (λ value. value ≡ value_or_trap (seen memory.entry) (expr_of first.entry)) }
+    ensures { IfOk result (λ value. value ≡ value_or_trap (memory_now memory.entry) (expr_of first.entry)) }
 {
     match first {
         Operand::Number(word) => Ok(Ok(word)),

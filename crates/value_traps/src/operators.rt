@@ -1,6 +1,6 @@
 ghost use Rattle.std.specs.Prelude.{◌≡◌, neg_ℤ};
 ghost use Rattle.tal_tree.specs.gd_words.specs.Arithmetic.{wrap};
-ghost use Rattle.tal_values.specs.Seen.{seen};
+ghost use Rattle.tal_values.specs.Seen.{memory_now};
 ghost use Rattle.value_traps.specs.Traps.{made, of_both, place_or_trap, place_worked, quotient_or_trap};
 ghost use Rattle.value_traps.specs.Traps.{word_or_trap, worked_on};
 
@@ -45,7 +45,7 @@ pub(crate) fn negated(value: Result<i16, ValueTrap>) -> Result<i16, ValueTrap>
 
 /// The word of a cell.
 pub(crate) fn read(memory: Memory<'_>, cell: Result<Cell, ValueTrap>) -> Result<i16, ValueTrap>
-    ensures { result ≡ worked_on (word_or_trap (seen memory.entry)) cell }
+    ensures { result ≡ worked_on (word_or_trap (memory_now memory.entry)) cell }
 {
     match cell {
         Err(trap) => Err(trap),
@@ -55,7 +55,7 @@ pub(crate) fn read(memory: Memory<'_>, cell: Result<Cell, ValueTrap>) -> Result<
 
 /// The word of a cell that is there.
 pub fn word_or_trap(memory: Memory<'_>, cell: Cell) -> Result<i16, ValueTrap>
-    ensures { result ≡ word_or_trap (seen memory.entry) cell }
+    ensures { result ≡ word_or_trap (memory_now memory.entry) cell }
 {
     match memory.word(cell) {
         None => Err(ValueTrap::NotThere),
@@ -69,7 +69,7 @@ pub(crate) fn element(
     item: u16,
     index: Result<i16, ValueTrap>,
 ) -> Result<Cell, ValueTrap>
-    ensures { result ≡ made (Cell.Global item) (worked_on (place_worked (seen memory.entry) item) index) }
+    ensures { result ≡ made (Cell.Global item) (worked_on (place_worked (memory_now memory.entry) item) index) }
 {
     match place(memory, item, index) {
         Err(trap) => Err(trap),
@@ -78,7 +78,7 @@ pub(crate) fn element(
 }
 
 fn place(memory: Memory<'_>, item: u16, index: Result<i16, ValueTrap>) -> Result<u16, ValueTrap>
-    ensures { result ≡ worked_on (place_worked (seen memory.entry) item) index }
+    ensures { result ≡ worked_on (place_worked (memory_now memory.entry) item) index }
 {
     match index {
         Err(trap) => Err(trap),
@@ -87,7 +87,7 @@ fn place(memory: Memory<'_>, item: u16, index: Result<i16, ValueTrap>) -> Result
 }
 
 fn place_worked(memory: Memory<'_>, item: u16, index: i16) -> Result<u16, ValueTrap>
-    ensures { result ≡ place_worked (seen memory.entry) item index }
+    ensures { result ≡ place_worked (memory_now memory.entry) item index }
 {
     match memory.items.get(usize::from(item)) {
         None => Err(ValueTrap::NotThere),

@@ -17,8 +17,10 @@ use Rattle.process_semantics.specs.Changes.{variable_cell}
 use Rattle.process_semantics.specs.Remains.{ways_into, ways_round, leads_to}
 use Rattle.process_semantics.specs.State.{Entry, Run, Test, Last, Frame, ProgramState, runs_of, first_of, next_of}
 use Rattle.process_semantics.specs.State.{rest_of, memory_of}
-use Rattle.process_semantics.specs.Steps.{values_of, assigned, tested, entered_by, entered, given_in, given, given_to}
-use Rattle.process_semantics.specs.Steps.{returned, for_begun, inner_in, tested_in, counted, counted_in, inner_entry}
+use Rattle.process_semantics.specs.Steps.{values_of, state_after_assigning, tested, entered_by, state_after_entry}
+use Rattle.process_semantics.specs.Steps.{given_in, given, given_to}
+use Rattle.process_semantics.specs.Steps.{state_after_return, for_begun, inner_in, tested_in, state_after_count}
+use Rattle.process_semantics.specs.Steps.{state_after_count_in, inner_entry}
 use Rattle.process_semantics.specs.Steps.{or_ends, inner}
 use Rattle.process_semantics.specs.declared.point.Point.TheVariants as point
 use Rattle.process_semantics.proofs.Points.{AtCall, at_ask}
@@ -39,7 +41,7 @@ ends-or program s None same is = ends-awake program s same
 ends-or program s (Some next) same is = is
 
 assigned-awake : {program : Program} {s : ProgramState} (to : Option Cell) (value : Option ℤ) → IsAwake program s
-    → IfAwake program (assigned s to value)
+    → IfAwake program (state_after_assigning s to value)
 assigned-awake to None is = tt
 assigned-awake None (Some word) is = tt
 assigned-awake (Some to) (Some word) is = done-awake (word-awake to word is)
@@ -63,7 +65,7 @@ begun-awake {s = s} statement variable (Some word) is leads =
 
 counted-awake : {program : Program} {s : ProgramState} (to : Cell) (down : Bool) (step : ℤ) (value : Option ℤ)
     → IsAwake program s
-    → IfAwake program (counted s to down step value)
+    → IfAwake program (state_after_count s to down step value)
 counted-awake to down step None is = tt
 counted-awake to down step (Some word) is = done-awake (word-awake to _ is)
 
@@ -91,7 +93,7 @@ entered-awake : {program : Program} {s : ProgramState} {locals : ℕ} {wants : B
     → values_of (memory_of program s) es ≡ values
     → IsCalled program locals wants number es → called_above program s.frames ≡ Some number → s.ended ≡ false
     → IsAwake program s
-    → IfAwake program (entered program s number values)
+    → IfAwake program (state_after_entry program s number values)
 entered-awake number es None values called above runs is = tt
 entered-awake {program} {s} number es (Some arguments) values called above runs is =
     subst (λ (found : Option Procedure). IfAwake program (entered_by s number arguments found)) (sym called.there)
@@ -136,7 +138,7 @@ module _ (program : Program) (regular : IsRegular program) (s : ProgramState) (f
       (record { frames = are; globals = same; ended = runs; free = free })
 
   returned-awake : (rest : List Entry) (value : Option ℤ) → IsAwake program (at rest)
-      → IfAwake program (returned program (at rest) value)
+      → IfAwake program (state_after_return program (at rest) value)
   returned-awake rest None is = tt
   returned-awake rest (Some word) is = below-awake word callers is.frames.1.1 is.globals is.ended is.free
 
@@ -194,7 +196,7 @@ module _ (program : Program) (regular : IsRegular program) (s : ProgramState) (f
     test-awake _ same is = tt
 
     last-awake : (layer : What-F What Statement) → IsAwake program (at (Last statement ∷ tail))
-        → IfAwake program (counted_in program (at (Last statement ∷ tail)) layer)
+        → IfAwake program (state_after_count_in program (at (Last statement ∷ tail)) layer)
     last-awake (What-F.For variable from to down step body last) is =
         counted-awake (variable_cell variable) down step _ is
     last-awake _ is = tt

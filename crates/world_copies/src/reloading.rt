@@ -45,7 +45,8 @@ impl WorldCopies {
         self.reloads.get(processor)
     }
 
-    /// Loads a processor again that has stopped, and answers whether it did. It was loaded again so often before.
+    /// Loads a processor again that has stopped, and answers whether it did. `times` is how often it was loaded again
+    /// before, if there is such a processor.
     fn reload_counted(&mut self, processor: u8, times: Option<u8>) -> Result<bool, NoMemory>
         requires { WorldHasRoom self.old.world }
         ensures told { IfOk result (λ done. done

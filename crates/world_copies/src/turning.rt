@@ -1,6 +1,6 @@
 ghost use Rattle.std.specs.Prelude.{◌≡◌, [], slice_get};
 ghost use Rattle.std.specs.Option.{option_copied, unwrap_or};
-ghost use Rattle.process_copies.specs.disc_device.specs.mirror.specs.States.{standing};
+ghost use Rattle.process_copies.specs.disc_device.specs.mirror.specs.States.{drive_state_at};
 ghost use Rattle.process_copies.specs.machine_states.specs.Drives.{drives_turned};
 ghost use Rattle.process_copies.specs.node_copies.specs.Seen.{drives_on, sectors_on};
 ghost use Rattle.world_copies.specs.Seen.{sectors_of};
@@ -24,7 +24,7 @@ impl WorldCopies {
 
     /// How a drive of a process stands; one that isn't there has failed.
     pub fn standing(&self, process: u8, drive: u8) -> DriveState
-        ensures { result ≡ standing (unwrap_or (slice_get self.now.drives process) []) drive }
+        ensures { result ≡ drive_state_at (unwrap_or (slice_get self.now.drives process) []) drive }
     {
         match self.processes.get(usize::from(process)) {
             None => DriveState::Failed,

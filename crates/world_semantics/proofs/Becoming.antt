@@ -24,7 +24,8 @@ use Rattle.world_semantics.specs.Passes.{by_apply_behind, by_acknowledge, checkp
 use Rattle.world_semantics.specs.Passes.{copy_at_checkpoint, after_getting, after_told}
 use Rattle.world_semantics.specs.Rules.{Change, by_own, by_checkpoint, by_request, by_early_request, by_enter, by_print}
 use Rattle.world_semantics.specs.Rules.{by_stop, by_mark, by_reload, IsFreeFor, stopped_copy, stopped_pair, taken_over}
-use Rattle.world_semantics.specs.Rules.{taker, pair_after_down, pair_at_down, renewals_ended, blank_copy, renewed}
+use Rattle.world_semantics.specs.Rules.{taker, pair_after_down, pair_at_down, renewals_ended, blank_copy}
+use Rattle.world_semantics.specs.Rules.{copy_with_renewal}
 use Rattle.world_semantics.specs.Rules.{new_core, reloaded_by}
 use Rattle.world_semantics.proofs.Lists.{some-same, Changed, is_new, is_same, changed, mapped}
 use Rattle.world_semantics.proofs.Roles.{Takes, taker-is, reload-all}
@@ -85,7 +86,7 @@ pub data Becomes (site : Site) (w : World) (number : ℕ) (pair : Pair) (sent : 
       (blank_copy (copy_of k pair).processor era
       (new_core site number (slice_get site.processes number) pair.first.core))
   renews : (processor : ℕ) → (copy_of (other_of k) pair).processor ≡ processor
-      → Becomes site w number pair sent k (Reloading processor) (renewed (copy_of k pair))
+      → Becomes site w number pair sent k (Reloading processor) (copy_with_renewal (copy_of k pair))
 
 -- what an act leaves of a copy as it was, however the act enters the kept acts
 pub record IsEntered (copy entered : Copy) : Type 0 where

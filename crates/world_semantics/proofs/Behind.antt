@@ -22,7 +22,7 @@ use Rattle.world_semantics.specs.Passes.{by_apply_behind, by_end}
 use Rattle.world_semantics.specs.Rules.{Change, by_own, by_checkpoint, by_request, by_early_request, by_enter, by_print}
 use Rattle.world_semantics.specs.Rules.{by_stop, by_mark, stopped_pair, taker, pair_after_down, pair_at_down}
 use Rattle.world_semantics.specs.Rules.{after_takeover, new_core, blank_copy, by_reload, reloaded_by, reloaded_pair}
-use Rattle.world_semantics.specs.Rules.{renewed}
+use Rattle.world_semantics.specs.Rules.{copy_with_renewal}
 use Rattle.world_semantics.proofs.Lists.{set-all, map-all}
 use Rattle.world_semantics.proofs.Growing.{AreStopped}
 use Rattle.world_semantics.proofs.Roles.{RolesOf, AllRoles, taker-is, reload-all}
@@ -376,7 +376,7 @@ mark-seen stopped node processor s pair (Some Second) e roles ok =
 -- a reload of the second copy's processor, while the first one acts
 renewed-seen : (core : Core) (pair : Pair) → pair.first.role ≡ Acting → BothSeen pair
     → BothSeen (record pair {
-      first = renewed pair.first;
+      first = copy_with_renewal pair.first;
       second = blank_copy pair.second.processor (pair.first.era + 1) core;
     })
 renewed-seen core pair acts (ok, back) =

@@ -16,7 +16,7 @@ use Rattle.checkpoint_image.specs.declared.message.TakenMessage.{TakenMessage}
 use Rattle.checkpoint_image.specs.declared.receive.RequestStanding.{RequestStanding}
 use Rattle.checkpoint_image.specs.declared.receive.RequestStanding.TheVariants.{Next, InHand, Kept, Old, Ahead}
 use Rattle.world_semantics.specs.declared.role.Role.TheVariants.{Acting, Watching}
-use Rattle.checkpoint_image.specs.Receive.{standing, reply_to, repeated_by, repeated}
+use Rattle.checkpoint_image.specs.Receive.{request_standing, reply_to, repeated_by, reply_sent_again}
 use Rattle.world_semantics.specs.Core.{Core, Deed, Advances, gets}
 use Rattle.world_semantics.specs.World.{Copy, Pair, Down, Terminal, World, Which, copy_of, other_of, terminal_node}
 use Rattle.world_semantics.specs.World.{receives}
@@ -297,11 +297,11 @@ repeats-kept : (w : World) (node : ℕ) (request : Request) (k : Which) (pair : 
     → slice_get w.processes request.process ≡ Some pair → (copy_of k pair).role ≡ Acting
     → (copy_of k pair).processor ≡ node → (sending : Sending)
     → IsAmong sending (sent_at (copy_of k pair).processor
-    (map Replying (repeated (copy_of k pair).core.receive request))) → SendsKept w node request sending
+    (map Replying (reply_sent_again (copy_of k pair).core.receive request))) → SendsKept w node request sending
 repeats-kept w node request k pair there acting here sending i =
-    by-standing (standing (copy_of k pair).core.receive request) refl i
+    by-standing (request_standing (copy_of k pair).core.receive request) refl i
   where
-    by-standing : (s : RequestStanding) → standing (copy_of k pair).core.receive request ≡ s
+    by-standing : (s : RequestStanding) → request_standing (copy_of k pair).core.receive request ≡ s
         → IsAmong sending (sent_at (copy_of k pair).processor (map Replying (repeated_by request s)))
         → SendsKept w node request sending
     by-standing (Kept words) e (inl same) = (

@@ -9,14 +9,14 @@ use Rattle.checkpoint_image.specs.tal_tree.specs.declared.act.Act.{Act}
 use Rattle.checkpoint_image.specs.tal_tree.specs.declared.site.Site.{Site}
 use Rattle.checkpoint_image.specs.tal_tree.specs.declared.site.ProcessSpec.{ProcessSpec}
 use Rattle.checkpoint_image.specs.tal_tree.specs.declared.site.OpenerSpec.{OpenerSpec}
-use Rattle.plain_semantics.specs.process_semantics.specs.Image.{restored}
+use Rattle.plain_semantics.specs.process_semantics.specs.Image.{state_from_words}
 use Rattle.plain_semantics.specs.Openers.{openers_of}
 use Rattle.disc_device.specs.Sectors.{Stored}
 use Rattle.checkpoint_image.specs.declared.message.ImageMessage.{ImageMessage}
 use Rattle.checkpoint_image.specs.declared.message.Image.{Image}
 use Rattle.checkpoint_image.specs.declared.receive.OpenerBlock.{OpenerBlock}
 use Rattle.checkpoint_image.specs.declared.receive.ReceiveBlock.{ReceiveBlock}
-use Rattle.checkpoint_image.specs.Receive.{after_answering, standing, is_waiting, waits, came, still_waiting}
+use Rattle.checkpoint_image.specs.Receive.{after_answering, request_standing, is_waiting, waits, came, still_waiting}
 use Rattle.world_semantics.specs.Core.{Core, Deed, Took, Answered, Advances, goes, takes, asks, gets, answers, acts}
 use Rattle.world_semantics.specs.Core.{put_in, with_files, after_passing, core_at_boot}
 use Rattle.world_semantics.specs.World.{Copy, Pair, Down, World, Which, First, Second, copy_of, with_copy}
@@ -96,7 +96,7 @@ waits-to number waiting request to ok = waits-all (λ one. one.process ≡ numbe
 came-to : (number : ℕ) (table : ReceiveBlock) (waiting : List Request) (request : Request) → request.process ≡ number
     → AreTo number waiting
     → AreTo number (came table waiting request)
-came-to number table waiting request to ok other i = by-test (is_waiting (standing table request)) i
+came-to number table waiting request to ok other i = by-test (is_waiting (request_standing table request)) i
   where
     by-test : (wait : Bool) → IsAmong other (if wait then waits waiting request else waiting) → other.process ≡ number
     by-test true j = waits-to number waiting request to ok other j
@@ -183,7 +183,7 @@ put-fair : (number : ℕ) (replies : List Reply) (core : Core) (image : Image) (
 put-fair number replies core image applied kept e =
     map-some (λ state. record { state = state; next = with_files image.files core.next; receive = image.receive })
     (Fair number replies)
-    (restored core.state (is_some image.receive.in_hand) image.body) applied
+    (state_from_words core.state (is_some image.receive.in_hand) image.body) applied
     (λ state there. record {
       stands = restored-stands core.state state (is_some image.receive.in_hand) image.body
           there;
@@ -302,7 +302,7 @@ waiting-fair number replies Second pair waiting to ok =
 still-to : (number : ℕ) (table : ReceiveBlock) (waiting : List Request) → AreTo number waiting
     → AreTo number (still_waiting table waiting)
 still-to number table waiting ok request i =
-    ok request (among-filter request (λ r. is_waiting (standing table r)) waiting i).0
+    ok request (among-filter request (λ r. is_waiting (request_standing table r)) waiting i).0
 
 marking-fair : (number : ℕ) (replies : List Reply) (k : Option Which) (pair : Pair) → FairPair number replies pair
     → FairPair number replies (pair_after_down k pair)

@@ -13,7 +13,8 @@ use Rattle.checkpoint_image.specs.declared.receive.ReceiveBlock.{ReceiveBlock}
 use Rattle.checkpoint_image.specs.declared.receive.RequestStanding.{RequestStanding}
 use Rattle.checkpoint_image.specs.declared.receive.RequestStanding.TheVariants.{Next, InHand, Kept, Old, Ahead}
 use Rattle.checkpoint_image.specs.Receive.{is_place, holds, answered, reply_kept, kept_or_old, standing_in, standing_by}
-use Rattle.checkpoint_image.specs.Receive.{standing, after_taking, after_answering, last_ones, repeated_by, repeated}
+use Rattle.checkpoint_image.specs.Receive.{request_standing, after_taking, after_answering, last_ones, repeated_by}
+use Rattle.checkpoint_image.specs.Receive.{reply_sent_again}
 use Rattle.world_semantics.specs.Laws.{HasGrown}
 use Rattle.world_semantics.proofs.Lists.{some-same, Changed, is_new, is_same, changed}
 use Rattle.checkpoint_image.specs.gd_words.proofs.Among.{among-right}
@@ -210,10 +211,10 @@ block-kept held (Some block) n words e = (block, refl, standing-kept held block 
 -- the reply that is sent again was sent
 pub repeated-sent : (replies : List Reply) (table : ReceiveBlock) (request : Request) (reply : Reply)
     → KeptSent request.process replies table
-    → IsAmong reply (repeated table request) → IsAmong reply replies
-repeated-sent replies table request reply ok i = by-standing (standing table request) refl i
+    → IsAmong reply (reply_sent_again table request) → IsAmong reply replies
+repeated-sent replies table request reply ok i = by-standing (request_standing table request) refl i
   where
-    one : (words : List ℤ) → standing table request ≡ Kept words
+    one : (words : List ℤ) → request_standing table request ≡ Kept words
         → (reply ≡ record {
           process = request.process;
           opener = request.opener;
@@ -227,7 +228,7 @@ repeated-sent replies table request reply ok i = by-standing (standing table req
         rw same (ok request.opener b.0 b.1 request.number words b.2)
     one words e (inr i) = absurd i
 
-    by-standing : (s : RequestStanding) → standing table request ≡ s → IsAmong reply (repeated_by request s)
+    by-standing : (s : RequestStanding) → request_standing table request ≡ s → IsAmong reply (repeated_by request s)
         → IsAmong reply replies
     by-standing (Kept words) e i = one words e i
     by-standing Next e i = absurd i

@@ -6,7 +6,7 @@ use Rattle.checkpoint_image.specs.gd_words.specs.declared.message.Reply.{Reply}
 use Rattle.checkpoint_image.specs.tal_tree.specs.declared.act.Act.{Act}
 use Rattle.checkpoint_image.specs.tal_tree.specs.declared.site.Site.{Site}
 use Rattle.schedule.specs.declared.event.Event.{Event}
-use Rattle.checkpoint_image.specs.Receive.{repeated, all_repeated}
+use Rattle.checkpoint_image.specs.Receive.{reply_sent_again, all_repeated}
 use Rattle.world_semantics.specs.Core.{Core, Deed}
 use Rattle.world_semantics.specs.World.{Copy, Pair, World, Which, First, Second, copy_of, terminal_node}
 use Rattle.world_semantics.specs.Messages.{Message, Asking, Replying, Checkpointing, Taking, Sending, sent_at, Cause}
@@ -95,7 +95,7 @@ again-sent : (w : World) (number : ℕ) (copy : Copy) → CopyIsFair number w.re
     → IsAmong reply (all_repeated copy.core.receive copy.waiting)
     → IsAmong reply w.replies
 again-sent w number copy ok reply i =
-    let of = among-flat_map (repeated copy.core.receive) copy.waiting reply i in
+    let of = among-flat_map (reply_sent_again copy.core.receive) copy.waiting reply i in
     repeated-sent w.replies copy.core.receive of.item reply (rw (ok.waiting of.item of.among) ok.core.kept) of.within
 
 told-sent : (w next : World) (number : ℕ) (pair : Pair) (k : Option Which) → next.replies ≡ w.replies
@@ -119,7 +119,7 @@ change-sends w next cause sendings ok (by_checkpoint number pair there p) sendin
 change-sends w next cause sendings ok (by_request request k pair j there r) sending i =
     let fair = fair-of request.process w.replies k pair (ok request.process pair there) in
     let copy = copy_of k pair in
-    let again = repeated copy.core.receive request in
+    let again = reply_sent_again copy.core.receive request in
     from-node next copy.processor (map Replying again)
     (λ message l. replied-sent next again message
     (λ reply m. repeated-sent w.replies copy.core.receive request reply fair.core.kept m) l) sending i

@@ -17,8 +17,10 @@ use Rattle.checkpoint_image.specs.declared.receive.ReceiveBlock.{ReceiveBlock}
 use Rattle.checkpoint_image.specs.declared.receive.RequestStanding.TheVariants.{Next, InHand, Ahead}
 use Rattle.world_semantics.specs.declared.role.Role.{Role}
 use Rattle.world_semantics.specs.declared.role.Role.TheVariants.{Acting, Watching, Blank}
-use Rattle.checkpoint_image.specs.Receive.{holds, answered, reply_kept, kept_or_old, standing_in, standing_by, standing}
-use Rattle.checkpoint_image.specs.Receive.{after_taking, after_answering, last_ones, Chosen, chosen, is_waiting, waits}
+use Rattle.checkpoint_image.specs.Receive.{holds, answered, reply_kept, kept_or_old, standing_in, standing_by}
+use Rattle.checkpoint_image.specs.Receive.{request_standing}
+use Rattle.checkpoint_image.specs.Receive.{after_taking, after_answering, last_ones, Chosen, choice_among, is_waiting}
+use Rattle.checkpoint_image.specs.Receive.{waits}
 use Rattle.checkpoint_image.specs.Receive.{came, still_waiting}
 use Rattle.world_semantics.specs.Core.{Core, Deed, Took, Answered, Advances, goes, takes, asks, gets, answers, acts}
 use Rattle.world_semantics.specs.World.{Copy, Pair, World, Which, First, Second, copy_of, pair_at_boot, boot}
@@ -45,7 +47,7 @@ pub record IsUntaken (table : ReceiveBlock) (request : Request) : Type 0 where
   pub later : block.taken < request.number
 
 -- what waits where a process acts is untaken
-waiting-untaken : (table : ReceiveBlock) (request : Request) → is_waiting (standing table request) ≡ true
+waiting-untaken : (table : ReceiveBlock) (request : Request) → is_waiting (request_standing table request) ≡ true
     → IsUntaken table request
 waiting-untaken table request w = of (slice_get table.openers request.opener) refl w
   where
@@ -77,7 +79,7 @@ waiting-untaken table request w = of (slice_get table.openers request.opener) re
 
 -- an untaken request is the next one, or ahead of it
 pub untaken-stands : (table : ReceiveBlock) (request : Request) → IsUntaken table request
-    → (standing table request ≡ Next) ⊎ (standing table request ≡ Ahead)
+    → (request_standing table request ≡ Next) ⊎ (request_standing table request ≡ Ahead)
 untaken-stands table request u = rw u.there (by-test (request.number == u.block.taken + 1) refl)
   where
     by-test : (next : Bool) → (request.number == u.block.taken + 1) ≡ next
@@ -96,16 +98,16 @@ AreUntaken table waiting = (request : Request) → IsAmong request waiting → I
 
 came-untaken : (table : ReceiveBlock) (waiting : List Request) (request : Request) → AreUntaken table waiting
     → AreUntaken table (came table waiting request)
-came-untaken table waiting request ok = by-test (is_waiting (standing table request)) refl
+came-untaken table waiting request ok = by-test (is_waiting (request_standing table request)) refl
   where
-    by-test : (wait : Bool) → is_waiting (standing table request) ≡ wait
+    by-test : (wait : Bool) → is_waiting (request_standing table request) ≡ wait
         → AreUntaken table (if wait then waits waiting request else waiting)
     by-test true e = waits-all (IsUntaken table) waiting request (waiting-untaken table request e) ok
     by-test false e = ok
 
 still-untaken : (table : ReceiveBlock) (waiting : List Request) → AreUntaken table (still_waiting table waiting)
 still-untaken table waiting request i =
-    waiting-untaken table request (among-filter request (λ r. is_waiting (standing table r)) waiting i).1
+    waiting-untaken table request (among-filter request (λ r. is_waiting (request_standing table r)) waiting i).1
 
 -- Acts
 
@@ -115,7 +117,7 @@ pub record Tidy (role : Role) (table : ReceiveBlock) (waiting : List Request) : 
   pub untaken : role ≡ Acting → AreUntaken table waiting
 
 take-untaken : (table : ReceiveBlock) (waiting : List Request) (found : Chosen) (block : OpenerBlock)
-    → chosen table waiting ≡ Some found → AreSingle waiting
+    → choice_among table waiting ≡ Some found → AreSingle waiting
     → AreUntaken table waiting → AreUntaken (after_taking found.request.opener block table) found.rest
 take-untaken table waiting found block c single ok request i =
     let u = ok request (chosen-rest table waiting found request c i) in
@@ -158,7 +160,7 @@ answer-untaken place depth block words table waiting s ok request i = by-place (
 
 took-tidy : {role : Role} {openers : List OpenerSpec} {core : Core} {words : List ℤ} {next : Core}
     (waiting : List Request) (found : Chosen)
-    → chosen core.receive waiting ≡ Some found → Advances openers core (Took found.request.opener words) next
+    → choice_among core.receive waiting ≡ Some found → Advances openers core (Took found.request.opener words) next
     → Tidy role core.receive waiting
     → Tidy role next.receive found.rest
 took-tidy {core = core} waiting found c (takes block p s) ok = record {

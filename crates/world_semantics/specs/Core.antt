@@ -9,7 +9,8 @@ use Rattle.checkpoint_image.specs.tal_tree.specs.declared.site.ProcessSpec.{Proc
 use Rattle.checkpoint_image.specs.tal_tree.specs.declared.site.OpenerSpec.{OpenerSpec}
 use Rattle.plain_semantics.specs.process_semantics.specs.declared.point.Point.TheVariants as point
 use Rattle.plain_semantics.specs.process_semantics.specs.Process as process
-use Rattle.plain_semantics.specs.process_semantics.specs.Image.{image_of, listed_items, listed_files, restored, imaged}
+use Rattle.plain_semantics.specs.process_semantics.specs.Image.{image_of, listed_items, listed_files, state_from_words}
+use Rattle.plain_semantics.specs.process_semantics.specs.Image.{state_in_image}
 use Rattle.plain_semantics.specs.Openers.{files_of, openers_of}
 use Rattle.checkpoint_image.specs.declared.receive.OpenerBlock.{OpenerBlock}
 use Rattle.checkpoint_image.specs.declared.receive.ReceiveBlock.{ReceiveBlock}
@@ -135,8 +136,8 @@ carried_with items files core = record {
 }
 
 -- what a core's checkpoint carries: what the CHECKPOINT names
-abbrev pub carried : Core → Image
-carried core = carried_with (listed_items core.state) (listed_files core.state) core
+abbrev pub carried_image : Core → Image
+carried_image core = carried_with (listed_items core.state) (listed_files core.state) core
 
 -- what a checkpoint of everything carries: all items that have words, and all files that are opened to a process
 abbrev pub carried_whole : Core → Image
@@ -156,7 +157,7 @@ carried_by everything core = carried_with (items_for everything core.state) (fil
 
 -- the core that is restored from a checkpoint of a core: at a checkpoint that after it
 abbrev pub imaged_core : Core → Core
-imaged_core core = record core { state = imaged core.state }
+imaged_core core = record core { state = state_in_image core.state }
 
 abbrev pub with_files : List FileNumber → List ℕ → List ℕ
 with_files [] next = next
@@ -167,4 +168,4 @@ with_files (named ∷ files) next = with_files files (slice_set next named.file 
 abbrev pub put_in : Core → Image → Option Core
 put_in core image =
     option_map (λ state. record { state = state; next = with_files image.files core.next; receive = image.receive })
-    (restored core.state (is_some image.receive.in_hand) image.body)
+    (state_from_words core.state (is_some image.receive.in_hand) image.body)

@@ -24,7 +24,7 @@ use Rattle.schedule.specs.declared.event.Event.{Event}
 use Rattle.schedule.specs.declared.event.Event.TheVariants as event
 use Rattle.checkpoint_image.specs.declared.receive.RequestStanding.{RequestStanding}
 use Rattle.world_semantics.specs.declared.role.Role.{Role}
-use Rattle.checkpoint_image.specs.Receive.{standing}
+use Rattle.checkpoint_image.specs.Receive.{request_standing}
 use Rattle.world_semantics.specs.World.{Copy, World}
 use Rattle.world_semantics.specs.Shares.{closed}
 use Rattle.world_semantics.specs.Follows.{IsRun}
@@ -277,7 +277,7 @@ ahead_acts = act.Enter 0 ∷ act.Step 0 ∷ act.Step 0 ∷ act.Step 0 ∷ act.Pr
 
 -- how what waits at a copy stands to it
 abbrev pub standings : Copy → List RequestStanding
-standings copy = map (standing copy.core.receive) copy.waiting
+standings copy = map (request_standing copy.core.receive) copy.waiting
 
 -- a run of these events can keep these acts, the oldest first, and shows this, the newest first
 abbrev pub CanKeep : Site → List Event → List Act → List Shown → Type 0

@@ -15,7 +15,7 @@ use Rattle.checkpoint_image.specs.declared.message.ImageMessage.{ImageMessage}
 use Rattle.checkpoint_image.specs.declared.message.TakenMessage.{TakenMessage}
 use Rattle.checkpoint_image.specs.declared.receive.RequestStanding.TheVariants.{Kept}
 use Rattle.world_semantics.specs.declared.role.Role.TheVariants.{Acting}
-use Rattle.checkpoint_image.specs.Receive.{standing}
+use Rattle.checkpoint_image.specs.Receive.{request_standing}
 use Rattle.world_semantics.specs.Core.{next_on, put_in, carried_by}
 use Rattle.world_semantics.specs.World.{Copy, Pair, Terminal, World, Which, copy_of}
 use Rattle.world_semantics.specs.Messages.{Message, Asking, Replying, Checkpointing, Taking}
@@ -133,7 +133,7 @@ pub record KeepsReplyTo (w : World) (node : ℕ) (request : Request) (words : Li
   pub there : slice_get w.processes request.process ≡ Some pair
   pub here : (copy_of k pair).processor ≡ node
   pub acting : (copy_of k pair).role ≡ Acting
-  pub kept : standing (copy_of k pair).core.receive request ≡ Kept words
+  pub kept : request_standing (copy_of k pair).core.receive request ≡ Kept words
 
 -- a request is the next one of a terminal: to its own server and place, numbered next to the one that was entered last,
 -- and with the words that come next

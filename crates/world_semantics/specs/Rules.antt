@@ -18,7 +18,7 @@ use Rattle.plain_semantics.specs.declared.slot.Opener.{Opener}
 use Rattle.plain_semantics.specs.Openers.{openers_of, opener_of}
 use Rattle.plain_semantics.specs.Machine.{next_request}
 use Rattle.world_semantics.specs.declared.role.Role.TheVariants.{Acting, Gone, Blank}
-use Rattle.checkpoint_image.specs.Receive.{waits, came, repeated, still_waiting, all_repeated}
+use Rattle.checkpoint_image.specs.Receive.{waits, came, reply_sent_again, still_waiting, all_repeated}
 use Rattle.world_semantics.specs.Core.{Core, Deed, Advances, core_at_boot}
 use Rattle.world_semantics.specs.World.{Copy, Pair, Terminal, World, terminal_node, is_running, has_marked, Which}
 use Rattle.world_semantics.specs.World.{First}
@@ -115,15 +115,18 @@ abbrev pub blank_copy : ℕ → ℕ → Core → Copy
 blank_copy processor era core = record (copy_at_boot Blank processor core) { era = era }
 
 -- a copy that has to send everything: it is in the next era, with checkpoint number 0, and nothing counts as sent
-abbrev pub renewed : Copy → Copy
-renewed copy = record copy { era = copy.era + 1; number = 0; sent = false; acknowledged = false; renewal = true }
+abbrev pub copy_with_renewal : Copy → Copy
+copy_with_renewal copy =
+    record copy { era = copy.era + 1; number = 0; sent = false; acknowledged = false; renewal = true }
 
 -- a process with these blank copies in the places of its own: a copy that stays has to send everything to the other
 -- one, and leads
 abbrev pub pair_with_blanks : Option Copy → Option Copy → Pair → Pair
 pair_with_blanks None None pair = pair
-pair_with_blanks (Some first) None pair = record pair { first = first; second = renewed pair.second; led = Second }
-pair_with_blanks None (Some second) pair = record pair { first = renewed pair.first; second = second; led = First }
+pair_with_blanks (Some first) None pair =
+    record pair { first = first; second = copy_with_renewal pair.second; led = Second }
+pair_with_blanks None (Some second) pair =
+    record pair { first = copy_with_renewal pair.first; second = second; led = First }
 pair_with_blanks (Some first) (Some second) pair = record pair { first = first; second = second }
 
 -- a process after a processor was loaded again in which its first copy was, its second one, both or none: the copy
@@ -221,7 +224,7 @@ pub data Change (site : Site) (w : World) : Cause → List Sending → World →
       → slice_get w.processes request.process ≡ Some pair
       → (copy_of k pair).role ≡ Acting
       → Change site w (Handing (copy_of k pair).processor (Asking request))
-      (sent_at (copy_of k pair).processor (map Replying (repeated (copy_of k pair).core.receive request)))
+      (sent_at (copy_of k pair).processor (map Replying (reply_sent_again (copy_of k pair).core.receive request)))
       (with_pair request.process
       (with_copy k (record (copy_of k pair) {
         waiting =

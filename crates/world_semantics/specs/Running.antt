@@ -18,7 +18,7 @@ use Rattle.disc_device.specs.Sectors.{stored_after}
 use Rattle.checkpoint_image.specs.declared.receive.OpenerBlock.{OpenerBlock}
 use Rattle.world_semantics.specs.declared.role.Role.{Role}
 use Rattle.world_semantics.specs.declared.role.Role.TheVariants.{Acting, Watching, Gone, Blank}
-use Rattle.checkpoint_image.specs.Receive.{Chosen, chosen}
+use Rattle.checkpoint_image.specs.Receive.{Chosen, choice_among}
 use Rattle.world_semantics.specs.Core.{Core, core_acting, core_asked, core_going, core_replied, core_taken}
 use Rattle.world_semantics.specs.World.{Copy, Down, Pair, World, Which, First, Second, copy_of, with_copy, may_pass}
 use Rattle.world_semantics.specs.World.{with_pair, has_marked, other_of}
@@ -138,7 +138,7 @@ own_device number core before call = record {
 abbrev pub own_at : Site → ℕ → Core → Around → Point → Option Own
 own_at site number core before point.Inner =
     Some (record { done = act.Step number; messages = []; after = before; core = core_going core })
-own_at site number core before point.Take = own_take number core before (chosen core.receive before.waiting)
+own_at site number core before point.Take = own_take number core before (choice_among core.receive before.waiting)
 own_at site number core before point.Ask =
     Some (own_ask site number core before (process.asked_file core.state) (process.asked_words core.state))
 own_at site number core before point.Answer = own_answer site number core before core.receive.in_hand

@@ -14,7 +14,7 @@ ghost use Rattle.checkpoint_image.specs.declared.receive.RequestStanding.TheVari
 ghost use Rattle.world_semantics.specs.declared.role.Role.TheVariants.{Acting, Watching};
 ghost use Rattle.world_semantics.specs.World.{Pair, Terminal, World, Which, copy_of, other_of, receives};
 ghost use Rattle.world_semantics.specs.World.{terminal_node};
-ghost use Rattle.checkpoint_image.specs.Receive.{standing, reply_to};
+ghost use Rattle.checkpoint_image.specs.Receive.{request_standing, reply_to};
 ghost use Rattle.world_semantics.specs.Follows.{IsRun};
 ghost use Rattle.world_semantics.specs.Messages.{Asking, Replying, Checkpointing, Taking, Cause, Sending, Entering};
 ghost use Rattle.world_semantics.specs.Messages.{Handing, MarkingDown, Reloading};
@@ -140,8 +140,8 @@ pub fn what_was_taken_does_not_wait()
         (request : Request) → IsRun site events w
         → slice_get w.processes number ≡ Some pair → (copy_of k pair).role ≡ Acting
         → IsAmong request (copy_of k pair).waiting
-        → (standing (copy_of k pair).core.receive request ≡ Next)
-        ⊎ (standing (copy_of k pair).core.receive request ≡ Ahead) }
+        → (request_standing (copy_of k pair).core.receive request ≡ Next)
+        ⊎ (request_standing (copy_of k pair).core.receive request ≡ Ahead) }
 {}
 
 /// In a run a terminal awaits at most one reply: it has printed as many replies as it has entered requests, or one

@@ -15,13 +15,14 @@ use Rattle.tal_declarations.specs.Files.{call_files, statement_files, else_files
 use Rattle.tal_names.specs.Systems.{system_of}
 use Rattle.tal_names.specs.Names.{Declarations}
 use Rattle.tal_names.specs.Places.{arguments_of}
-use Rattle.tal_meaning.specs.tal_rules.specs.Statements.{stepped, inside_do, after, after_else, after_row, after_call}
+use Rattle.tal_meaning.specs.tal_rules.specs.Statements.{next_walk, inside_do, after, after_else, after_row, after_call}
 use Rattle.tal_meaning.specs.tal_rules.specs.Statements.{number_faults}
 use Rattle.tal_meaning.specs.tal_rules.specs.Statements.{test_faults, for_head_faults, statement_faults, else_faults}
 use Rattle.tal_meaning.specs.tal_rules.specs.Statements.{row_faults}
 use Rattle.tal_meaning.specs.tal_rules.specs.Texts.{scope_of, next_procedure, procedure_files, files_from, files_by}
 use Rattle.tal_meaning.specs.tal_rules.specs.Texts.{headed_text}
-use Rattle.tal_meaning.specs.tal_rules.specs.Texts.{no_files, entered, body_after, body_faults, heading_locals_faults}
+use Rattle.tal_meaning.specs.tal_rules.specs.Texts.{no_files, walk_at_entry, body_after, body_faults}
+use Rattle.tal_meaning.specs.tal_rules.specs.Texts.{heading_locals_faults}
 use Rattle.tal_meaning.specs.tal_rules.specs.Texts.{lacks_monitor}
 use Rattle.tal_meaning.specs.tal_rules.specs.Texts.{name_place, procedure_faults, after_procedure, procedures_faults}
 use Rattle.tal_meaning.specs.tal_rules.specs.Texts.{first_progress}
@@ -54,21 +55,22 @@ module _ (s : Scope) where
         (second_nil (statement_faults s w first) (row_faults s (after s w first) more) e)
         (statement_opened f w first (first_nil (statement_faults s w first) (row_faults s (after s w first) more) e) a)
     statement_opened f w (g.if_then head test then_at t o) e a =
-        else_opened (statement_files filing f t) (after s (stepped w) t) o
-        (second_nil (test_faults s w head test ++ statement_faults s (stepped w) t)
-        (else_faults s (after s (stepped w) t) o) e)
-        (statement_opened f (stepped w) t
-        (second_nil (test_faults s w head test) (statement_faults s (stepped w) t)
-        (first_nil (test_faults s w head test ++ statement_faults s (stepped w) t)
-        (else_faults s (after s (stepped w) t) o) e))
+        else_opened (statement_files filing f t) (after s (next_walk w) t) o
+        (second_nil (test_faults s w head test ++ statement_faults s (next_walk w) t)
+        (else_faults s (after s (next_walk w) t) o) e)
+        (statement_opened f (next_walk w) t
+        (second_nil (test_faults s w head test) (statement_faults s (next_walk w) t)
+        (first_nil (test_faults s w head test ++ statement_faults s (next_walk w) t)
+        (else_faults s (after s (next_walk w) t) o) e))
         a)
     statement_opened f w (g.while_do head test do_at t) e a =
-        statement_opened f (stepped w) t (second_nil (test_faults s w head test) (statement_faults s (stepped w) t) e) a
+        statement_opened f (next_walk w) t (second_nil (test_faults s w head test)
+        (statement_faults s (next_walk w) t) e) a
     statement_opened f w (g.for_do head at name set_at from direction to step do_at t) e a =
-        statement_opened f (stepped (stepped w)) t
-        (second_nil (for_head_faults s at name from to step) (statement_faults s (stepped (stepped w)) t)
-        (first_nil (for_head_faults s at name from to step ++ statement_faults s (stepped (stepped w)) t)
-        (number_faults (after s (stepped (stepped w)) t).number head) e))
+        statement_opened f (next_walk (next_walk w)) t
+        (second_nil (for_head_faults s at name from to step) (statement_faults s (next_walk (next_walk w)) t)
+        (first_nil (for_head_faults s at name from to step ++ statement_faults s (next_walk (next_walk w)) t)
+        (number_faults (after s (next_walk (next_walk w)) t).number head) e))
         a
     statement_opened f w (g.do_until head t at test) e a =
         statement_opened f (inside_do w) t
@@ -107,10 +109,11 @@ module _ (globals files : Declarations) where
       → AreOpened globals (procedure_files globals p.count f q) (after_procedure globals files p q).walk.files
       (after_procedure globals files p q).walk.receive
   procedure_opened p f (g.procedure h outer begin inner first more end last) e a =
-      body_opened scope f (entered p h) first more
-      (second_nil (heading_locals_faults h outer inner) (body_faults scope (entered p h) first more)
-      (first_nil (heading_locals_faults h outer inner ++ body_faults scope (entered p h) first more)
-      (if_so (lacks_monitor (body_after scope (entered p h) first more).stage) (fault_at (name_place h) Prologue)) e))
+      body_opened scope f (walk_at_entry p h) first more
+      (second_nil (heading_locals_faults h outer inner) (body_faults scope (walk_at_entry p h) first more)
+      (first_nil (heading_locals_faults h outer inner ++ body_faults scope (walk_at_entry p h) first more)
+      (if_so (lacks_monitor (body_after scope (walk_at_entry p h) first more).stage)
+      (fault_at (name_place h) Prologue)) e))
       a
     where
       scope : Scope

@@ -17,7 +17,7 @@ use Rattle.tal_rules.specs.Calls.{call_faults, called_faults, values_count}
 use Rattle.tal_names.specs.Faults.{fault_at, if_so}
 use Rattle.tal_declarations.specs.Files.{call_files}
 use Rattle.tal_names.specs.Places.{arguments_of, first_of_spot}
-use Rattle.tal_rules.specs.Statements.{stepped, after_call, right_by}
+use Rattle.tal_rules.specs.Statements.{next_walk, after_call, right_by}
 use Rattle.tal_meaning.specs.Calls.{call_what, procedure_by}
 use Rattle.tal_meaning.specs.Statements.{assign_by}
 use Rattle.tal_pieces.specs.declared.piece.Symbol.TheVariants as sign
@@ -42,7 +42,7 @@ use Rattle.tal_faultless.proofs.Common.Faultless.{nils}
 module _ (p : Program) (locals : List (List ℕ)) (s : Scope) (f : Files) where
   -- one statement reads back
   abbrev Back : ℕ → Walk → Statement → List Piece → List Token → Type 0
-  Back n w x ks tokens = StatementBack s f n w (x ∷ []) (stepped w) ks tokens
+  Back n w x ks tokens = StatementBack s f n w (x ∷ []) (next_walk w) ks tokens
 
   -- an assignment of a value
   pub assign_back : (n : ℕ) (w : Walk) (line : ℕ) (to : Spot) (e : Expr) (ks : List Piece) (tokens : List Token)

@@ -20,7 +20,7 @@ use Rattle.tal_names.specs.Faults.{fault_at, if_so}
 use Rattle.tal_names.specs.Names.{Declarations}
 use Rattle.tal_names.specs.Places.{further_arguments}
 use Rattle.tal_names.specs.Scopes.{meaning_of, kind_faults}
-use Rattle.tal_rules.specs.Statements.{stepped}
+use Rattle.tal_rules.specs.Statements.{next_walk}
 use Rattle.tal_meaning.specs.Calls.{items_named, files_named, with_item, with_process}
 use Rattle.tal_pieces.specs.declared.piece.Piece.{Piece}
 use Rattle.tal_pieces.specs.declared.piece.Piece.TheVariants as piece
@@ -119,13 +119,14 @@ module _ (p : Program) (locals : List (List ℕ)) (s : Scope) (f : Files) where
   abbrev Back : ℕ → Walk → ℕ → List ℕ → List ℕ → List Piece → List Token → Type 0
   Back n w line items files ks tokens =
       StatementBack s f n w (record { number = w.number; line = line; what = what.Checkpoint items files } ∷ [])
-      (stepped w) ks tokens
+      (next_walk w) ks tokens
 
   pub checkpoint_none : (n : ℕ) (w : Walk) (line : ℕ) (ks : List Piece) (tokens : List Token) → IsCounted w → suc n ≤ 33
       → AreTokens (what_pieces p locals (what.Checkpoint [] []) ks) tokens → Back n w line [] [] ks tokens
   checkpoint_none n w line ks tokens count room a =
       let c = called_back system.Checkpoint ks tokens a in
-      system_back s f n w (stepped w) line system.Checkpoint (what.Checkpoint [] []) ks ks tokens count room c (record {
+      system_back s f n w (next_walk w) line system.Checkpoint (what.Checkpoint [] []) ks ks tokens count
+      room c (record {
         syntax = g.unlisted;
         rest = c.rest;
         front = refl;
@@ -149,7 +150,7 @@ module _ (p : Program) (locals : List (List ℕ)) (s : Scope) (f : Files) where
       let x = first (as_name is o.later) in
       let b = mentions_back p locals s others (close ks) x.rest x.later in
       let z = first b.later in
-      system_back s f n w (stepped w) line system.Checkpoint (what.Checkpoint _ _) ks _ tokens count
+      system_back s f n w (next_walk w) line system.Checkpoint (what.Checkpoint _ _) ks _ tokens count
       (omega (arith, deep)) c (record {
         syntax = g.listed o.at (g.value (lone_name x.at name)) b.syntax z.at;
         rest = z.rest;
@@ -169,7 +170,7 @@ module _ (p : Program) (locals : List (List ℕ)) (s : Scope) (f : Files) where
       let x = first (as_name is o.later) in
       let b = mentions_back p locals s others (close ks) x.rest x.later in
       let z = first b.later in
-      system_back s f n w (stepped w) line system.Checkpoint (what.Checkpoint _ _) ks _ tokens count
+      system_back s f n w (next_walk w) line system.Checkpoint (what.Checkpoint _ _) ks _ tokens count
       (omega (arith, deep)) c (record {
         syntax = g.listed o.at (g.value (lone_name x.at name)) b.syntax z.at;
         rest = z.rest;

@@ -21,7 +21,7 @@ use Rattle.tal_declarations.specs.declared.table.Files.{Files}
 use Rattle.tal_names.specs.declared.scope.Scope.{Scope}
 use Rattle.tal_rules.specs.declared.walk.Walk.{Walk}
 use Rattle.tal_declarations.specs.Files.{statement_files}
-use Rattle.tal_rules.specs.Statements.{stepped, inside_do, after, step_faults, test_faults, statement_faults}
+use Rattle.tal_rules.specs.Statements.{next_walk, inside_do, after, step_faults, test_faults, statement_faults}
 use Rattle.tal_rules.specs.Statements.{number_faults}
 use Rattle.tal_meaning.specs.Statements.{is_down, step_of, statements_of}
 use Rattle.tal_pieces.specs.declared.piece.Keyword.TheVariants as word
@@ -115,7 +115,7 @@ module _ (p : Program) (locals : List (List ℕ)) (s : Scope) (f : Files) where
 
   pub if_back : (n : ℕ) (w v u : Walk) (line : ℕ) (c : Cond) (xs ys : List Statement) (ks : List Piece)
       (tokens : List Token)
-      → IsCounted w → FitsTest p locals s (suc n) c → Recurs (suc n) (stepped w) xs v → Recurs (suc n) v ys u
+      → IsCounted w → FitsTest p locals s (suc n) c → Recurs (suc n) (next_walk w) xs v → Recurs (suc n) v ys u
       → AreTokens (what_pieces p locals (what.If c xs ys) ks) tokens
       → StatementBack s f n w (record { number = w.number; line = line; what = what.If c xs ys } ∷ []) u ks tokens
   if_back n w v u line c xs ys ks tokens count fits recur_x recur_y a =
@@ -155,7 +155,7 @@ module _ (p : Program) (locals : List (List ℕ)) (s : Scope) (f : Files) where
 
   pub while_back : (n : ℕ) (w v : Walk) (line : ℕ) (c : Cond) (body : List Statement) (ks : List Piece)
       (tokens : List Token)
-      → IsCounted w → FitsTest p locals s (suc n) c → Recurs (suc n) (stepped w) body v
+      → IsCounted w → FitsTest p locals s (suc n) c → Recurs (suc n) (next_walk w) body v
       → AreTokens (what_pieces p locals (what.While c body) ks) tokens
       → StatementBack s f n w (record { number = w.number; line = line; what = what.While c body } ∷ []) v ks tokens
   while_back n w v line c body ks tokens count fits recur a =
@@ -189,11 +189,11 @@ module _ (p : Program) (locals : List (List ℕ)) (s : Scope) (f : Files) where
       (body : List Statement) (ks : List Piece) (tokens : List Token)
       → IsNamedVariable p locals s x → FitsValue p locals s (suc n) from → FitsValue p locals s (suc n) to
       → int_lt step (pos 1) ≡ false
-      → Recurs (suc n) (stepped (stepped w)) body v → IsCounted v
+      → Recurs (suc n) (next_walk (next_walk w)) body v → IsCounted v
       → AreTokens (what_pieces p locals (what.For x from to down step body v.number) ks) tokens
       → StatementBack s f n w
       (record { number = w.number; line = line; what = what.For x from to down step body v.number } ∷ [])
-      (stepped v) ks tokens
+      (next_walk v) ks tokens
   for_back n w v line x from to down step body ks tokens counter fits_from fits_to fine recur count a =
       let ends = piece.Keyword word.Do ∷ inner_pieces p locals body ks in
       let last = piece.Keyword (direction_word down) ∷ value_pieces p locals value.Sum to (step_pieces step ends) in
@@ -223,7 +223,7 @@ module _ (p : Program) (locals : List (List ℕ)) (s : Scope) (f : Files) where
             (unlined_for _ _ _ _ _ _ _ ∙ (λ j. what.For (i.same j) (q.same j) (r.same j) (down_is down t.at j)
             (e.same j) (y.same j) (y.next j).number)
             ∙ sym (unlined_for x from to down step body v.number));
-        next = ap stepped y.next;
+        next = ap next_walk y.next;
         faultless = nils (nils (nils (nils (nils i.fine q.faultless) r.faultless) e.fine) y.faultless)
             (ap (λ u. number_faults u.number h.at) y.next ∙ counted v h.at count);
         nearest = y.nearest;
@@ -251,7 +251,7 @@ module _ (p : Program) (locals : List (List ℕ)) (s : Scope) (f : Files) where
       (tokens : List Token)
       → FitsTest p locals s (suc n) c → Recurs (suc n) (inside_do w) body v → IsCounted v
       → AreTokens (what_pieces p locals (what.DoUntil body c) ks) tokens
-      → StatementBack s f n w (record { number = v.number; line = line; what = what.DoUntil body c } ∷ []) (stepped v)
+      → StatementBack s f n w (record { number = v.number; line = line; what = what.DoUntil body c } ∷ []) (next_walk v)
       ks tokens
   do_back n w v line body c ks tokens fits recur count a =
       let h = first (subst (λ pieces. AreTokens pieces tokens) (pieces_do p locals body c ks) a) in
@@ -270,7 +270,7 @@ module _ (p : Program) (locals : List (List ℕ)) (s : Scope) (f : Files) where
           line = 0;
           what = (unlined_do _ _ ∙ (λ i. what.DoUntil (y.same i) (t.same i)) ∙ sym (unlined_do body c)) j;
         } ∷ []);
-        next = ap stepped y.next;
+        next = ap next_walk y.next;
         faultless = nils y.faultless (ap (λ x. test_faults s x h.at t.syntax) y.next
             ∙ nils (counted v h.at count) t.faultless);
         nearest = y.nearest;

@@ -6,7 +6,7 @@ use Rattle.tal_tokens.specs.declared.token.Token.{Token}
 use Rattle.tal_declarations.specs.declared.table.Files.{Files}
 use Rattle.tal_names.specs.declared.scope.Scope.{Scope}
 use Rattle.tal_rules.specs.declared.walk.Walk.{Walk}
-use Rattle.tal_rules.specs.Statements.{stepped}
+use Rattle.tal_rules.specs.Statements.{next_walk}
 use Rattle.tal_pieces.specs.declared.piece.Piece.{Piece}
 use Rattle.tal_pieces.specs.Cuts.{AreTokens}
 use Rattle.tal_pieces.specs.Printed.Statements.{what_pieces}
@@ -22,7 +22,7 @@ module _ (p : Program) (locals : List (List ℕ)) (s : Scope) (f : Files) where
   pub lone_back : (n : ℕ) (w : Walk) (line : ℕ) (x : What) (ks : List Piece) (tokens : List Token) → IsCounted w
       → Lone p locals s n x
       → AreTokens (what_pieces p locals x ks) tokens
-      → StatementBack s f n w (record { number = w.number; line = line; what = x } ∷ []) (stepped w) ks tokens
+      → StatementBack s f n w (record { number = w.number; line = line; what = x } ∷ []) (next_walk w) ks tokens
   lone_back n w line _ ks tokens counted (assigns to e) a =
       assign_back p locals s f n w line _ _ ks tokens counted to e a
   lone_back n w line _ ks tokens counted (assigns_call to callable es) a =

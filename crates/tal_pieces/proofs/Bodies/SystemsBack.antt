@@ -15,7 +15,7 @@ use Rattle.tal_names.specs.declared.scope.Scope.{Scope}
 use Rattle.tal_rules.specs.declared.walk.Walk.{Walk}
 use Rattle.tal_names.specs.declared.system.System.TheVariants as system
 use Rattle.tal_names.specs.Scopes.{kind_faults}
-use Rattle.tal_rules.specs.Statements.{stepped}
+use Rattle.tal_rules.specs.Statements.{next_walk}
 use Rattle.tal_meaning.specs.Calls.{item_by, file_by}
 use Rattle.tal_pieces.specs.declared.piece.Piece.{Piece}
 use Rattle.tal_pieces.specs.declared.rank.ValueRank.TheVariants as value
@@ -35,7 +35,7 @@ use Rattle.tal_faultless.proofs.Common.Faultless.{nils}
 module _ (p : Program) (locals : List (List ℕ)) (s : Scope) (f : Files) where
   -- one statement reads back
   abbrev Back : ℕ → Walk → Statement → List Piece → List Token → Type 0
-  Back n w x ks tokens = StatementBack s f n w (x ∷ []) (stepped w) ks tokens
+  Back n w x ks tokens = StatementBack s f n w (x ∷ []) (next_walk w) ks tokens
 
   pub read_update_back : (n : ℕ) (w : Walk) (line : ℕ) (buffer : ℕ) (most : Expr) (got : Variable) (item number : ℕ)
       (ks : List Piece) (tokens : List Token)
@@ -58,7 +58,7 @@ module _ (p : Program) (locals : List (List ℕ)) (s : Scope) (f : Files) where
       let x = variable_back p locals s got (close ks) h.rest variable h.later in
       let z = first x.later in
       let deep : suc (suc n) ≤ 33 = omega (arith, fits.low) in
-      system_back s f n w (stepped w) line system.ReadUpdate (what.ReadUpdate buffer most got) ks _ tokens count
+      system_back s f n w (next_walk w) line system.ReadUpdate (what.ReadUpdate buffer most got) ks _ tokens count
       (omega (arith, deep)) c (record {
         syntax = g.listed o.at (g.value (lone_name r.at r.text)) (g.more_further d.at (g.value (lone_name b.at b.text))
             (g.more_further e.at (g.value v.syntax)
@@ -97,7 +97,7 @@ module _ (p : Program) (locals : List (List ℕ)) (s : Scope) (f : Files) where
       let v = value_back p locals s (suc (suc n)) sent (close ks) e.rest fits e.later in
       let z = first v.later in
       let deep : suc (suc n) ≤ 33 = omega (arith, fits.low) in
-      system_back s f n w (stepped w) line system.Reply (what.Reply buffer sent) ks _ tokens count
+      system_back s f n w (next_walk w) line system.Reply (what.Reply buffer sent) ks _ tokens count
       (omega (arith, deep)) c (record {
         syntax = g.listed o.at (g.value (lone_name b.at b.text)) (g.more_further e.at (g.value v.syntax) g.no_further)
             z.at;
@@ -136,7 +136,7 @@ module _ (p : Program) (locals : List (List ℕ)) (s : Scope) (f : Files) where
       let x = variable_back p locals s got (close ks) k.rest variable k.later in
       let z = first x.later in
       let deep : suc (suc n) ≤ 33 = omega (arith, fits.low) in
-      system_back s f n w (stepped w) line system.WriteRead (what.WriteRead file buffer send room got) ks _ tokens
+      system_back s f n w (next_walk w) line system.WriteRead (what.WriteRead file buffer send room got) ks _ tokens
       count (omega (arith, deep)) c (record {
         syntax = g.listed o.at (g.value (lone_name r.at r.text)) (g.more_further d.at (g.value (lone_name b.at b.text))
             (g.more_further e.at (g.value v.syntax)
@@ -177,7 +177,7 @@ module _ (p : Program) (locals : List (List ℕ)) (s : Scope) (f : Files) where
       → Back n w (record { number = w.number; line = line; what = what.Stop }) ks tokens
   stop_back n w line ks tokens count room a =
       let c = called_back system.Stop ks tokens a in
-      system_back s f n w (stepped w) line system.Stop what.Stop ks ks tokens count room c (record {
+      system_back s f n w (next_walk w) line system.Stop what.Stop ks ks tokens count room c (record {
         syntax = g.unlisted;
         rest = c.rest;
         front = refl;

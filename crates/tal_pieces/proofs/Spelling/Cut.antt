@@ -20,7 +20,7 @@ use Rattle.tal_pieces.specs.declared.piece.Piece.{Piece}
 use Rattle.tal_pieces.specs.declared.piece.Piece.TheVariants as piece
 use Rattle.tal_names.specs.declared.system.System.TheVariants as system
 use Rattle.tal_pieces.specs.Spelling.{Sheet, text_of, keyword_text, symbol_text, system_text, ending_of, is_end}
-use Rattle.tal_pieces.specs.Spelling.{is_tight, line_at, depth_at, depth_after, gap, laid, lay, blank, spelled}
+use Rattle.tal_pieces.specs.Spelling.{is_tight, line_at, depth_at, depth_after, gap, laid, lay, blank, text_of_pieces}
 use Rattle.tal_pieces.specs.Cuts.{token_of, AreTokens, finished, followed, IsSpellable, AreSpellable, CutsInto}
 use Rattle.tal_pieces.proofs.Spelling.Begun.{BeginsWith, keyword_begun, system_begun, name_begun_is}
 use Rattle.tal_pieces.proofs.Spelling.Follow.{heads, parts, follow, word_below, text_positive}
@@ -187,7 +187,7 @@ cut depth e (k ∷ ks) here h =
       pieces = followed (at_front begin (length (text_of k))) k later.pieces;
     }
 
-pub cuts : (ks : List Piece) → AreSpellable ks → CutsInto ks (spelled ks)
+pub cuts : (ks : List Piece) → AreSpellable ks → CutsInto ks (text_of_pieces ks)
 cuts ks h =
     let whole = cut 0 ending.Nothing ks start_of_text h in
     record {

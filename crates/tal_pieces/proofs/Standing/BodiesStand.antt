@@ -15,7 +15,7 @@ use Rattle.tal_declarations.specs.Files.{named_in, statement_files, else_files, 
 use Rattle.tal_declarations.specs.Globals.{atom_of, constant_value, first_of_constant}
 use Rattle.tal_names.specs.Systems.{system_of}
 use Rattle.tal_names.specs.Places.{arguments_of, first_of_spot, name_of_expr}
-use Rattle.tal_rules.specs.Statements.{stepped, inside_do, after, after_else, after_row, is_below_one, step_faults}
+use Rattle.tal_rules.specs.Statements.{next_walk, inside_do, after, after_else, after_row, is_below_one, step_faults}
 use Rattle.tal_rules.specs.Statements.{statement_faults, else_faults, row_faults}
 use Rattle.tal_names.specs.Scopes.{meaning_of}
 use Rattle.tal_meaning.specs.Statements.{step_of, statements_of, else_statements, row_statements}
@@ -88,10 +88,10 @@ module _ (p : Program) (locals : List (List ℕ)) (s : Scope) (all : Files) (agr
         let heads = split parts.0 in
         let counted = split heads.0 in
         let yes_levels = nest_statement (suc n) t (nest_otherwise (suc n) o ls) in
-        let x = stand t (suc n) (stepped w) f (nest_otherwise (suc n) o ls) so_far
+        let x = stand t (suc n) (next_walk w) f (nest_otherwise (suc n) o ls) so_far
         (extends_on more (else_grows (without_files s) o (statement_files (without_files s) f t)))
         heads.1 (levels.after_expr s 33 test (suc n) (suc n ∷ yes_levels) low.1).1 in
-        let y = else_stands o (suc n) (after s (stepped w) t) (statement_files (without_files s) f t) ls x.opened more
+        let y = else_stands o (suc n) (after s (next_walk w) t) (statement_files (without_files s) f t) ls x.opened more
         parts.1
         (levels.after_statement s 33 t (suc n) (nest_otherwise (suc n) o ls)
         (levels.after_expr s 33 test (suc n) (suc n ∷ yes_levels) low.1).1) in
@@ -100,7 +100,7 @@ module _ (p : Program) (locals : List (List ℕ)) (s : Scope) (all : Files) (agr
     stand (g.while_do head test do_at t) n w f ls so_far more none low =
         let parts = split none in
         let counted = split parts.0 in
-        let x = stand t (suc n) (stepped w) f ls so_far more parts.1
+        let x = stand t (suc n) (next_walk w) f ls so_far more parts.1
         (levels.after_expr s 33 test (suc n) (suc n ∷ nest_statement (suc n) t ls) low.1).1 in
         single (loops (refuted (nat_lt 2000 w.number) head (Limit program_limit.Statements) counted.0)
         (fits_test p locals s agreed test (suc n) (suc n ∷ nest_statement (suc n) t ls) low.1) x.inner) x.opened
@@ -113,12 +113,12 @@ module _ (p : Program) (locals : List (List ℕ)) (s : Scope) (all : Files) (agr
         let body_levels = suc n ∷ nest_statement (suc n) t ls in
         let to_levels = nest_step (suc n) step body_levels in
         let low_to = (levels.after_expr s 33 from (suc n) (suc n ∷ nest_expr (suc n) to to_levels) low.1.1.1).1 in
-        let x = stand t (suc n) (stepped (stepped w)) f ls so_far more body.1
+        let x = stand t (suc n) (next_walk (next_walk w)) f ls so_far more body.1
         (levels.after_step s 33 step (suc n) body_levels (levels.after_expr s 33 to (suc n) to_levels low_to)).1 in
         single (counts (named_variable p locals s agreed at name (meaning_of s name) refl named.0)
         (fits_value p locals s agreed from (suc n) (suc n ∷ nest_expr (suc n) to to_levels) low.1.1.1)
         (fits_value p locals s agreed to (suc n) to_levels low_to) (step_fine step steps.1) x.inner
-        (refuted (nat_lt 2000 (after s (stepped (stepped w)) t).number) head (Limit program_limit.Statements)
+        (refuted (nat_lt 2000 (after s (next_walk (next_walk w)) t).number) head (Limit program_limit.Statements)
         parts.1)) x.opened
     stand (g.do_until head t at test) n w f ls so_far more none low =
         let parts = split none in

@@ -24,7 +24,7 @@ use Rattle.tal_rules.specs.Calls.{is_depth}
 use Rattle.tal_names.specs.Systems.{system_of}
 use Rattle.tal_names.specs.Names.{Declarations, is_declared, meaning_in, with_name}
 use Rattle.tal_names.specs.Scopes.{meaning_of}
-use Rattle.tal_rules.specs.Statements.{next_number, next_file, stepped, inside_do}
+use Rattle.tal_rules.specs.Statements.{next_number, next_file, next_walk, inside_do}
 use Rattle.tal_pieces.specs.declared.rank.TestRank.TheVariants as test
 use Rattle.tal_pieces.specs.declared.rank.ValueRank.TheVariants as value
 use Rattle.tal_pieces.proofs.Values.Depths.{value_depth, spot_depth}
@@ -141,7 +141,7 @@ module _ (p : Program) (locals : List (List ℕ)) (s : Scope) where
       -- a statement with its number, which stands within n levels
       pub data Stands : ℕ → Walk → Statement → Walk → Type 0 where
         lone : {n : ℕ} {w : Walk} {line : ℕ} {x : What} → IsCounted w → Lone n x
-            → Stands n w (record { number = w.number; line = line; what = x }) (stepped w)
+            → Stands n w (record { number = w.number; line = line; what = x }) (next_walk w)
         monitors : {n : ℕ} {w : Walk} {line : ℕ} → IsCounted w → suc n ≤ 33 → w.stage ≡ stage.Start
             → Stands n w (record { number = w.number; line = line; what = what.CheckMonitor })
             (record w { number = next_number w.number; stage = stage.Opens })
@@ -155,22 +155,22 @@ module _ (p : Program) (locals : List (List ℕ)) (s : Scope) where
             })
         tests : {n : ℕ} {w v u : Walk} {line : ℕ} {c : Cond} {yes no : List Statement} → IsCounted w
             → FitsTest (suc n) c
-            → StandsIn (suc n) (stepped w) yes v → StandsIn (suc n) v no u
+            → StandsIn (suc n) (next_walk w) yes v → StandsIn (suc n) v no u
             → Stands n w (record { number = w.number; line = line; what = what.If c yes no }) u
         loops : {n : ℕ} {w v : Walk} {line : ℕ} {c : Cond} {body : List Statement} → IsCounted w → FitsTest (suc n) c
-            → StandsIn (suc n) (stepped w) body v
+            → StandsIn (suc n) (next_walk w) body v
             → Stands n w (record { number = w.number; line = line; what = what.While c body }) v
         counts : {n : ℕ} {w v : Walk} {line : ℕ} {x : Variable} {from to : Expr} {down : Bool} {step : ℤ}
             {body : List Statement}
             → IsNamedVariable x
             → FitsValue (suc n) from → FitsValue (suc n) to → int_lt step (pos 1) ≡ false
-            → StandsIn (suc n) (stepped (stepped w)) body v
+            → StandsIn (suc n) (next_walk (next_walk w)) body v
             → IsCounted v
             → Stands n w (record { number = w.number; line = line; what = what.For x from to down step body v.number })
-            (stepped v)
+            (next_walk v)
         repeats : {n : ℕ} {w v : Walk} {line : ℕ} {body : List Statement} {c : Cond} → FitsTest (suc n) c
             → StandsIn (suc n) (inside_do w) body v → IsCounted v
-            → Stands n w (record { number = v.number; line = line; what = what.DoUntil body c }) (stepped v)
+            → Stands n w (record { number = v.number; line = line; what = what.DoUntil body c }) (next_walk v)
 
       -- statements in the place of one
       pub data StandsIn : ℕ → Walk → List Statement → Walk → Type 0 where

@@ -17,7 +17,7 @@ use Rattle.tal_names.specs.Faults.{fault_at, if_so}
 use Rattle.tal_declarations.specs.Files.{statement_files, row_files}
 use Rattle.tal_declarations.specs.Headings.{heading_of, heading_faults, with_heading, locals_of}
 use Rattle.tal_names.specs.Names.{Declarations}
-use Rattle.tal_rules.specs.Texts.{faults, headed_text, files_by, scope_of, entered, stage_at, next_procedure}
+use Rattle.tal_rules.specs.Texts.{faults, headed_text, files_by, scope_of, walk_at_entry, stage_at, next_procedure}
 use Rattle.tal_rules.specs.Texts.{has_word_main, name_place, lacks_monitor, heading_locals_faults, body_after}
 use Rattle.tal_rules.specs.Texts.{body_faults, procedure_faults, after_procedure, procedure_files}
 use Rattle.tal_meaning.specs.Programs.{tree_of, tree_of_procedure, parameters_by, texts_of, body_statements}
@@ -88,7 +88,7 @@ module _ (lines : g.Lines) (all : g.Procedures) (finish : At) (fine : faults (g.
   procedure_back hd pr f (g.procedure h outer begin inner start more end last) levels ks tokens eh ep counted extends
       deep a =
       let s = scope_in lines all pr.count h inner in
-      let w = entered pr h in
+      let w = walk_at_entry pr h in
       let v = body_after s w start more in
       let locals = texts_of (parameters_by h ++ locals_of inner) in
       let body = body_statements s w start more in
@@ -113,7 +113,7 @@ module _ (lines : g.Lines) (all : g.Procedures) (finish : At) (fine : faults (g.
       let fe = first bb.later in
       let fs = first fe.later in
       let scope = scope_of printed_names files.names pr.count hb.heading hb.locals in
-      let walk = entered pr hb.heading in
+      let walk = walk_at_entry pr hb.heading in
       let scope_same : scope ≡ printed_scope s =
       λ i. record {
         globals = printed_names;

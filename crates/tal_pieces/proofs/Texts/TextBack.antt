@@ -21,7 +21,7 @@ use Rattle.tal_rules.specs.Texts.{faults, headed_after, headed_text, files_by, f
 use Rattle.tal_rules.specs.Texts.{main_missing, procedures_faults, first_progress}
 use Rattle.tal_meaning.specs.Programs.{tree_of, items_with, program_by, trees_of}
 use Rattle.tal_pieces.specs.Cuts.{AreTokens, finished}
-use Rattle.tal_pieces.specs.Printed.Procedures.{printed, items_pieces, procedures_pieces, main_pieces}
+use Rattle.tal_pieces.specs.Printed.Procedures.{program_pieces, items_pieces, procedures_pieces, main_pieces}
 use Rattle.tal_pieces.specs.Unlined.{unlined, unlined_procedure, IsSameButForLines}
 use Rattle.tal_pieces.proofs.Scopes.Agreement.{OpenedSoFar, printed_headed}
 use Rattle.tal_pieces.proofs.Declarations.DeclarationsBack.{LinesReadBack, HeadingsReadBack}
@@ -123,7 +123,7 @@ module _ (bodies : (p : Program) (locals : List (List ℕ)) (s : Scope) (f : Fil
     (stand : (p : Program) (locals : List (List ℕ)) (s : Scope) (f : Files) → SourceNames s → BodiesStand p locals s f)
     (agree : ScopesAgree) (simple : FileItemsAreSimple) (headings : HeadingsReadBack) (read_lines : LinesReadBack) where
   pub text_back : (t : g.Text) (tokens : List Token) → faults t ≡ [] → AllAtMost 33 (nest_text t)
-      → AreTokens (printed (tree_of t)) tokens → TextBack t tokens
+      → AreTokens (program_pieces (tree_of t)) tokens → TextBack t tokens
   text_back (g.text lines ps finish) tokens fine deep a =
       let d = with_lines nothing_declared lines in
       let hd = headed_after d in

@@ -19,7 +19,7 @@ use Rattle.tal_names.specs.Places.{name_of_expr, further_arguments, arguments_of
 use Rattle.tal_names.specs.Scopes.{meaning_of}
 use Rattle.tal_declarations.specs.Files.{declared_before, named_in}
 use Rattle.tal_declarations.specs.Globals.{atom_value}
-use Rattle.tal_rules.specs.Statements.{stepped, inside_do, after}
+use Rattle.tal_rules.specs.Statements.{next_walk, inside_do, after}
 use Rattle.tal_meaning.specs.Calls.{value_of_argument, values_of_arguments, values_of, value_at, meaning_by, meaning_at}
 use Rattle.tal_meaning.specs.Calls.{item_by, variable_by, file_by, procedure_by, items_named, files_named, system_what}
 use Rattle.tal_meaning.specs.Calls.{call_what}
@@ -197,19 +197,19 @@ module _ (p : Program) (locals : List (List ℕ)) (names : NamesSpell p) (own : 
     words_statement (g.if_then head test then_at t o) w ks h =
         let c = words_expr p locals names own s fits test (tok.Then then_at ∷ g.of_statement t (g.of_otherwise o ks))
         h.1 in
-        let first = words_statement t (stepped w) (g.of_otherwise o ks) c.later.1 in
-        let second = words_else o (after s (stepped w) t) ks first.1 in (
+        let first = words_statement t (next_walk w) (g.of_otherwise o ks) c.later.1 in
+        let second = words_else o (after s (next_walk w) t) ks first.1 in (
           (
-            spells_if p locals names own (cond_of_expr s test) (statements_of s (stepped w) t)
-                (else_statements s (after s (stepped w) t) o) c.test first.0 second.0,
+            spells_if p locals names own (cond_of_expr s test) (statements_of s (next_walk w) t)
+                (else_statements s (after s (next_walk w) t) o) c.test first.0 second.0,
             tt,
           ),
           second.1,
         )
     words_statement (g.while_do head test do_at t) w ks h =
         let c = words_expr p locals names own s fits test (tok.Do do_at ∷ g.of_statement t ks) h.1 in
-        let body = words_statement t (stepped w) ks c.later.1 in (
-          (spells_while p locals names own (cond_of_expr s test) (statements_of s (stepped w) t) c.test body.0, tt),
+        let body = words_statement t (next_walk w) ks c.later.1 in (
+          (spells_while p locals names own (cond_of_expr s test) (statements_of s (next_walk w) t) c.test body.0, tt),
           body.1,
         )
     words_statement (g.for_do head at name set_at from direction to step do_at t) w ks h =
@@ -218,11 +218,11 @@ module _ (p : Program) (locals : List (List ℕ)) (names : NamesSpell p) (own : 
         let high = words_expr p locals names own s fits to (g.of_step step (tok.Do do_at ∷ g.of_statement t ks))
         low.later.1 in
         let by = words_step s fits step (tok.Do do_at ∷ g.of_statement t ks) high.later in
-        let body = words_statement t (stepped (stepped w)) ks by.1.1 in (
+        let body = words_statement t (next_walk (next_walk w)) ks by.1.1 in (
           (
             spells_for p locals names own (variable_by (meaning_of s name)) (value_of_expr s from) (value_of_expr s to)
-                (is_down direction) (step_of s step) (statements_of s (stepped (stepped w)) t)
-                (after s (stepped (stepped w)) t).number low.value high.value by.0 body.0,
+                (is_down direction) (step_of s step) (statements_of s (next_walk (next_walk w)) t)
+                (after s (next_walk (next_walk w)) t).number low.value high.value by.0 body.0,
             tt,
           ),
           body.1,

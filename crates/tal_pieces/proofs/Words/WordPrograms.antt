@@ -13,7 +13,7 @@ use Rattle.tal_pieces.specs.declared.piece.Piece.TheVariants as piece
 use Rattle.tal_pieces.specs.Cuts.{IsSpellable, AreSpellable}
 use Rattle.tal_pieces.specs.Printed.Procedures.{word_if, shape_pieces, items_pieces, more_names, parameters_pieces}
 use Rattle.tal_pieces.specs.Printed.Procedures.{locals_pieces, heading_pieces, procedure_pieces, procedures_pieces}
-use Rattle.tal_pieces.specs.Printed.Procedures.{main_pieces, printed}
+use Rattle.tal_pieces.specs.Printed.Procedures.{main_pieces, program_pieces}
 use Rattle.tal_pieces.proofs.Words.WordTrees.{NamesSpell, LocalsSpell, SpellsStatement, spells_body}
 use Rattle.tal_pieces.proofs.Common.Entries.{Each, each_take, each_drop}
 
@@ -106,7 +106,7 @@ module _ (p : Program) (names : NamesSpell p) where
   spells_main [] ks h k = k
   spells_main (q ∷ rest) ks h k = spells_procedure true q _ h.0 (spells_procedures rest ks h.1 k)
 
-  pub spells_program : Each ItemSpells p.items → Each (ProcedureSpells p) p.procedures → AreSpellable (printed p)
+  pub spells_program : Each ItemSpells p.items → Each (ProcedureSpells p) p.procedures → AreSpellable (program_pieces p)
   spells_program items procedures =
       spells_items p.items _ items (spells_procedures (take p.main p.procedures) _
       (each_take (ProcedureSpells p) p.main p.procedures procedures)

@@ -31,7 +31,7 @@ use Rattle.tal_pieces.specs.Printed.Names.{named, item_name, variable_name, proc
 use Rattle.tal_pieces.specs.Printed.Names.{target_piece}
 use Rattle.tal_tree.specs.Targets.{receives}
 use Rattle.tal_pieces.specs.Printed.Statements.{step_pieces, what_pieces, inner_pieces, more_statements, body_pieces}
-use Rattle.tal_pieces.specs.Printed.Statements.{more_files, more_items, kept, open_pieces}
+use Rattle.tal_pieces.specs.Printed.Statements.{more_files, more_items, checkpoint_list, open_pieces}
 use Rattle.tal_pieces.proofs.Values.Layers.{pieces_read, pieces_minus, pieces_two, pieces_not, pieces_and, pieces_or}
 use Rattle.tal_pieces.proofs.Values.Layers.{pieces_if, pieces_while, pieces_for, pieces_do}
 use Rattle.tal_pieces.proofs.Common.Entries.{Each}
@@ -303,7 +303,8 @@ module _ (p : Program) (locals : List (List ℕ)) (names : NamesSpell p) (own : 
   more_items_well (item ∷ items) ks k =
       (tt, named_well (item_name p item) _ (names.items item) (more_items_well items ks k))
 
-  kept_well : (items files : List ℕ) (ks : List Piece) → AreSpellable ks → AreSpellable (kept p items files ks)
+  kept_well : (items files : List ℕ) (ks : List Piece) → AreSpellable ks
+      → AreSpellable (checkpoint_list p items files ks)
   kept_well [] [] ks k = k
   kept_well [] (file ∷ files) ks k =
       (tt, named_well (file_name p file) _ (spells_file file) (more_files_well files _ (tt, k)))

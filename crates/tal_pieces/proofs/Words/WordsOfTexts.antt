@@ -24,7 +24,7 @@ use Rattle.tal_declarations.specs.Headings.{heading_of, with_headings}
 use Rattle.tal_names.specs.Names.{Declarations, meaning_in, with_name}
 use Rattle.tal_names.specs.Systems.{system_of}
 use Rattle.tal_rules.specs.Statements.{after}
-use Rattle.tal_rules.specs.Texts.{scope_of, locals_by, entered, next_procedure, after_procedure, first_progress}
+use Rattle.tal_rules.specs.Texts.{scope_of, locals_by, walk_at_entry, next_procedure, after_procedure, first_progress}
 use Rattle.tal_rules.specs.Texts.{headed_after, headed_text, procedure_files, files_from, files_by, no_files}
 use Rattle.tal_meaning.specs.Programs.{shape_by, items_with, texts_of, name_by, parameters_by, trees_of, tree_of}
 use Rattle.tal_meaning.specs.Statements.{statements_of, row_statements}
@@ -171,7 +171,7 @@ module _ (p : Program) (names : NamesSpell p) (globals files : Declarations) (gl
       let s : Scope = scope_of globals files x.count head inner in
       let locals : List (List ℕ) = texts_of (parameters_by head ++ locals_of inner) in
       let fits : ScopeFits s = scope_fits s (own_fit head inner) files_fit globals_fit in
-      let begins : Walk = entered x head in
+      let begins : Walk = walk_at_entry x head in
       let front = words_statement p locals names (spells_each locals w.locals) s fits first begins
       (g.of_row more w.last) w.body in
       let back = words_row p locals names (spells_each locals w.locals) s fits more (after s begins first) w.last

@@ -66,6 +66,6 @@ main_pieces p [] ks = ks
 main_pieces p (q ∷ rest) ks = procedure_pieces p true q (procedures_pieces p rest ks)
 
 -- the pieces of a program's text
-abbrev pub printed : Program → List Piece
-printed p = items_pieces p.items (procedures_pieces p (take p.main p.procedures)
+abbrev pub program_pieces : Program → List Piece
+program_pieces p = items_pieces p.items (procedures_pieces p (take p.main p.procedures)
     (main_pieces p (drop p.main p.procedures) []))

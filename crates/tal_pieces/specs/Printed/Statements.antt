@@ -55,10 +55,10 @@ module _ (p : Program) where
   more_items (item ∷ rest) ks = comma (named (item_name p item) (more_items rest ks))
 
   -- the list of a CHECKPOINT: the items, then the files
-  abbrev pub kept : List ℕ → List ℕ → List Piece → List Piece
-  kept [] [] ks = ks
-  kept [] (file ∷ files) ks = piece.Symbol sign.Open ∷ named (file_name p file) (more_files files (close ks))
-  kept (item ∷ items) files ks =
+  abbrev pub checkpoint_list : List ℕ → List ℕ → List Piece → List Piece
+  checkpoint_list [] [] ks = ks
+  checkpoint_list [] (file ∷ files) ks = piece.Symbol sign.Open ∷ named (file_name p file) (more_files files (close ks))
+  checkpoint_list (item ∷ items) files ks =
       piece.Symbol sign.Open ∷ named (item_name p item) (more_items items (more_files files (close ks)))
 
   abbrev pub open_pieces : Option FileUse → List Piece → List Piece
@@ -114,7 +114,7 @@ module _ (p : Program) (locals : List (List ℕ)) where
     what_pieces (ReadUpdate buffer most got) ks = read_update_pieces buffer most got ks
     what_pieces (Reply buffer count) ks = reply_pieces buffer count ks
     what_pieces (WriteRead file buffer send room got) ks = write_read_pieces file buffer send room got ks
-    what_pieces (Checkpoint items files) ks = called system.Checkpoint (kept p items files ks)
+    what_pieces (Checkpoint items files) ks = called system.Checkpoint (checkpoint_list p items files ks)
     what_pieces CheckMonitor ks = called system.CheckMonitor ks
     what_pieces (Open file) ks = open_pieces p (slice_get p.files file) ks
     what_pieces Stop ks = called system.Stop ks

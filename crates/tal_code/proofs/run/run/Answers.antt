@@ -1,5 +1,5 @@
 use Rattle.std.proofs.Common.{◌≡◌, ◌∷◌, ap, ◌∙◌}
-use Rattle.tal_values.specs.Seen.{seen}
+use Rattle.tal_values.specs.Seen.{memory_now}
 use Rattle.tal_code.specs.declared.step.Instruction.TheVariants.{Load}
 use Rattle.tal_code.proofs.Room.{first-room}
 use Rattle.tal_code.proofs.Tops.{first-load}
@@ -15,6 +15,6 @@ pub returns-in-Load : goal.returns-in-Load
 returns-in-Load c =
     let shape : c.args.steps.now ≡ Load c.in-Load.operand ∷ c.in-Some.rest.now =
     c.in-Some.ensures.cases.0 ∙ ap (λ s. s ∷ c.in-Some.rest.now) c.in-Load.is in
-    first-load (seen c.args.memory) c.in-Load.operand c.args.steps.now c.in-Some.rest.now c.word.result
+    first-load (memory_now c.args.memory) c.in-Load.operand c.args.steps.now c.in-Some.rest.now c.word.result
     c.run_light.result shape
     c.word.ensures c.run_light.ensures

@@ -1,5 +1,5 @@
 use Rattle.std.proofs.Common.{length, sym, subst}
-use Rattle.tal_values.specs.Seen.{seen}
+use Rattle.tal_values.specs.Seen.{memory_now}
 use Rattle.tal_code.specs.Words.{WordStack}
 use Rattle.tal_code.specs.Parts.{Shows, built}
 use Rattle.tal_code.specs.Room.{RoomFrom}
@@ -13,6 +13,6 @@ go_through-requires c = subst (λ (w : WordStack). RoomFrom (length w.below) c.a
 
 pub returns : goal.returns
 returns c =
-    subst (λ w. Shows (seen c.args.memory) (built c.args.steps.now).top w) (sym c.top.ensures)
-    (all-from-nothing (seen c.args.memory) c.args.steps.now c.new-stack.result c.go_through.new.stack
+    subst (λ w. Shows (memory_now c.args.memory) (built c.args.steps.now).top w) (sym c.top.ensures)
+    (all-from-nothing (memory_now c.args.memory) c.args.steps.now c.new-stack.result c.go_through.new.stack
     c.new-stack.ensures c.go_through.ensures)

@@ -4,7 +4,7 @@ use Rattle.tal_syntax.specs.Seen.{seen_expr, seen_direction, seen_step, seen_sta
 use Rattle.tal_syntax.proofs.SeenSteps.{seen-block, seen-if, seen-while, seen-for, seen-do, seen-else}
 use Rattle.tal_tree.specs.declared.statement.Statement.{Statement}
 use Rattle.tal_tree.specs.declared.statement.What.TheVariants as what
-use Rattle.tal_rules.specs.Statements.{stepped, after, after_else}
+use Rattle.tal_rules.specs.Statements.{next_walk, after, after_else}
 use Rattle.tal_rules.proofs.StatementSteps.{block-walk, if-walk}
 use Rattle.tal_meaning.specs.Expressions.{cond_of_expr}
 use Rattle.tal_meaning.specs.Statements.{one, statements_of, else_statements}
@@ -148,16 +148,16 @@ push_statement-returns-in_ok-push_for-in-For-clause-walk t c =
     (seen_step c.in-For.head.step) c.in-For.head.do_at
     (seen_statement x)) (sym c.get-in-For.ensures) in
     c.stepped-in-For-2.ensures
-    ∙ ap stepped (c.in_ok-last-in-For.ensures.walk
+    ∙ ap next_walk (c.in_ok-last-in-For.ensures.walk
     ∙ ap (λ x. after c.args.scope.now x (seen_statement c.get-in-For.result.now))
-    (c.stepped-inside.ensures ∙ ap stepped c.stepped-in-For.ensures))
+    (c.stepped-inside.ensures ∙ ap next_walk c.stepped-in-For.ensures))
     ∙ ap (after c.args.scope.now c.args.walk) (sym seen)
 
 pub push_statement-returns-in_ok-push_for-in-For-clause-statements :
     goal.push_statement-returns-in_ok-push_for-in-For-clause-statements
 push_statement-returns-in_ok-push_for-in-For-clause-statements t c =
-    let inside : c.stepped-inside.result ≡ stepped (stepped c.args.walk) =
-    c.stepped-inside.ensures ∙ ap stepped c.stepped-in-For.ensures in
+    let inside : c.stepped-inside.result ≡ next_walk (next_walk c.args.walk) =
+    c.stepped-inside.ensures ∙ ap next_walk c.stepped-in-For.ensures in
     let seen : seen_statement c.args.statement.now
     ≡ g.for_do c.get-in-For-2.result.now.head c.get-in-For-2.result.now.at c.get-in-For-2.result.now.name
     c.get-in-For-2.result.now.set_at (seen_expr c.get-in-For-2.result.now.from)
@@ -196,7 +196,7 @@ push_statement-returns-in_ok-push_do-in-DoUntil-clause-walk t c =
     ∙ ap (λ x. g.do_until c.in-DoUntil.until.head (seen_statement x) c.in-DoUntil.until.at
     (seen_expr c.in-DoUntil.until.test)) (sym c.get-in-DoUntil.ensures) in
     c.stepped-in-DoUntil.ensures
-    ∙ ap stepped (c.in_ok-last-in-DoUntil.ensures.walk
+    ∙ ap next_walk (c.in_ok-last-in-DoUntil.ensures.walk
     ∙ ap (λ x. after c.args.scope.now x (seen_statement c.get-in-DoUntil.result.now)) c.inside_do.ensures)
     ∙ ap (after c.args.scope.now c.args.walk) (sym seen)
 

@@ -4,7 +4,8 @@ use Rattle.tal_syntax.specs.declared.statement.Next.{Next}
 use Rattle.tal_syntax.specs.Seen.{seen_expr, seen_direction, seen_step, seen_statement, seen_otherwise, seen_row}
 use Rattle.tal_syntax.proofs.SeenSteps.{seen-block, seen-if, seen-while, seen-for, seen-do, seen-else}
 use Rattle.tal_names.specs.Faults.{least}
-use Rattle.tal_rules.specs.Statements.{stepped, after, after_else, after_row, statement_faults, else_faults, row_faults}
+use Rattle.tal_rules.specs.Statements.{next_walk, after, after_else, after_row, statement_faults, else_faults}
+use Rattle.tal_rules.specs.Statements.{row_faults}
 use Rattle.tal_rules.proofs.StatementSteps.{block-walk, block-least, if-walk, if-least, while-least, for-least}
 use Rattle.tal_rules.proofs.StatementSteps.{do-least}
 use Rattle.tal_names.proofs.Turns.{turn_faults, turn_after}
@@ -163,16 +164,16 @@ judge_statement-returns-in_ok-judged-in-For-clause-walk t c =
     (seen_step c.in-For.head.step) c.in-For.head.do_at
     (seen_statement x)) (sym c.get-in-For.ensures) in
     c.stepped-in-For-2.ensures
-    ∙ ap stepped (c.in_ok-judged-in-For.ensures.walk
+    ∙ ap next_walk (c.in_ok-judged-in-For.ensures.walk
     ∙ ap (λ x. after c.args.scope.now x (seen_statement c.get-in-For.result.now))
-    (c.stepped-inside.ensures ∙ ap stepped c.stepped-in-For.ensures))
+    (c.stepped-inside.ensures ∙ ap next_walk c.stepped-in-For.ensures))
     ∙ ap (after c.args.scope.now c.args.walk) (sym seen)
 
 pub judge_statement-returns-in_ok-judged-in-For-clause-least :
     goal.judge_statement-returns-in_ok-judged-in-For-clause-least
 judge_statement-returns-in_ok-judged-in-For-clause-least t c =
-    let inside : c.stepped-inside.result ≡ stepped (stepped c.args.walk) =
-    c.stepped-inside.ensures ∙ ap stepped c.stepped-in-For.ensures in
+    let inside : c.stepped-inside.result ≡ next_walk (next_walk c.args.walk) =
+    c.stepped-inside.ensures ∙ ap next_walk c.stepped-in-For.ensures in
     let seen : seen_statement c.args.statement.now
     ≡ g.for_do c.get-head.result.now.head c.get-head.result.now.at c.get-head.result.now.name
     c.get-head.result.now.set_at (seen_expr c.get-head.result.now.from)
@@ -210,7 +211,7 @@ judge_statement-returns-in_ok-judged-in-DoUntil-clause-walk t c =
     ∙ ap (λ x. g.do_until c.in-DoUntil.until.head (seen_statement x) c.in-DoUntil.until.at
     (seen_expr c.in-DoUntil.until.test)) (sym c.get-in-DoUntil.ensures) in
     c.stepped-in-DoUntil.ensures
-    ∙ ap stepped (c.in_ok-judged-in-DoUntil.ensures.walk
+    ∙ ap next_walk (c.in_ok-judged-in-DoUntil.ensures.walk
     ∙ ap (λ x. after c.args.scope.now x (seen_statement c.get-in-DoUntil.result.now)) c.inside_do.ensures)
     ∙ ap (after c.args.scope.now c.args.walk) (sym seen)
 

@@ -1,7 +1,7 @@
 use Rattle.std.proofs.Common.{◌+◌, ◌*◌, length}
 use Rattle.tal_tree.specs.declared.expression.Cond.{size-Cond}
 use Rattle.tal_values.specs.Chain.{cond_of}
-use Rattle.tal_values.specs.Seen.{seen}
+use Rattle.tal_values.specs.Seen.{memory_now}
 use Rattle.tal_values.proofs.TruthSteps.{Climbs}
 use Rattle.tal_values.proofs.condition.+truth.Given as goal
 
@@ -15,7 +15,7 @@ abbrev pub decreases-truth : goal.decreases-truth
 decreases-truth l = 2 * size-Cond l.cond.now + 1
 
 abbrev pub invariant-truth-loop-link : goal.invariant-truth-loop-link
-invariant-truth-loop-link l = Climbs (seen l.memory) l.left l.links.items l.fn.cond
+invariant-truth-loop-link l = Climbs (memory_now l.memory) l.left l.links.items l.fn.cond
 
 abbrev pub decreases-truth-loop-link : goal.decreases-truth-loop-link
 decreases-truth-loop-link l = length l.links.items

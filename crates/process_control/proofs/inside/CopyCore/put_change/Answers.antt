@@ -1,6 +1,6 @@
 use Rattle.std.proofs.Common.{◌≡◌, true, is_some, sym, ap, subst, ◌∙◌}
 use Rattle.checkpoint_image.specs.declared.receive.ReceiveBlock.{ReceiveBlock}
-use Rattle.computed_changes.specs.sync_ids.specs.Changes.{changed, fits_change}
+use Rattle.computed_changes.specs.sync_ids.specs.Changes.{table_with_change, fits_change}
 use Rattle.process_control.specs.Cores.{CoreAndDepths}
 use Rattle.process_control.proofs.Consistent.{applying}
 use Rattle.process_control.proofs.Tables.{put-table}
@@ -9,7 +9,7 @@ use Rattle.process_control.proofs.inside.CopyCore.put_change.Goals as goal
 pub invariant_of-self-2 : goal.invariant_of-self-2
 invariant_of-self-2 g c =
     let table = put-table (fits_change c.self.inside.receive c.args.change.now.image.receive) c.put_change-fits.result
-    (changed c.self.inside.receive.depths c.self.inside.receive.table c.args.change.now.image.receive)
+    (table_with_change c.self.inside.receive.depths c.self.inside.receive.table c.args.change.now.image.receive)
     c.self.inside.receive.table c.put_change-fits.new.self.table
     c.put_change-fits.ensures.told
     (subst (λ (one : CoreAndDepths). fits_change (record { table = one.core.receive; depths = one.depths })

@@ -1,5 +1,5 @@
 use Rattle.std.proofs.Common.{length, subst}
-use Rattle.node_copies.specs.machine_states.specs.Drives.{turned}
+use Rattle.node_copies.specs.machine_states.specs.Drives.{outcome_of_drive_change}
 use Rattle.node_copies.specs.Seen.{drives_on, sectors_on}
 use Rattle.process_copies.specs.Seen.{Placed}
 use Rattle.process_copies.specs.Turning.{TurnsPlaced}
@@ -12,7 +12,8 @@ returns-clause-process c =
     let before = the_view c.self.inside in
     let sectors = sectors_on c.turn_on.new.device in
     let states = drives_on c.turn_on.new.device in
-    subst (λ (p : Placed). TurnsPlaced (turned c.args.change (length p.pair.sectors) c.args.drive p.drives) p
+    subst (λ (p : Placed). TurnsPlaced (outcome_of_drive_change c.args.change (length p.pair.sectors)
+    c.args.drive p.drives) p
     c.turn_on.result (Standing before sectors states)) c.self.view_is
-    (turns-placed (turned c.args.change (length before.pair.sectors) c.args.drive before.drives) before
+    (turns-placed (outcome_of_drive_change c.args.change (length before.pair.sectors) c.args.drive before.drives) before
     c.turn_on.result sectors states c.turn_on.ensures.sectors c.turn_on.ensures.drives)

@@ -1,14 +1,15 @@
 use Rattle.std.proofs.Common.{◌∙◌, ℕ, Option, ap, slice_get}
 use Rattle.std.specs.Option.{option_and_then}
 use Rattle.node.specs.packet_wires.specs.Lines.{line_pulled}
-use Rattle.node.specs.packet_wires.specs.Wires.{Wires, nothing_sent, ticked}
+use Rattle.node.specs.packet_wires.specs.Wires.{Wires, nothing_sent, midst_after_tick}
 use Rattle.site_machine.specs.Seen.{MachineStanding}
 use Rattle.site_machine.specs.declared.machine.Machine.TheInside.{Inside}
 use Rattle.site_machine.proofs.machine.Machine.line_after_tick.Goals as goal
 
 later : ℕ → ℕ → Wires → Option ℕ
 later processors node wires =
-    option_and_then (line_pulled node) (slice_get (ticked processors node (nothing_sent wires.nodes)).nodes node)
+    option_and_then (line_pulled node) (slice_get
+    (midst_after_tick processors node (nothing_sent wires.nodes)).nodes node)
 
 pub returns : goal.returns
 unfolding later
