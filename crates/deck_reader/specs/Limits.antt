@@ -9,8 +9,9 @@ use Rattle.tal_tree.specs.declared.site.Site.{Site}
 use Rattle.tal_tree.specs.declared.site.TerminalSpec.{TerminalSpec}
 use Rattle.deck_reader.specs.Schedules.{IsLineOf, rounds_of, singles_of}
 use Rattle.deck_reader.specs.declared.deck.Deck.{Deck}
-use Rattle.gd_words.specs.declared.limits.TheConstants.{MOST_MESSAGE_WORDS, MOST_PROCESSES, MOST_PROCESSORS, MOST_REQUESTS}
-use Rattle.gd_words.specs.declared.limits.TheConstants.{MOST_ROUNDS, MOST_SECTORS, MOST_SINGLES, MOST_TERMINALS}
+use Rattle.gd_words.specs.declared.limits.TheConstants.{MOST_MESSAGE_WORDS, MOST_PROCESSES, MOST_PROCESSORS}
+use Rattle.gd_words.specs.declared.limits.TheConstants.{MOST_REQUESTS, MOST_ROUNDS, MOST_SECTORS, MOST_SINGLES}
+use Rattle.gd_words.specs.declared.limits.TheConstants.{MOST_TERMINALS}
 
 -- a disc has 1 to 64 sectors, and the program of a pair keeps its limits
 abbrev pub IsKindWithinLimits : Kind → Type 0
