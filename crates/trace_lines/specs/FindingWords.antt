@@ -65,7 +65,7 @@ loses_text name = codes "the last drive of " ++ name ++ codes " would fail: the 
 abbrev pub drive_text : DriveState → List ℕ
 drive_text Working = codes "the drive works"
 drive_text Failed = codes "the drive has failed"
-drive_text (Reviving mark) = numbered_text (codes "the drive is being revived, next sector ") next []
+drive_text (Reviving next) = numbered_text (codes "the drive is being revived, next sector ") next []
 
 abbrev pub found_text : Site → Places → Finding → List ℕ
 found_text site places finding.Skipped = codes "skipped"
