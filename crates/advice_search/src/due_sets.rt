@@ -1,4 +1,4 @@
-ghost use Rattle.std.specs.Prelude.{◌≡◌, ◌<◌, ◌≤◌, ℕ, length, false, IfOk};
+ghost use Rattle.std.specs.Prelude.{◌≡◌, ◌<◌, ◌≤◌, ◌+◌, ℕ, length, false, IfOk};
 ghost use Rattle.process_semantics.specs.SeenEntries.{entry_of};
 ghost use Rattle.advice.specs.reason_dues.specs.Sets.{has_number};
 ghost use Rattle.advice_search.specs.Gathered.{checkpoint_at, due_at, has_in, AreReadable, AreAdded};
