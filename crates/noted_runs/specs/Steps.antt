@@ -1,6 +1,6 @@
 -- With which step each process ended, as it is noted over the steps of a run. Our own.
 use Rattle.std.specs.Option.{option_map, option_and_then}
-use Rattle.std.specs.Prelude.{ℕ, ℤ, Bool, true, false, List, [], slice_get, slice_set, Option, Some}
+use Rattle.std.specs.Prelude.{ℕ, ℤ, Bool, true, false, if◌then◌else◌, List, [], slice_get, slice_set, Option, Some}
 use Rattle.std.specs.Prelude.{None}
 use Rattle.machine_views.specs.Views.{acting_in, image_of_everything}
 use Rattle.noted_rules.specs.Noted.{Noting}
