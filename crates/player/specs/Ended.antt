@@ -1,5 +1,6 @@
 -- How many rounds were made and how many are left.
 use Rattle.std.specs.Prelude.{ℕ, ◌+◌, ◌==◌, List, [], ◌∷◌, if◌then◌else◌}
+use Rattle.gd_words.specs.declared.limits.TheConstants.{TERMINAL_NODE}
 use Rattle.schedule.specs.declared.event.Event.{Event}
 use Rattle.schedule.specs.declared.event.Event.TheVariants as event
 use Rattle.player.specs.declared.standing.Place.{Place}
@@ -9,9 +10,9 @@ use Rattle.player.specs.declared.standing.MixedPlace.TheVariants as mixed
 use Rattle.player.specs.declared.standing.LinePlace.{LinePlace}
 use Rattle.player.specs.declared.standing.LinePlace.TheVariants as standing
 
--- the tick of node 16 ends a round
+-- the tick of the terminals' node ends a round
 abbrev pub rounds_of_event : Event → ℕ
-rounds_of_event (event.Tick node) = if node == 16 then 1 else 0
+rounds_of_event (event.Tick node) = if node == TERMINAL_NODE then 1 else 0
 rounds_of_event _ = 0
 
 -- how many rounds are ended by events

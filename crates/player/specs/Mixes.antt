@@ -1,6 +1,7 @@
 -- The events of one mixed round, part by part. How often a process runs, and which packet comes next and what becomes
 -- of it, is drawn from the line's own generator. The order and the draws are our own rule.
 use Rattle.std.specs.Prelude.{ℕ, zero, suc, ◌+◌, ◌-◌, ◌/◌, ◌%◌, ◌==◌, nat_lt, Bool, true, false, if◌then◌else◌}
+use Rattle.gd_words.specs.declared.limits.TheConstants.{TERMINAL_NODE}
 use Rattle.rand_pcg.specs.Lcg.{Lcg, started, increment_of}
 use Rattle.rand_pcg.specs.Pcg.{multiplier_64, pcg32}
 use Rattle.schedule.specs.declared.event.Event.{Event}
@@ -27,11 +28,11 @@ drawn draws = (pcg32 (generator draws)).1.state
 abbrev pub turn : Event → MixedPlace → ℕ → MixedTurn
 turn event place draws = record { event = event; place = place; draws = draws }
 
--- the tick of each node: of the processors, rising, and then of node 16, with which the round is over
+-- the tick of each node: of the processors, rising, and then of the terminals' node, with which the round is over
 abbrev pub ticks : Sizes → ℕ → ℕ → MixedTurn
 ticks sizes node draws =
     if nat_lt node sizes.processors then turn (event.Tick node) (place.Ticks (node + 1)) draws else turn
-    (event.Tick 16) place.Before draws
+    (event.Tick TERMINAL_NODE) place.Before draws
 
 -- what becomes of the packet at a position: it is repeated and then delivered, lost, or delivered
 abbrev pub handled : Bool → ℕ → ℕ → ℕ → ℕ → MixedTurn

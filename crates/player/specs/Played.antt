@@ -1,5 +1,6 @@
 -- The events of a line one after another, and values for the guards.
 use Rattle.std.specs.Prelude.{ℕ, true, false, List, [], ◌∷◌, ◌++◌, Option, Some, None, replicate}
+use Rattle.gd_words.specs.declared.limits.TheConstants.{TERMINAL_NODE}
 use Rattle.schedule.specs.declared.event.Event.{Event}
 use Rattle.schedule.specs.declared.event.Event.TheVariants as event
 use Rattle.schedule.specs.declared.event.Counts.{Counts}
@@ -42,7 +43,7 @@ abbrev pub alive_of : ℕ → Counts
 alive_of node = record (packets 2 1) { alive = true; sender = node }
 
 abbrev pub ticks : List Event
-ticks = event.Tick 0 ∷ event.Tick 1 ∷ event.Tick 16 ∷ []
+ticks = event.Tick 0 ∷ event.Tick 1 ∷ event.Tick TERMINAL_NODE ∷ []
 
 -- a round of one process with two packets on bus X and one on bus Y
 abbrev pub round : List Event

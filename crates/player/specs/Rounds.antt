@@ -2,6 +2,7 @@
 -- part with nothing in it is passed over, with the packets that there are when its turn comes. The order is our own
 -- rule.
 use Rattle.std.specs.Prelude.{ℕ, ◌+◌, ◌-◌, nat_lt, true, false, if◌then◌else◌}
+use Rattle.gd_words.specs.declared.limits.TheConstants.{TERMINAL_NODE}
 use Rattle.schedule.specs.declared.event.Event.{Event}
 use Rattle.schedule.specs.declared.event.Event.TheVariants as event
 use Rattle.player.specs.declared.standing.Sizes.{Sizes}
@@ -12,10 +13,10 @@ use Rattle.player.specs.declared.standing.Turn.{Turn}
 abbrev pub turn : Event → Place → Turn
 turn event place = record { event = event; place = place }
 
--- the tick of each node: of the processors, rising, and then of node 16, with which the round is over
+-- the tick of each node: of the processors, rising, and then of the terminals' node, with which the round is over
 abbrev pub ticks : Sizes → ℕ → Turn
 ticks sizes node = if nat_lt node sizes.processors then turn (event.Tick node) (place.Ticks (node + 1)) else turn
-    (event.Tick 16) place.Before
+    (event.Tick TERMINAL_NODE) place.Before
 
 -- bus Y delivers its first packet as often as there were packets when its part began
 abbrev pub delivers_y : Sizes → ℕ → Turn

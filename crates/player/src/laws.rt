@@ -1,4 +1,5 @@
 ghost use Rattle.std.specs.Prelude.{ℕ, ◌≡◌, ◌≤◌, List as Items, Some};
+ghost use Rattle.gd_words.specs.declared.limits.TheConstants.{MOST_PROCESSORS};
 ghost use Rattle.schedule.specs.declared.event.Counts.{Counts};
 ghost use Rattle.schedule.specs.declared.line.Line.TheVariants.{Drain, Mix, Mute};
 ghost use Rattle.player.specs.declared.standing.Sizes.{Sizes};
@@ -17,14 +18,14 @@ pub fn the_aimed_packet_is_concerned()
 {}
 
 /// Whatever happens, a line of rounds ends at most so many, from its beginning or from wherever it stands. There are at
-/// most 16 processors, since the tick of node 16 tells the end of a round.
+/// most as many processors as a site may have, since the tick of the terminals' node tells the end of a round.
 pub fn a_line_ends_its_rounds_at_most()
-    ensures standing { (sizes : Sizes) (standing : LinePlace) (counts : Items Counts) → sizes.processors ≤ 16
-        → rounds_ended (events_from sizes standing counts) ≤ rounds_left standing }
-    ensures drained { (sizes : Sizes) (rounds : ℕ) (counts : Items Counts) → sizes.processors ≤ 16
+    ensures standing { (sizes : Sizes) (standing : LinePlace) (counts : Items Counts)
+        → sizes.processors ≤ MOST_PROCESSORS → rounds_ended (events_from sizes standing counts) ≤ rounds_left standing }
+    ensures drained { (sizes : Sizes) (rounds : ℕ) (counts : Items Counts) → sizes.processors ≤ MOST_PROCESSORS
         → rounds_ended (events_of sizes (Drain rounds) counts) ≤ rounds }
-    ensures muted { (sizes : Sizes) (node rounds : ℕ) (counts : Items Counts) → sizes.processors ≤ 16
+    ensures muted { (sizes : Sizes) (node rounds : ℕ) (counts : Items Counts) → sizes.processors ≤ MOST_PROCESSORS
         → rounds_ended (events_of sizes (Mute node rounds) counts) ≤ rounds }
-    ensures mixed { (sizes : Sizes) (start rounds : ℕ) (counts : Items Counts) → sizes.processors ≤ 16
+    ensures mixed { (sizes : Sizes) (start rounds : ℕ) (counts : Items Counts) → sizes.processors ≤ MOST_PROCESSORS
         → rounds_ended (events_of sizes (Mix start rounds) counts) ≤ rounds }
 {}

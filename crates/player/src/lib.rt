@@ -1,7 +1,8 @@
 //! Which event comes next on a line of a schedule.
 //!
-//! Below stands `schedule` with events, lines and counts. The layer above uses that `Player::next` gives exactly the
-//! events of the definition (`next_event`), and where it need not know whether the machine is idle.
+//! Below stand `schedule` with events, lines and counts, and `gd_words` with the limits. The layer above uses that
+//! `Player::next` gives exactly the events of the definition (`next_event`), and where it need not know whether the
+//! machine is idle.
 #![tactic(auto)]
 
 pub mod guards;

@@ -3,6 +3,7 @@ ghost use Rattle.player.specs.Mixes.{first_draws, word, drawn, ticks, handled, d
 ghost use Rattle.player.specs.Mixes.{runs_from, runs, enters, next_mixed};
 
 use crate::standing::{MixedPlace, MixedTurn, Sizes};
+use gd_words::limits::TERMINAL_NODE;
 use rand_core::utils::NextWord;
 use rand_pcg::Pcg32;
 use schedule::Event;
@@ -173,7 +174,7 @@ fn ticks(sizes: Sizes, node: u8, draws: u64) -> MixedTurn
         }
     } else {
         MixedTurn {
-            event: Event::Tick(16),
+            event: Event::Tick(TERMINAL_NODE),
             place: MixedPlace::Before,
             draws,
         }

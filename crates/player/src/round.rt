@@ -2,6 +2,7 @@ ghost use Rattle.std.specs.Prelude.{◌≡◌};
 ghost use Rattle.player.specs.Rounds.{ticks, delivers_y, delivers_x, runs, enters, next_turn};
 
 use crate::standing::{Place, Sizes, Turn};
+use gd_words::limits::TERMINAL_NODE;
 use schedule::Event;
 
 /// The next event of a round at a place, where `x` and `y` packets are on the buses.
@@ -87,7 +88,7 @@ fn ticks(sizes: Sizes, node: u8) -> Turn
         }
     } else {
         Turn {
-            event: Event::Tick(16),
+            event: Event::Tick(TERMINAL_NODE),
             place: Place::Before,
         }
     }
