@@ -1,4 +1,5 @@
 -- What is drawn of an event, by what it did and what it showed. Our own.
+use Rattle.gd_words.specs.declared.limits.TheConstants.{TERMINAL_NODE}
 use Rattle.std.specs.Prelude.{ℕ}
 use Rattle.chart_drawing.specs.declared.drawn.Drawn.{Drawn}
 use Rattle.chart_drawing.specs.declared.drawn.Drawn.TheVariants as drawn
@@ -63,10 +64,10 @@ drawn_by event (finding.IgnoresCheckpoint process processor number why) = at_cop
 drawn_by event (finding.HearsTaken process processor number) = at_copy Dot process processor
 drawn_by event (finding.Keeps act) = drawn.Nothing
 drawn_by event (finding.HoldsBack act) = drawn.Nothing
-drawn_by event (finding.Enters number) = at_node (Letter 69) 16
+drawn_by event (finding.Enters number) = at_node (Letter 69) TERMINAL_NODE
 drawn_by event (finding.Drive state) = own_drawn event (Letter 68)
 
 -- of something that was shown: W for a write, R for a reply
 abbrev pub drawn_of : Shown → Drawn
 drawn_of (Write process sector words) = at_acting (Letter 87) process
-drawn_of (Reply terminal number words) = at_node (Letter 82) 16
+drawn_of (Reply terminal number words) = at_node (Letter 82) TERMINAL_NODE

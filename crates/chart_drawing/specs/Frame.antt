@@ -5,6 +5,7 @@ use Rattle.std.specs.Prelude.{ℕ, ◌+◌, ◌*◌, nat_lt, if◌then◌else◌
 use Rattle.std.specs.Prelude.{Option, Some, None}
 use Rattle.chart_drawing.specs.Layout.{copy_x, lane_x, top}
 use Rattle.chart_drawing.specs.declared.layout.Layout.{Layout}
+use Rattle.gd_words.specs.declared.limits.TheConstants.{TERMINAL_NODE}
 use Rattle.svg_text.specs.declared.drawing.Group.{Group}
 use Rattle.svg_text.specs.declared.drawing.Shape.{Shape}
 use Rattle.svg_text.specs.declared.drawing.Shape.TheVariants.{Line, Words}
@@ -15,7 +16,7 @@ use Rattle.tal_tree.specs.declared.site.Site.{Site}
 -- Lanes
 
 abbrev pub lane_words : ℕ → List ℕ
-lane_words node = if nat_lt node 16 then codes "processor " ++ decimal node else codes "terminals"
+lane_words node = if nat_lt node TERMINAL_NODE then codes "processor " ++ decimal node else codes "terminals"
 
 abbrev pub lane_shapes : Layout → ℕ → ℕ → List Shape
 lane_shapes layout bottom node =
@@ -27,7 +28,7 @@ processor_lanes layout bottom = flat_map (lane_shapes layout bottom) (range_with
 
 -- that of the terminals is the last one
 abbrev pub all_lanes : Layout → ℕ → List Shape
-all_lanes layout bottom = processor_lanes layout bottom ++ lane_shapes layout bottom 16
+all_lanes layout bottom = processor_lanes layout bottom ++ lane_shapes layout bottom TERMINAL_NODE
 
 -- Names
 

@@ -2,13 +2,14 @@
 -- copies of a processor beside its lane; and from above to below the events, one a row. Our own.
 use Rattle.std.specs.Prelude.{ℕ, ◌+◌, ◌-◌, ◌*◌, ◌≤◌, nat_lt, if◌then◌else◌}
 use Rattle.chart_drawing.specs.declared.layout.Layout.{Layout}
+use Rattle.gd_words.specs.declared.limits.TheConstants.{TERMINAL_NODE}
 use Rattle.svg_text.specs.declared.drawing.Spot.{Spot}
 
 -- Lanes
 
--- node 16 has the terminals
+-- the lane of a node: the terminals' node has the last one
 abbrev pub lane_of : Layout → ℕ → ℕ
-lane_of layout node = if nat_lt node 16 then node else layout.processors
+lane_of layout node = if nat_lt node TERMINAL_NODE then node else layout.processors
 
 abbrev pub pitch : Layout → ℕ
 pitch layout = 100 + 16 * layout.processes
@@ -20,7 +21,7 @@ abbrev pub copy_x : Layout → ℕ → ℕ → ℕ
 copy_x layout process processor = lane_x layout processor + 14 + 16 * process
 
 abbrev pub width : Layout → ℕ
-width layout = lane_x layout 16 + 160
+width layout = lane_x layout TERMINAL_NODE + 160
 
 -- Events
 

@@ -2,6 +2,7 @@
 -- pulls one.
 use Rattle.std.specs.Prelude.{ℕ, zero, suc, ◌+◌, ◌==◌, Option, Some, None, if◌then◌else◌}
 use Rattle.alive_regroup.specs.Watching.{Watching, is_held}
+use Rattle.packet_words.specs.gd_words.specs.declared.limits.TheConstants.{MOST_PROCESSORS}
 use Rattle.packet_wires.specs.Nodes.{Node}
 
 -- of so many processors from one on, the first whose line the node pulls: it isn't the node itself, and all agree that
@@ -13,6 +14,6 @@ first_held node watch processor (suc more) =
     else if is_held processor watch then Some processor
     else first_held node watch (processor + 1) more
 
--- the processor whose line a node pulls, of all 16 that there may be
+-- the processor whose line a node pulls, of all that there may be
 abbrev pub line_pulled : ℕ → Node → Option ℕ
-line_pulled number node = first_held number node.watch 0 16
+line_pulled number node = first_held number node.watch 0 MOST_PROCESSORS

@@ -6,6 +6,7 @@ use Rattle.std.specs.Prelude.{ℕ, zero, suc, ◌+◌, ◌==◌, not, List, [], 
 use Rattle.std.specs.List.{filter}
 use Rattle.std.specs.Option.{option_and_then}
 use Rattle.packet_words.specs.declared.packet.Incarnation.{Incarnation}
+use Rattle.packet_words.specs.gd_words.specs.declared.limits.TheConstants.{MOST_NODES}
 use Rattle.link_control.specs.Ends.{End, new_end, end_after_reload}
 use Rattle.alive_regroup.specs.Watching.{Watching, new_watch, after_up}
 
@@ -23,7 +24,7 @@ numbers first (suc more) = first ∷ numbers (first + 1) more
 -- the numbers that nodes may have: 16 is that of the terminals, and a number below it that of a processor, if the site
 -- has so many
 abbrev pub all_nodes : List ℕ
-all_nodes = numbers 0 17
+all_nodes = numbers 0 MOST_NODES
 
 -- the processors of a site with so many, this node left out
 abbrev pub others : ℕ → ℕ → List ℕ

@@ -3,3 +3,4 @@ pub mod Lines
 pub mod Mixes
 pub mod Played
 pub mod Rounds
+pub use Rattle.gd_words

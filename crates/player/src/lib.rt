@@ -15,6 +15,7 @@ pub mod standing;
 mod step;
 pub mod stop;
 
+pub use gd_words::limits::TERMINAL_NODE;
 pub use player::Player;
 pub use rule::spared;
 pub use standing::{LinePlace, MixedPlace, Place, Rule, Sizes};

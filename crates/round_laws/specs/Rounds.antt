@@ -6,6 +6,7 @@ use Rattle.player.specs.declared.standing.Sizes.{Sizes}
 use Rattle.player.specs.declared.standing.Place.{Place}
 use Rattle.player.specs.declared.standing.Place.TheVariants as place
 use Rattle.player.specs.Lines.{is_before}
+use Rattle.player.specs.gd_words.specs.declared.limits.TheConstants.{TERMINAL_NODE}
 use Rattle.round_laws.specs.Turns.{Turns}
 use Rattle.round_laws.specs.Buses.{delivered_of}
 
@@ -27,15 +28,15 @@ pub data InRound {S P : Type 0} (sizes : Sizes) (buses : S → Bool → List P) 
       → InRound sizes buses goes start came from s → goes s (Fail processor) next
       → InRound sizes buses goes start came from next
 
--- a whole round, from a state to a state: the tick of node 16 ends it
+-- a whole round, from a state to a state: the tick of the terminals' node ends it
 pub record IsWholeRound {S P : Type 0} (sizes : Sizes) (buses : S → Bool → List P) (goes : S → Event → S → Type 0)
     (start next : S) : Type 0 where
   pub came : Bool → List P
   pub from : Place
   pub last : S
   pub made : InRound sizes buses goes start came from last
-  pub turn : TurnsIn sizes buses last from (Tick 16) place.Before
-  pub ended : goes last (Tick 16) next
+  pub turn : TurnsIn sizes buses last from (Tick TERMINAL_NODE) place.Before
+  pub ended : goes last (Tick TERMINAL_NODE) next
 
 -- so many whole rounds, one after the other
 pub data AreRounds {S P : Type 0} (sizes : Sizes) (buses : S → Bool → List P) (goes : S → Event → S → Type 0)

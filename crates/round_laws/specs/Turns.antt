@@ -4,6 +4,7 @@ use Rattle.std.specs.Prelude.{◌≡◌, ◌≤◌, ◌<◌, ℕ, suc, ◌+◌, 
 use Rattle.schedule.specs.declared.event.Event.{Event}
 use Rattle.schedule.specs.declared.event.Event.TheVariants.{Run, Enter, Deliver, Tick}
 use Rattle.player.specs.declared.standing.Sizes.{Sizes}
+use Rattle.player.specs.gd_words.specs.declared.limits.TheConstants.{TERMINAL_NODE}
 use Rattle.player.specs.declared.standing.Place.{Place}
 use Rattle.player.specs.declared.standing.Place.TheVariants as place
 
@@ -58,4 +59,4 @@ pub data Turns (sizes : Sizes) (x y : ℕ) (from : Place) : Event → Place → 
       → Turns sizes x y from (Deliver true 0) (place.Delivers true left)
   ticks : (node : ℕ) → node < sizes.processors → AllCame x y from → ticked from ≡ node
       → Turns sizes x y from (Tick node) (place.Ticks (node + 1))
-  ends : AllCame x y from → sizes.processors ≤ ticked from → Turns sizes x y from (Tick 16) place.Before
+  ends : AllCame x y from → sizes.processors ≤ ticked from → Turns sizes x y from (Tick TERMINAL_NODE) place.Before

@@ -1,6 +1,7 @@
 ghost use Rattle.std.specs.Prelude.{◌≡◌, ◌<◌, ◌+◌, false, true, IfOk};
 ghost use Rattle.std.specs.Bool.{OnTrue};
 ghost use Rattle.schedule.specs.declared.event.Event.TheVariants as events;
+ghost use Rattle.player.specs.gd_words.specs.declared.limits.TheConstants.{TERMINAL_NODE};
 ghost use Rattle.player.specs.Rounds.{turn};
 ghost use Rattle.player.specs.declared.standing.Place.TheVariants as place;
 ghost use Rattle.schedule_loop.specs.Drained.{Drains, IsDrained, IsDueAt, Takes, counted, stood};
@@ -8,7 +9,7 @@ ghost use Rattle.schedule_loop.specs.Drained.{Drains, IsDrained, IsDueAt, Takes,
 use crate::machine::ScheduleMachine;
 use crate::running::tried;
 use machine_states::NoMemory;
-use player::{Place, Sizes};
+use player::{Place, Sizes, TERMINAL_NODE};
 use schedule::Event;
 
 /// Where a drain stands whose rounds are played at once.
@@ -71,7 +72,7 @@ impl Drain {
         if !self.tick(rest, machine)? {
             return Ok(false);
         }
-        self.play(rest, machine, Event::Tick(16), Place::Before)
+        self.play(rest, machine, Event::Tick(TERMINAL_NODE), Place::Before)
     }
 
     /// The terminals enter, and whether that was done is answered.
@@ -227,7 +228,7 @@ impl Drain {
             (M.state machine.new)) }
         ensures whole { IfOk result (λ went. M.is_broken machine.new ≡ false) }
         ensures takes { IfOk result (λ went. OnTrue went (Takes M.rules rest self.new (M.state machine.new)
-            (turn (events.Tick 16) place.Before))) }
+            (turn (events.Tick TERMINAL_NODE) place.Before))) }
     {
         for node in 0..self.sizes.processors {
             if !self.play(rest, machine, Event::Tick(node), Place::Ticks(node + 1))? {

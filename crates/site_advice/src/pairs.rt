@@ -1,4 +1,5 @@
 ghost use Rattle.std.specs.Prelude.{◌≤◌, length, IfOk};
+ghost use Rattle.gd_words.specs.declared.limits.TheConstants.{MOST_PROCESSES};
 ghost use Rattle.verdicts.specs.Judgeable.{AreJudgeable, IsJudgeable, IsJudgeableKind};
 ghost use Rattle.site_advice.specs.Pushed.{IsCause, IsPushed};
 ghost use Rattle.site_advice.specs.SiteAdvised.{IsSiteAdvice, IsUnadvised};
@@ -29,7 +30,7 @@ pub enum SiteAdvice {
 
 /// The advice for the programs of all pairs, or the first program for which there is none.
 pub fn advise_all(alloc: Global, processes: &[ProcessSpec]) -> Result<SiteAdvice, NoMemory>
-    requires few { length processes.now ≤ 16 }
+    requires few { length processes.now ≤ MOST_PROCESSES }
     requires judgeable { AreJudgeable processes.now }
     ensures { IfOk result (λ advised. IsSiteAdvice processes.now advised) }
 {

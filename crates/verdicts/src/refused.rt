@@ -1,4 +1,5 @@
 ghost use Rattle.std.specs.Prelude.{◌≡◌, ◌≤◌, length, IfOk, MatchOption};
+ghost use Rattle.gd_words.specs.declared.limits.TheConstants.{MOST_PROCESSES};
 ghost use Rattle.verdicts.specs.Causes.{IsAcceptedKind, IsCauseOf};
 ghost use Rattle.verdicts.specs.Judgeable.{AreJudgeable, IsJudgeable, IsJudgeableKind};
 ghost use Rattle.verdicts.specs.Refused.{AreAccepted, IsFirstRefused};
@@ -30,7 +31,7 @@ pub fn first_refused(
     alloc: Global,
     processes: &[ProcessSpec],
 ) -> Result<Option<RefusedProgram>, NoMemory>
-    requires few { length processes.now ≤ 16 }
+    requires few { length processes.now ≤ MOST_PROCESSES }
     requires judgeable { AreJudgeable processes.now }
     ensures { IfOk result (λ found. MatchOption found (AreAccepted processes.now)
         (λ refused. IsFirstRefused processes.now refused)) }
