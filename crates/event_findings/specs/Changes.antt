@@ -17,7 +17,8 @@ use Rattle.trace_lines.specs.declared.finding.Finding.TheVariants as finding
 use Rattle.world_semantics.specs.declared.role.Role.{Role}
 use Rattle.world_semantics.specs.declared.role.Role.TheVariants as role
 use Rattle.event_findings.specs.Sets.{sets_found}
-use Rattle.event_findings.specs.Steps.{acting_of, statement_of, step_found, still_of}
+use Rattle.event_findings.specs.Steps.{statement_of, step_found, still_of}
+use Rattle.machine_views.specs.Views.{acting_of}
 
 -- Copies
 

@@ -21,7 +21,7 @@ use Rattle.trace_lines.specs.declared.finding.MessageName.{MessageName}
 use Rattle.trace_lines.specs.declared.finding.MessageName.TheVariants as name
 use Rattle.world_semantics.specs.World.{terminal_node}
 use Rattle.event_findings.specs.Messages.{message_named}
-use Rattle.event_findings.specs.Steps.{acting_of}
+use Rattle.machine_views.specs.Views.{acting_of}
 use Rattle.event_findings.specs.declared.noting.Queued.{Queued}
 
 -- Before the event

@@ -13,7 +13,7 @@ use Rattle.tal_tree.specs.declared.site.ProcessSpec.{ProcessSpec}
 use Rattle.tal_tree.specs.declared.site.Site.{Site}
 use Rattle.trace_lines.specs.declared.finding.Finding.{Finding}
 use Rattle.trace_lines.specs.declared.finding.Finding.TheVariants as finding
-use Rattle.event_findings.specs.Steps.{acting_of}
+use Rattle.machine_views.specs.Views.{acting_of}
 
 abbrev pub set_by : ℕ → WordSet → Finding
 set_by process set = finding.Sets process set.item set.place set.value

@@ -1,6 +1,7 @@
 -- The step that a process made, by the views before it and after it.
-use Rattle.std.specs.Prelude.{ℕ, ◌==◌, Bool, false, if◌then◌else◌, List, [], ◌∷◌, slice_get, Option, Some, None}
+use Rattle.std.specs.Prelude.{ℕ, if◌then◌else◌, List, slice_get, Option, Some, None}
 use Rattle.image_places.specs.Running.{next_in}
+use Rattle.machine_views.specs.Views.{acting_of}
 use Rattle.machine_views.specs.declared.views.CopyView.{CopyView}
 use Rattle.process_semantics.specs.declared.point.Point.{Point}
 use Rattle.process_semantics.specs.declared.point.Point.TheVariants as point
@@ -11,7 +12,6 @@ use Rattle.tal_tree.specs.declared.site.ProcessSpec.{ProcessSpec}
 use Rattle.tal_tree.specs.declared.site.Site.{Site}
 use Rattle.trace_lines.specs.declared.finding.Finding.{Finding}
 use Rattle.trace_lines.specs.declared.finding.Finding.TheVariants as finding
-use Rattle.world_semantics.specs.World.{is_acting}
 
 -- Statements
 
@@ -41,15 +41,6 @@ abbrev pub statement_of : Site → CopyView → Option ℕ
 statement_of site copy = statement_by (slice_get site.processes copy.process) copy
 
 -- Steps
-
--- whether a copy acts for this process
-abbrev pub acts_for : ℕ → CopyView → Bool
-acts_for process copy = if copy.process == process then is_acting copy.role else false
-
--- the copy that acts for a process
-abbrev pub acting_of : ℕ → List CopyView → Option CopyView
-acting_of process [] = None
-acting_of process (copy ∷ copies) = if acts_for process copy then Some copy else acting_of process copies
 
 -- where a process stands still that was to run: one that has sent a checkpoint stands as at its checkpoint
 abbrev pub still_of : Option CopyView → Option Finding

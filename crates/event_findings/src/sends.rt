@@ -6,15 +6,14 @@ ghost use Rattle.event_findings.specs.Sends as spec;
 ghost use Rattle.event_findings.specs.Sends.{before_first, count_at, last_behind, queued_at, queued_for, sender_of};
 ghost use Rattle.event_findings.specs.Sends.{sends, sends_behind, sends_of, sends_since, sends_unless};
 ghost use Rattle.event_findings.specs.Sends.{is_again, is_asked, sends_again, sends_named};
-ghost use Rattle.event_findings.specs.Steps.{acting_of};
+ghost use Rattle.machine_views.specs.Views.{acting_of};
 
 use crate::messages::message_named;
 use crate::noting::Queued;
-use crate::steps::acting_of;
 use gd_words::limits::TERMINAL_NODE;
 use gd_words::{List, NoMemory};
 use link_control::{Channel, Sender};
-use machine_views::{Machine, View};
+use machine_views::{Machine, View, acting_of};
 use schedule::Event;
 use std::alloc::Global;
 use trace_lines::{Finding, MessageName};
@@ -96,7 +95,7 @@ fn sender_of(machine: &Machine, event: Event, view: &View) -> Option<u8>
 fn processor_of(process: u8, view: &View) -> Option<u8>
     ensures { result ≡ spec.processor_of (acting_of process view.now.copies) }
 {
-    let copy = acting_of(process, view.copies.as_slice())?;
+    let copy = acting_of(usize::from(process), view.copies.as_slice())?;
     Some(copy.processor)
 }
 

@@ -3,10 +3,9 @@ ghost use Rattle.std.specs.Option.{option_copied};
 ghost use Rattle.global_changes.specs.Changes.{words_set};
 ghost use Rattle.event_findings.specs.Sets.{set_by, sets_between, sets_by, sets_found, sets_in};
 
-use crate::steps::acting_of;
 use gd_words::{List, NoMemory};
 use global_changes::{WordSet, words_set};
-use machine_views::{CopyView, View};
+use machine_views::{CopyView, View, acting_of};
 use schedule::Event;
 use std::alloc::Global;
 use tal_tree::{Kind, ProcessSpec, Program, Site};
@@ -61,8 +60,8 @@ fn put_sets_by(
             findings,
             process,
             &spec.what,
-            acting_of(process, before),
-            acting_of(process, after),
+            acting_of(usize::from(process), before),
+            acting_of(usize::from(process), after),
         ),
     }
 }

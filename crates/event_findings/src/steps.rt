@@ -1,12 +1,11 @@
 ghost use Rattle.std.specs.Prelude.{◌≡◌, if◌then◌else◌};
-ghost use Rattle.std.specs.Option.{option_copied};
 ghost use Rattle.event_findings.specs.Steps as spec;
-ghost use Rattle.event_findings.specs.Steps.{acting_of, acts_for, checkpoint_step, elsewhere_step, made};
-ghost use Rattle.event_findings.specs.Steps.{statement_at, statement_in, step_at};
+ghost use Rattle.event_findings.specs.Steps.{checkpoint_step, elsewhere_step, made, statement_at, statement_in, step_at};
+ghost use Rattle.machine_views.specs.Views.{acting_of};
 ghost use Rattle.process_semantics.specs.declared.point.Point.TheVariants as point;
 
 use image_places::next_in;
-use machine_views::{CopyView, is_acting};
+use machine_views::{CopyView, acting_of};
 use process_semantics::Point;
 use tal_tree::{Kind, Program, Site};
 use trace_lines::Finding;
@@ -20,32 +19,21 @@ pub(crate) fn step_found(
 ) -> Option<Finding>
     ensures { result ≡ spec.step_found site.now process before.now after.now }
 {
-    match (acting_of(process, before), acting_of(process, after)) {
+    match (
+        acting_of(usize::from(process), before),
+        acting_of(usize::from(process), after),
+    ) {
         (Some(before), Some(after)) => Some(step_at(site, process, before, after)),
         (Some(_), None) => None,
         (None, _) => None,
     }
 }
 
-/// The copy that acts for a process.
-pub(crate) fn acting_of(process: u8, copies: &[CopyView]) -> Option<&CopyView>
-    ensures { option_copied result ≡ acting_of process copies.now }
-{
-    let mut left = copies;
-    while let Some((copy, rest)) = left.split_first() {
-        if acts_for(process, copy) {
-            return Some(copy);
-        }
-        left = rest;
-    }
-    None
-}
-
 /// Where a process stands still that was to run.
 pub(crate) fn still_of(process: u8, copies: &[CopyView]) -> Option<Finding>
-    ensures { result ≡ spec.still_of (spec.acting_of process copies.now) }
+    ensures { result ≡ spec.still_of (acting_of process copies.now) }
 {
-    match acting_of(process, copies) {
+    match acting_of(usize::from(process), copies) {
         None => None,
         Some(copy) => Some(Finding::StandsStill(standing_point(copy))),
     }
@@ -59,16 +47,6 @@ fn standing_point(copy: &CopyView) -> Point
         Point::AtCheckpoint
     } else {
         copy.point
-    }
-}
-
-fn acts_for(process: u8, copy: &CopyView) -> bool
-    ensures { result ≡ acts_for process copy.now }
-{
-    if copy.process == process {
-        is_acting(copy.role)
-    } else {
-        false
     }
 }
 

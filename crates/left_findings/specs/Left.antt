@@ -1,6 +1,7 @@
 -- What is left at the end of a run, by the view of its machine.
-use Rattle.std.specs.Prelude.{◌≡◌, ℕ, ◌+◌, ◌==◌, Bool, false, if◌then◌else◌, is_some, length, nat_lt, List, [], ◌∷◌}
+use Rattle.std.specs.Prelude.{◌≡◌, ℕ, ◌+◌, Bool, false, if◌then◌else◌, is_some, length, nat_lt, List, [], ◌∷◌}
 use Rattle.std.specs.Prelude.{map, slice_get, Option, Some, None}
+use Rattle.machine_views.specs.Views.{acting_of}
 use Rattle.machine_views.specs.declared.views.Awaited.{Awaited}
 use Rattle.machine_views.specs.declared.views.CopyView.{CopyView}
 use Rattle.machine_views.specs.declared.views.TerminalView.{TerminalView}
@@ -10,8 +11,6 @@ use Rattle.process_semantics.specs.declared.point.Point.{Point}
 use Rattle.process_semantics.specs.declared.point.Point.TheVariants as point
 use Rattle.tal_tree.specs.declared.site.ProcessSpec.{ProcessSpec}
 use Rattle.tal_tree.specs.declared.site.Site.{Site}
-use Rattle.world_semantics.specs.declared.role.Role.{Role}
-use Rattle.world_semantics.specs.declared.role.Role.TheVariants as role
 use Rattle.wait_rings.specs.Waits.{TellsRings}
 use Rattle.left_findings.specs.Places.{line_of_copy}
 use Rattle.left_findings.specs.declared.finding.Left.{Left}
@@ -58,22 +57,6 @@ stand_at copy =
     else if copy.renewal then stand_renewing copy copy.point
     else stand_at_point copy copy.point
 
-abbrev pub is_acting_as : ℕ → ℕ → Role → Bool
-is_acting_as process number role.Acting = number == process
-is_acting_as process number role.Watching = false
-is_acting_as process number role.Blank = false
-is_acting_as process number role.Gone = false
-
--- whether a copy acts for this process
-abbrev pub is_acting_of : ℕ → CopyView → Bool
-is_acting_of process copy = is_acting_as process copy.process copy.role
-
--- the copy that acts for this process
-abbrev pub acting_among : ℕ → List CopyView → Option CopyView
-acting_among process [] = None
-acting_among process (copy ∷ copies) =
-    if is_acting_of process copy then Some copy else acting_among process copies
-
 -- the process whose reply a process awaits that stands so
 abbrev pub server_of_stand : Site → ProcessSpec → Stand → Option ℕ
 server_of_stand site spec (stand.AtAwait awaited) =
@@ -102,7 +85,7 @@ left_by site spec (Some copy) = left_acting site spec copy
 
 -- the process of this number
 abbrev pub left_process : Site → List CopyView → ℕ → ProcessSpec → ProcessLeft
-left_process site copies process spec = left_by site spec (acting_among process copies)
+left_process site copies process spec = left_by site spec (acting_of process copies)
 
 -- each of these processes, of which the first has this number
 abbrev pub processes_left : Site → List CopyView → ℕ → List ProcessSpec → List ProcessLeft

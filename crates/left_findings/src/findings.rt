@@ -1,6 +1,5 @@
 ghost use Rattle.std.specs.Prelude.{◌≡◌, ◌++◌, map, IfOk, OnOk};
-ghost use Rattle.std.specs.Option.{option_copied};
-ghost use Rattle.left_findings.specs.Left.{IsLeft, acting_among, is_acting_of, left_acting, left_process};
+ghost use Rattle.left_findings.specs.Left.{IsLeft, left_acting, left_process};
 ghost use Rattle.left_findings.specs.Left.{processes_left, servers_of, stand_at, stand_awaiting, stand_checked};
 ghost use Rattle.left_findings.specs.Left.{stand_at_point, stand_renewing, terminal_left};
 
@@ -8,12 +7,11 @@ use crate::finding::{Left, ProcessLeft, Stand, TerminalLeft};
 use crate::places::line_of_copy;
 use crate::servers::server_of_stand;
 use gd_words::{List, NoMemory};
-use machine_views::{CopyView, TerminalView, View};
+use machine_views::{CopyView, TerminalView, View, acting_of};
 use process_semantics::Point;
 use std::alloc::Global;
 use tal_tree::{ProcessSpec, Site};
 use wait_rings::rings;
-use world_semantics::Role;
 
 /// What is left at the end of a run of a site, by the view of its machine.
 pub fn left_of(alloc: Global, site: &Site, view: &View) -> Result<Left, NoMemory>
@@ -78,7 +76,7 @@ fn left_process(
 ) -> Result<ProcessLeft, NoMemory>
     ensures { IfOk result (λ left. left ≡ left_process site.now copies.now process spec.now) }
 {
-    match acting_among(copies, process) {
+    match acting_of(process, copies) {
         None => Ok(ProcessLeft {
             stand: Stand::AtTakeover,
             server: None,
@@ -108,31 +106,6 @@ fn left_acting(
         in_hand: copy.receive.in_hand.is_some(),
         waiting: copy.waiting.len(),
     })
-}
-
-/// The copy that acts for a process, among all copies.
-fn acting_among(copies: &[CopyView], process: usize) -> Option<&CopyView>
-    ensures { option_copied result ≡ acting_among process copies.now }
-{
-    let mut left = copies;
-    while let Some((copy, rest)) = left.split_first() {
-        if is_acting_of(process, copy) {
-            return Some(copy);
-        }
-        left = rest;
-    }
-    None
-}
-
-fn is_acting_of(process: usize, copy: &CopyView) -> bool
-    ensures { result ≡ is_acting_of process copy.now }
-{
-    match copy.role {
-        Role::Acting => usize::from(copy.process) == process,
-        Role::Watching => false,
-        Role::Blank => false,
-        Role::Gone => false,
-    }
 }
 
 /// Where a copy stands that acts: one that has sent a checkpoint waits until that is acknowledged.

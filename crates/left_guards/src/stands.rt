@@ -5,12 +5,10 @@ ghost use Rattle.process_semantics.specs.declared.point.Point.TheVariants as poi
 ghost use Rattle.tal_tree.specs.declared.site.Kind.TheVariants as kind;
 ghost use Rattle.tal_tree.specs.declared.site.ProcessSpec.{ProcessSpec};
 ghost use Rattle.tal_tree.specs.declared.site.Site.{Site};
-ghost use Rattle.world_semantics.specs.declared.role.Role.TheVariants as role;
 ghost use Rattle.program_ends.specs.Ends.{line_of_number};
 ghost use Rattle.tal_tree.specs.declared.program.Program.{Program};
-ghost use Rattle.left_findings.specs.Left.{acting_among, is_acting_as, left_by, server_of_stand};
-ghost use Rattle.left_findings.specs.Left.{stand_at_point, stand_awaiting, stand_checked, stand_renewing};
-ghost use Rattle.left_findings.specs.Left.{terminal_left};
+ghost use Rattle.left_findings.specs.Left.{left_by, server_of_stand, stand_at_point, stand_awaiting, stand_checked};
+ghost use Rattle.left_findings.specs.Left.{stand_renewing, terminal_left};
 ghost use Rattle.left_findings.specs.Places.{line_of_copy};
 ghost use Rattle.left_findings.specs.declared.finding.Stand.TheVariants as stand;
 ghost use Rattle.left_findings.specs.declared.finding.TerminalLeft.TheVariants as terminal;
@@ -33,15 +31,9 @@ pub fn a_copy_sends_everything_first()
     ensures awaits { (copy : CopyView) → stand_renewing copy point.Await ≡ stand_awaiting copy.awaited }
 {}
 
-/// A process stands where its own copy stands that acts, and without one it waits until another takes over.
-pub fn a_process_stands_by_its_acting_copy()
-    ensures acting { is_acting_as 2 2 role.Acting ≡ true }
-    ensures another { is_acting_as 2 3 role.Acting ≡ false }
-    ensures watching { is_acting_as 2 2 role.Watching ≡ false }
-    ensures blank { is_acting_as 2 2 role.Blank ≡ false }
-    ensures gone { is_acting_as 2 2 role.Gone ≡ false }
-    ensures none { acting_among 2 [] ≡ None }
-    ensures takeover { (site : Site) (spec : ProcessSpec) → left_by site spec None
+/// A process of which no copy acts waits until one takes over.
+pub fn a_process_without_an_acting_copy_waits_for_a_takeover()
+    ensures { (site : Site) (spec : ProcessSpec) → left_by site spec None
         ≡ record { stand = stand.AtTakeover; server = None; line = None; in_hand = false; waiting = 0 } }
 {}
 

@@ -1,7 +1,7 @@
 -- What is told of a world of copies. The world is our own; that a copy's image is told with everything in it, so that
 -- copies of one process can be compared, is our own rule too.
-use Rattle.std.specs.Prelude.{ℕ, zero, suc, ◌+◌, ◌-◌, ℤ, Bool, if◌then◌else◌, nat_lt, List, [], ◌∷◌, ◌++◌, map, Option}
-use Rattle.std.specs.Prelude.{Some, None}
+use Rattle.std.specs.Prelude.{ℕ, zero, suc, ◌+◌, ◌-◌, ◌==◌, ℤ, Bool, false, if◌then◌else◌, nat_lt, List, [], ◌∷◌, ◌++◌}
+use Rattle.std.specs.Prelude.{map, Option, Some, None}
 use Rattle.checkpoint_image.specs.declared.message.FileNumber.{FileNumber}
 use Rattle.disc_device.specs.Sectors.{Stored}
 use Rattle.process_images.specs.Images.{everything_of}
@@ -100,6 +100,15 @@ copy_views process pair =
     if nat_lt pair.second.processor pair.first.processor
     then copy_view process pair.second ∷ copy_view process pair.first ∷ []
     else copy_view process pair.first ∷ copy_view process pair.second ∷ []
+
+-- whether a copy acts for this process
+abbrev pub acts_for : ℕ → CopyView → Bool
+acts_for process copy = if copy.process == process then is_acting copy.role else false
+
+-- the copy that acts for a process, if one does
+abbrev pub acting_of : ℕ → List CopyView → Option CopyView
+acting_of process [] = None
+acting_of process (copy ∷ copies) = if acts_for process copy then Some copy else acting_of process copies
 
 -- Terminals and sectors
 

@@ -20,4 +20,6 @@ pub use laws::{marks_are_told, stopped_processors_are_told};
 pub use process::image_of_everything;
 pub use site_machine::{CopyShare, Machine, Process, ProcessCopies, set_of};
 pub use telling::view;
-pub use views::{Awaited, CopyView, DownView, SectorView, TerminalView, View, is_acting};
+pub use views::{
+    Awaited, CopyView, DownView, SectorView, TerminalView, View, acting_of, is_acting,
+};

@@ -1,4 +1,6 @@
 ghost use Rattle.std.specs.Prelude.{◌≡◌};
+ghost use Rattle.std.specs.Option.{option_copied};
+ghost use Rattle.machine_views.specs.Views.{acting_of, acts_for};
 ghost use Rattle.world_semantics.specs.World.{is_acting};
 
 use checkpoint_image::{FileNumber, ReceiveBlock};
@@ -81,5 +83,29 @@ pub fn is_acting(role: Role) -> bool
         Role::Watching => false,
         Role::Blank => false,
         Role::Gone => false,
+    }
+}
+
+/// The copy that acts for the process of a number, among these.
+pub fn acting_of(process: usize, copies: &[CopyView]) -> Option<&CopyView>
+    ensures { option_copied result ≡ acting_of process copies.now }
+{
+    let mut left = copies;
+    while let Some((copy, rest)) = left.split_first() {
+        if acts_for(process, copy) {
+            return Some(copy);
+        }
+        left = rest;
+    }
+    None
+}
+
+fn acts_for(process: usize, copy: &CopyView) -> bool
+    ensures { result ≡ acts_for process copy.now }
+{
+    if usize::from(copy.process) == process {
+        is_acting(copy.role)
+    } else {
+        false
     }
 }

@@ -1,4 +1,4 @@
-ghost use Rattle.std.specs.Prelude.{◌≡◌, [], ◌∷◌, ◌-◌, true, false, Some, None};
+ghost use Rattle.std.specs.Prelude.{◌≡◌, List, [], ◌∷◌, ◌-◌, true, false, Some, None};
 ghost use Rattle.gd_words.specs.declared.message.Request.{Request};
 ghost use Rattle.checkpoint_image.specs.declared.receive.ReceiveBlock.{ReceiveBlock};
 ghost use Rattle.process_semantics.specs.Process.{ProcessState, Runs, Serves, asked_file, point};
@@ -7,11 +7,12 @@ ghost use Rattle.process_semantics.specs.declared.disc.DiscState.{DiscState};
 ghost use Rattle.process_semantics.specs.declared.point.Point.TheVariants.{Await, Take};
 ghost use Rattle.processes.specs.Seen.{next_number_of};
 ghost use Rattle.tal_tree.specs.declared.statement.Statement.{Statement};
-ghost use Rattle.world_semantics.specs.declared.role.Role.TheVariants.{Acting, Watching};
+ghost use Rattle.world_semantics.specs.declared.role.Role.TheVariants.{Acting, Blank, Gone, Watching};
 ghost use Rattle.world_semantics.specs.World.{World};
 ghost use Rattle.world_semantics.specs.Core.{Core, next_on};
-ghost use Rattle.machine_views.specs.Views.{awaited_view_at, awaited_view, copy_view, image_of_everything, downs_in};
-ghost use Rattle.machine_views.specs.Views.{sector_views, terminal_view, view_of};
+ghost use Rattle.machine_views.specs.Views.{acting_of, acts_for, awaited_view_at, awaited_view, copy_view, downs_in};
+ghost use Rattle.machine_views.specs.Views.{image_of_everything, sector_views, terminal_view, view_of};
+ghost use Rattle.machine_views.specs.declared.views.CopyView.{CopyView};
 ghost use Rattle.machine_views.specs.site_machine.specs.Stopped.{stopped_from};
 ghost use Rattle.view_guards.specs.Copies.{acting, core_of, framed, watching};
 
@@ -51,6 +52,20 @@ pub fn a_copy_is_told_field_by_field()
           receive = table;
           waiting = b ∷ [];
         } }
+{}
+
+/// A process has the first of its own copies that acts, and none if none acts.
+pub fn a_process_has_its_copy_that_acts()
+    ensures acting { (copy : CopyView) → acts_for 2 (record copy { process = 2; role = Acting }) ≡ true }
+    ensures another { (copy : CopyView) → acts_for 2 (record copy { process = 3; role = Acting }) ≡ false }
+    ensures watching { (copy : CopyView) → acts_for 2 (record copy { process = 2; role = Watching }) ≡ false }
+    ensures blank { (copy : CopyView) → acts_for 2 (record copy { process = 2; role = Blank }) ≡ false }
+    ensures gone { (copy : CopyView) → acts_for 2 (record copy { process = 2; role = Gone }) ≡ false }
+    ensures none { acting_of 2 [] ≡ None }
+    ensures first { (copy : CopyView) (copies : List CopyView) → acts_for 2 copy ≡ true
+        → acting_of 2 (copy ∷ copies) ≡ Some copy }
+    ensures next { (copy : CopyView) (copies : List CopyView) → acts_for 2 copy ≡ false
+        → acting_of 2 (copy ∷ copies) ≡ acting_of 2 copies }
 {}
 
 /// A program does next what stands first in the procedure that runs, whatever comes behind it and in its callers:

@@ -1,6 +1,6 @@
 use Rattle.std.proofs.Common.{◌≡◌, length}
-use Rattle.event_findings.specs.Steps.{acting_of}
-use Rattle.event_findings.proofs.steps.acting_of.Given as goal
+use Rattle.machine_views.specs.Views.{acting_of}
+use Rattle.machine_views.proofs.views.acting_of.Given as goal
 
 abbrev pub invariant-loop-copy : goal.invariant-loop-copy
 invariant-loop-copy l = acting_of l.process l.left ≡ acting_of l.process l.copies
