@@ -1,9 +1,9 @@
 //! What is found of the programs of a site's pairs: whether each is accepted, or the cause for which it is refused and
 //! which statements lead to it, and what mends it.
 //!
-//! Below stand `discipline` with the verdict, `advise` with the advice, `statement_dues` with what statements make due
-//! and what CHECKPOINTs name, and `statement_lines`. The layer above uses `findings_of`, whose clause is `AreFindings`
-//! of `specs/Findings.antt`.
+//! Below stand `discipline` with the verdict, `advice_search` with the advice, `statement_dues` with what statements
+//! make due and what CHECKPOINTs name, and `statement_lines`. The layer above uses `findings_of`, whose clause is
+//! `AreFindings` of `specs/Findings.antt`.
 #![tactic(auto)]
 
 pub mod finding;

@@ -54,8 +54,8 @@ impl MachineParts {
         }
     }
 
-    /// Delivers the first packet of a bus, if it is an I'm-alive packet, and answers whether it was. In line, so that it
-    /// is found once where the packet stands on that bus.
+    /// Delivers the first packet of a bus, if it is an I'm-alive packet, and answers whether it was. In line, so that
+    /// it is found once where the packet stands on that bus.
     #[inline(always)]
     fn deliver_first(&mut self, bus: BusName) -> bool
         ensures alive { result ≡ is_some (alive_address (slice_get (on_bus bus self.old.wires) 0)) }
