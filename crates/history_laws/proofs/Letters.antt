@@ -4,23 +4,25 @@ use Rattle.std.proofs.Common.{length, slice_get, Option, Some, None, refl, ap, a
 use Rattle.schedule.specs.declared.event.Event.{Event}
 use Rattle.schedule.specs.declared.event.Event.TheVariants.{Deliver, Drive, Enter, Fail, Lose, Reload, Repeat, Run}
 use Rattle.schedule.specs.declared.event.Event.TheVariants.{Tick}
-use Rattle.packet_wires.specs.world_semantics.specs.Messages.{Sending}
-use Rattle.packet_wires.specs.world_semantics.specs.Running.{Done, run_done}
-use Rattle.packet_wires.specs.world_semantics.specs.World.{World, is_running}
-use Rattle.packet_wires.specs.computed_changes.specs.Entered.{enter_done}
-use Rattle.packet_wires.specs.computed_changes.specs.Handed.{handed_done}
-use Rattle.packet_wires.specs.computed_changes.specs.Stopped.{down_done, reload_done, stop_done}
-use Rattle.packet_wires.specs.letters.specs.Again.{sent_again}
-use Rattle.packet_wires.specs.letters.specs.Routes.{Letter, letters_of}
-use Rattle.packet_wires.specs.machine_states.specs.States.{Makes, Played, Skips, Would}
-use Rattle.packet_wires.specs.message_wires.specs.Examples.{end_of, state_after}
-use Rattle.packet_wires.specs.message_wires.specs.Play.{MachineState, after_any, after_done, deliver_played}
-use Rattle.packet_wires.specs.message_wires.specs.Play.{fail_played, is_admitted, lose_played, made_by, marked_by}
-use Rattle.packet_wires.specs.message_wires.specs.Play.{marks_from, packet_at, play, reload_played, repeat_played}
-use Rattle.packet_wires.specs.message_wires.specs.Play.{state_after_handing, state_after_receiving, state_after_tick}
-use Rattle.packet_wires.specs.message_wires.specs.Play.{stop_played, tick_played}
-use Rattle.packet_wires.specs.message_wires.specs.Wires.{Sent, Wires, is_current, paid, paid_between, repeated_packet}
-use Rattle.packet_wires.specs.message_wires.specs.Wires.{wires_after_posts, wires_after_reload, without_packet}
+use Rattle.schedule_loop.specs.world_semantics.specs.Messages.{Sending}
+use Rattle.schedule_loop.specs.world_semantics.specs.Running.{Done, run_done}
+use Rattle.schedule_loop.specs.world_semantics.specs.World.{World, is_running}
+use Rattle.packet_runs.specs.packet_wires.specs.computed_changes.specs.Entered.{enter_done}
+use Rattle.packet_runs.specs.packet_wires.specs.computed_changes.specs.Handed.{handed_done}
+use Rattle.packet_runs.specs.packet_wires.specs.computed_changes.specs.Stopped.{down_done, reload_done, stop_done}
+use Rattle.packet_runs.specs.packet_wires.specs.letters.specs.Again.{sent_again}
+use Rattle.packet_runs.specs.packet_wires.specs.letters.specs.Routes.{Letter, letters_of}
+use Rattle.schedule_loop.specs.machine_states.specs.States.{Makes, Played, Skips, Would}
+use Rattle.packet_runs.specs.packet_wires.specs.message_wires.specs.Examples.{end_of, state_after}
+use Rattle.packet_runs.specs.packet_wires.specs.message_wires.specs.Play.{MachineState, after_any, after_done}
+use Rattle.packet_runs.specs.packet_wires.specs.message_wires.specs.Play.{deliver_played, fail_played, is_admitted}
+use Rattle.packet_runs.specs.packet_wires.specs.message_wires.specs.Play.{lose_played, made_by, marked_by, marks_from}
+use Rattle.packet_runs.specs.packet_wires.specs.message_wires.specs.Play.{packet_at, play, reload_played, repeat_played}
+use Rattle.packet_runs.specs.packet_wires.specs.message_wires.specs.Play.{state_after_handing, state_after_receiving}
+use Rattle.packet_runs.specs.packet_wires.specs.message_wires.specs.Play.{state_after_tick, stop_played, tick_played}
+use Rattle.packet_runs.specs.packet_wires.specs.message_wires.specs.Wires.{Sent, Wires, is_current, paid, paid_between}
+use Rattle.packet_runs.specs.packet_wires.specs.message_wires.specs.Wires.{repeated_packet, wires_after_posts}
+use Rattle.packet_runs.specs.packet_wires.specs.message_wires.specs.Wires.{wires_after_reload, without_packet}
 use Rattle.history_laws.specs.Present.{present, present_played, present_state}
 use Rattle.history_laws.proofs.Presents.{state-twice, world-twice}
 use Rattle.history_laws.proofs.Routes.{again-present, letters-present}

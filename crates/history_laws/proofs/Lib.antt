@@ -1,8 +1,10 @@
+pub mod Idle
 pub mod Letters
 pub mod Messages
 pub mod Packets
 pub mod Presents
 pub mod Routes
+pub mod Schedules
 pub mod States
 pub mod Steps
 pub mod Worlds

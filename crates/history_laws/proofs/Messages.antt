@@ -4,27 +4,29 @@ use Rattle.std.specs.Prelude.{nat_lt}
 use Rattle.checkpoint_image.specs.gd_words.specs.declared.message.Reply.{Reply}
 use Rattle.checkpoint_image.specs.gd_words.specs.declared.message.Request.{Request}
 use Rattle.checkpoint_image.specs.tal_tree.specs.declared.site.Site.{Site}
-use Rattle.packet_wires.specs.change_layout.specs.declared.message.ChangeMessage.{ChangeMessage}
+use Rattle.packet_runs.specs.packet_wires.specs.change_layout.specs.declared.message.ChangeMessage.{ChangeMessage}
 use Rattle.checkpoint_image.specs.declared.message.ImageMessage.{ImageMessage}
 use Rattle.checkpoint_image.specs.declared.message.TakenMessage.{TakenMessage}
-use Rattle.packet_wires.specs.plain_semantics.specs.process_semantics.specs.Process as process
-use Rattle.packet_wires.specs.world_semantics.specs.declared.role.Role.{Role}
-use Rattle.packet_wires.specs.world_semantics.specs.declared.role.Role.TheVariants.{Acting, Blank, Gone, Watching}
-use Rattle.packet_wires.specs.world_semantics.specs.declared.which.Which.{Which}
-use Rattle.packet_wires.specs.world_semantics.specs.declared.which.Which.TheVariants.{First, Second}
-use Rattle.packet_wires.specs.world_semantics.specs.Core.{Core}
-use Rattle.packet_wires.specs.world_semantics.specs.Kept.{own_acts}
-use Rattle.packet_wires.specs.world_semantics.specs.Messages.{Asking, Checkpointing, Message, Replying, Taking}
-use Rattle.packet_wires.specs.world_semantics.specs.Records.{Records}
-use Rattle.packet_wires.specs.world_semantics.specs.Running.{Stepped}
-use Rattle.packet_wires.specs.world_semantics.specs.World.{Pair}
-use Rattle.packet_wires.specs.computed_changes.specs.Changed.{change_step, change_step_on, whole_at}
-use Rattle.packet_wires.specs.computed_changes.specs.Checkpoints.{applied_step, applied_step_where, checkpoint_step}
-use Rattle.packet_wires.specs.computed_changes.specs.Checkpoints.{core_as, is_of_last, taken_step, taken_step_where}
-use Rattle.packet_wires.specs.computed_changes.specs.Fitting.{depths_of}
-use Rattle.packet_wires.specs.computed_changes.specs.Handed.{copy_in, step_by, step_on}
-use Rattle.packet_wires.specs.computed_changes.specs.Replies.{awaits, reply_step, reply_step_where}
-use Rattle.packet_wires.specs.computed_changes.specs.Requests.{early_step, request_step}
+use Rattle.schedule_loop.specs.world_semantics.specs.process_semantics.specs.Process as process
+use Rattle.schedule_loop.specs.world_semantics.specs.declared.role.Role.{Role}
+use Rattle.schedule_loop.specs.world_semantics.specs.declared.role.Role.TheVariants.{Acting, Blank, Gone, Watching}
+use Rattle.schedule_loop.specs.world_semantics.specs.declared.which.Which.{Which}
+use Rattle.schedule_loop.specs.world_semantics.specs.declared.which.Which.TheVariants.{First, Second}
+use Rattle.schedule_loop.specs.world_semantics.specs.Core.{Core}
+use Rattle.schedule_loop.specs.world_semantics.specs.Kept.{own_acts}
+use Rattle.schedule_loop.specs.world_semantics.specs.Messages.{Asking, Checkpointing, Message, Replying, Taking}
+use Rattle.schedule_loop.specs.world_semantics.specs.Records.{Records}
+use Rattle.schedule_loop.specs.world_semantics.specs.Running.{Stepped}
+use Rattle.schedule_loop.specs.world_semantics.specs.World.{Pair}
+use Rattle.packet_runs.specs.packet_wires.specs.computed_changes.specs.Changed.{change_step, change_step_on, whole_at}
+use Rattle.packet_runs.specs.packet_wires.specs.computed_changes.specs.Checkpoints.{applied_step, applied_step_where}
+use Rattle.packet_runs.specs.packet_wires.specs.computed_changes.specs.Checkpoints.{checkpoint_step, core_as}
+use Rattle.packet_runs.specs.packet_wires.specs.computed_changes.specs.Checkpoints.{is_of_last, taken_step}
+use Rattle.packet_runs.specs.packet_wires.specs.computed_changes.specs.Checkpoints.{taken_step_where}
+use Rattle.packet_runs.specs.packet_wires.specs.computed_changes.specs.Fitting.{depths_of}
+use Rattle.packet_runs.specs.packet_wires.specs.computed_changes.specs.Handed.{copy_in, step_by, step_on}
+use Rattle.packet_runs.specs.packet_wires.specs.computed_changes.specs.Replies.{awaits, reply_step, reply_step_where}
+use Rattle.packet_runs.specs.packet_wires.specs.computed_changes.specs.Requests.{early_step, request_step}
 use Rattle.history_laws.specs.Present.{present_pair}
 use Rattle.history_laws.proofs.Presents.{recent-twice}
 use Rattle.history_laws.proofs.Steps.{present_records, present_step, present_steps}

@@ -7,28 +7,31 @@ use Rattle.schedule.specs.declared.event.Event.TheVariants.{Deliver, Drive, Ente
 use Rattle.schedule.specs.declared.event.Event.TheVariants.{Tick}
 use Rattle.packet_words.specs.declared.bus_name.BusName.{BusName}
 use Rattle.packet_words.specs.declared.packet.Packet.{Packet}
-use Rattle.packet_wires.specs.world_semantics.specs.Messages.{Sending}
-use Rattle.packet_wires.specs.world_semantics.specs.Running.{Done, run_done}
-use Rattle.packet_wires.specs.world_semantics.specs.World.{World, is_running}
-use Rattle.packet_wires.specs.computed_changes.specs.Changed.{change_done}
-use Rattle.packet_wires.specs.computed_changes.specs.Entered.{enter_done}
-use Rattle.packet_wires.specs.computed_changes.specs.Handed.{handed_done}
-use Rattle.packet_wires.specs.computed_changes.specs.Stopped.{down_done, reload_done, stop_done}
-use Rattle.packet_wires.specs.letters.specs.Again.{sent_again}
-use Rattle.packet_wires.specs.letters.specs.Routes.{Letter, letters_of}
-use Rattle.packet_wires.specs.message_layout.specs.Messages.{Carrying, Changing, Declaring, NodeMessage, Reporting}
-use Rattle.packet_wires.specs.message_layout.specs.Reading.{understood}
-use Rattle.packet_wires.specs.machine_states.specs.States.{Makes, Played, Skips, Would}
-use Rattle.packet_wires.specs.Nodes.{end_at}
-use Rattle.packet_wires.specs.Parcels.{Parcel, parcels_of}
-use Rattle.packet_wires.specs.Play.{Packeted, Underway, acted, after_any, after_done, comes_in, declared, deliver_acted}
-use Rattle.packet_wires.specs.Play.{ended, fail_acted, handed, handed_any, handed_words, line_of, lose_acted, made_by}
-use Rattle.packet_wires.specs.Play.{marked_by, marks, marks_and_declares, message_at_end, out_of, packet_at, play}
-use Rattle.packet_wires.specs.Play.{pulled, pulled_running, pulls, pulls_its, received, reload_acted, repeat_acted}
-use Rattle.packet_wires.specs.Play.{sent_by, stop_acted, taken_off, tick_acted, underway}
-use Rattle.packet_wires.specs.Sights.{end_of, state_after}
-use Rattle.packet_wires.specs.Wires.{Midst, Wires, all_posted, bus_named, cut_off, goes_over, loaded_again}
-use Rattle.packet_wires.specs.Wires.{midst_after_arrival, midst_after_tick}
+use Rattle.schedule_loop.specs.world_semantics.specs.Messages.{Sending}
+use Rattle.schedule_loop.specs.world_semantics.specs.Running.{Done, run_done}
+use Rattle.schedule_loop.specs.world_semantics.specs.World.{World, is_running}
+use Rattle.packet_runs.specs.packet_wires.specs.computed_changes.specs.Changed.{change_done}
+use Rattle.packet_runs.specs.packet_wires.specs.computed_changes.specs.Entered.{enter_done}
+use Rattle.packet_runs.specs.packet_wires.specs.computed_changes.specs.Handed.{handed_done}
+use Rattle.packet_runs.specs.packet_wires.specs.computed_changes.specs.Stopped.{down_done, reload_done, stop_done}
+use Rattle.packet_runs.specs.packet_wires.specs.letters.specs.Again.{sent_again}
+use Rattle.packet_runs.specs.packet_wires.specs.letters.specs.Routes.{Letter, letters_of}
+use Rattle.packet_runs.specs.packet_wires.specs.message_layout.specs.Messages.{Carrying, Changing, Declaring}
+use Rattle.packet_runs.specs.packet_wires.specs.message_layout.specs.Messages.{NodeMessage, Reporting}
+use Rattle.packet_runs.specs.packet_wires.specs.message_layout.specs.Reading.{understood}
+use Rattle.schedule_loop.specs.machine_states.specs.States.{Makes, Played, Skips, Would}
+use Rattle.packet_runs.specs.packet_wires.specs.Nodes.{end_at}
+use Rattle.packet_runs.specs.packet_wires.specs.Parcels.{Parcel, parcels_of}
+use Rattle.packet_runs.specs.packet_wires.specs.Play.{Packeted, Underway, acted, after_any, after_done, comes_in}
+use Rattle.packet_runs.specs.packet_wires.specs.Play.{declared, deliver_acted, ended, fail_acted, handed, handed_any}
+use Rattle.packet_runs.specs.packet_wires.specs.Play.{handed_words, line_of, lose_acted, made_by, marked_by, marks}
+use Rattle.packet_runs.specs.packet_wires.specs.Play.{marks_and_declares, message_at_end, out_of, packet_at, play}
+use Rattle.packet_runs.specs.packet_wires.specs.Play.{pulled, pulled_running, pulls, pulls_its, received, reload_acted}
+use Rattle.packet_runs.specs.packet_wires.specs.Play.{repeat_acted, sent_by, stop_acted, taken_off, tick_acted}
+use Rattle.packet_runs.specs.packet_wires.specs.Play.{underway}
+use Rattle.packet_runs.specs.packet_wires.specs.Sights.{end_of, state_after}
+use Rattle.packet_runs.specs.packet_wires.specs.Wires.{Midst, Wires, all_posted, bus_named, cut_off, goes_over}
+use Rattle.packet_runs.specs.packet_wires.specs.Wires.{loaded_again, midst_after_arrival, midst_after_tick}
 use Rattle.history_laws.specs.Present.{present, present_played, present_state}
 use Rattle.history_laws.proofs.Presents.{state-twice, world-twice}
 use Rattle.history_laws.proofs.States.{driven-by, made-alike, world-alike}

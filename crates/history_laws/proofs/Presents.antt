@@ -1,8 +1,8 @@
 -- The present of what is its own present already, and of a process among others.
 use Rattle.std.proofs.Common.{◌≡◌, ℕ, zero, suc, List, [], ◌∷◌, map, take, slice_get, slice_set, refl, ap, ap₂}
 use Rattle.std.proofs.Common.{option_map}
-use Rattle.packet_wires.specs.world_semantics.specs.World.{Pair, World}
-use Rattle.packet_wires.specs.machine_states.specs.States.{State}
+use Rattle.schedule_loop.specs.world_semantics.specs.World.{Pair, World}
+use Rattle.schedule_loop.specs.machine_states.specs.States.{State}
 use Rattle.history_laws.specs.Present.{present, present_pair, present_state, recent}
 
 pub recent-twice : {A : Type 0} (l : List A) → recent (recent l) ≡ recent l

@@ -10,19 +10,22 @@ use Rattle.checkpoint_image.specs.tal_tree.specs.declared.site.Who.{Who}
 use Rattle.checkpoint_image.specs.tal_tree.specs.declared.site.Who.TheVariants as who
 use Rattle.checkpoint_image.specs.declared.message.ImageMessage.{ImageMessage}
 use Rattle.checkpoint_image.specs.declared.receive.ReceiveBlock.{ReceiveBlock}
-use Rattle.packet_wires.specs.plain_semantics.specs.Openers.{openers_of}
-use Rattle.packet_wires.specs.world_semantics.specs.declared.which.Which.{Which}
-use Rattle.packet_wires.specs.world_semantics.specs.declared.which.Which.TheVariants.{First, Second}
-use Rattle.packet_wires.specs.world_semantics.specs.Messages.{Asking, Checkpointing, Message, Replying, Sending, Taking}
-use Rattle.packet_wires.specs.world_semantics.specs.World.{Copy, Down, Pair, Terminal, World, terminal_node}
-use Rattle.packet_wires.specs.computed_changes.specs.Changed.{checkpoint_before, one_before, sent_before}
-use Rattle.packet_wires.specs.letters.specs.Again.{asks_again, awaited_by, awaited_from, if_acts_on, is_at, is_moved}
-use Rattle.packet_wires.specs.letters.specs.Again.{is_rerouted, kept_for, kept_from, of_copies, of_terminals, rerouted}
-use Rattle.packet_wires.specs.letters.specs.Again.{sent_again, tells_again, terminals_ask}
-use Rattle.packet_wires.specs.letters.specs.Routes.{Letter, end_of, home_of, letter_of, letters_of, other_end}
-use Rattle.packet_wires.specs.letters.specs.Routes.{receiver_of, route_of, route_to}
-use Rattle.packet_wires.specs.message_layout.specs.Messages.{NodeMessage}
-use Rattle.packet_wires.specs.Parcels.{Parcel, form_after, form_of, parcel_of, parcels_of}
+use Rattle.schedule_loop.specs.world_semantics.specs.plain_semantics.specs.Openers.{openers_of}
+use Rattle.schedule_loop.specs.world_semantics.specs.declared.which.Which.{Which}
+use Rattle.schedule_loop.specs.world_semantics.specs.declared.which.Which.TheVariants.{First, Second}
+use Rattle.schedule_loop.specs.world_semantics.specs.Messages.{Asking, Checkpointing, Message, Replying, Sending}
+use Rattle.schedule_loop.specs.world_semantics.specs.Messages.{Taking}
+use Rattle.schedule_loop.specs.world_semantics.specs.World.{Copy, Down, Pair, Terminal, World, terminal_node}
+use Rattle.packet_runs.specs.packet_wires.specs.computed_changes.specs.Changed.{checkpoint_before, one_before}
+use Rattle.packet_runs.specs.packet_wires.specs.computed_changes.specs.Changed.{sent_before}
+use Rattle.packet_runs.specs.packet_wires.specs.letters.specs.Again.{asks_again, awaited_by, awaited_from, if_acts_on}
+use Rattle.packet_runs.specs.packet_wires.specs.letters.specs.Again.{is_at, is_moved, is_rerouted, kept_for, kept_from}
+use Rattle.packet_runs.specs.packet_wires.specs.letters.specs.Again.{of_copies, of_terminals, rerouted, sent_again}
+use Rattle.packet_runs.specs.packet_wires.specs.letters.specs.Again.{tells_again, terminals_ask}
+use Rattle.packet_runs.specs.packet_wires.specs.letters.specs.Routes.{Letter, end_of, home_of, letter_of, letters_of}
+use Rattle.packet_runs.specs.packet_wires.specs.letters.specs.Routes.{other_end, receiver_of, route_of, route_to}
+use Rattle.packet_runs.specs.packet_wires.specs.message_layout.specs.Messages.{NodeMessage}
+use Rattle.packet_runs.specs.packet_wires.specs.Parcels.{Parcel, form_after, form_of, parcel_of, parcels_of}
 use Rattle.history_laws.specs.Present.{present, present_pair, recent}
 use Rattle.history_laws.proofs.Presents.{get-present}
 

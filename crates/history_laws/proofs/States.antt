@@ -2,11 +2,11 @@
 use Rattle.std.proofs.Common.{◌≡◌, List, Option, Some, None, refl, ap, ap₂, sym, ◌∙◌, map, option_map, slice_get}
 use Rattle.std.proofs.Common.{slice_set}
 use Rattle.schedule.specs.declared.event.DriveEvent.{DriveEvent}
-use Rattle.packet_wires.specs.machine_states.specs.disc_device.specs.mirror.specs.declared.state.DriveState.{DriveState}
-use Rattle.packet_wires.specs.machine_states.specs.Drives.{Loses, Rests, Turned, Turns, drives_turned, turned_at}
-use Rattle.packet_wires.specs.machine_states.specs.States.{Makes, State, drive_played, played_turn}
-use Rattle.packet_wires.specs.world_semantics.specs.Running.{Done, world_after}
-use Rattle.packet_wires.specs.world_semantics.specs.World.{Pair, World}
+use Rattle.schedule_loop.specs.machine_states.specs.disc_device.specs.mirror.specs.declared.state.DriveState as drive
+use Rattle.schedule_loop.specs.machine_states.specs.Drives.{Loses, Rests, Turned, Turns, drives_turned, turned_at}
+use Rattle.schedule_loop.specs.machine_states.specs.States.{Makes, State, drive_played, played_turn}
+use Rattle.schedule_loop.specs.world_semantics.specs.Running.{Done, world_after}
+use Rattle.schedule_loop.specs.world_semantics.specs.World.{Pair, World}
 use Rattle.history_laws.specs.Present.{present, present_pair, present_played, present_state}
 use Rattle.history_laws.proofs.Presents.{get-present, state-twice, world-twice}
 use Rattle.history_laws.proofs.Worlds.{present_changes}
@@ -29,14 +29,14 @@ world-alike one other same = ap (λ (done : Option Done). world_after (present o
 
 -- Drives
 
-drives-present : (event : DriveEvent) (pairs : List Pair) (drives : List (List DriveState))
+drives-present : (event : DriveEvent) (pairs : List Pair) (drives : List (List drive.DriveState))
     → drives_turned event (map present_pair pairs) drives ≡ drives_turned event pairs drives
 drives-present event pairs drives =
     ap (λ (found : Option Pair). turned_at event found (slice_get drives event.process))
     (get-present pairs event.process)
     ∙ by (slice_get pairs event.process) (slice_get drives event.process)
   where
-    by : (found : Option Pair) (states : Option (List DriveState))
+    by : (found : Option Pair) (states : Option (List drive.DriveState))
         → turned_at event (option_map present_pair found) states ≡ turned_at event found states
     by None states = refl
     by (Some pair) None = refl

@@ -7,24 +7,24 @@ use Rattle.checkpoint_image.specs.tal_tree.specs.declared.site.Site.{Site}
 use Rattle.checkpoint_image.specs.tal_tree.specs.declared.site.OpenerSpec.{OpenerSpec}
 use Rattle.checkpoint_image.specs.declared.receive.OpenerBlock.{OpenerBlock}
 use Rattle.checkpoint_image.specs.Receive.{Chosen, choice_among}
-use Rattle.packet_wires.specs.plain_semantics.specs.process_semantics.specs.declared.point.Point.{Point}
-use Rattle.packet_wires.specs.plain_semantics.specs.process_semantics.specs.declared.point.Point.TheVariants as point
-use Rattle.packet_wires.specs.plain_semantics.specs.process_semantics.specs.Process as process
-use Rattle.packet_wires.specs.plain_semantics.specs.Openers.{openers_of}
-use Rattle.packet_wires.specs.world_semantics.specs.declared.role.Role.{Role}
-use Rattle.packet_wires.specs.world_semantics.specs.declared.role.Role.TheVariants.{Acting, Blank, Gone, Watching}
-use Rattle.packet_wires.specs.world_semantics.specs.Core.{Core}
-use Rattle.packet_wires.specs.world_semantics.specs.Own.{Around, around_with, is_new_write}
-use Rattle.packet_wires.specs.world_semantics.specs.Records.{Records}
-use Rattle.packet_wires.specs.world_semantics.specs.Running.{Own, Stepped, after_call, around_write, ending_step}
-use Rattle.packet_wires.specs.world_semantics.specs.Running.{first_step, free_step, own_answer, own_answer_at, own_at}
-use Rattle.packet_wires.specs.world_semantics.specs.Running.{own_device, own_of, own_step, own_take, own_took}
-use Rattle.packet_wires.specs.world_semantics.specs.Running.{passing_step, renewing_step, sending_step, step_as}
-use Rattle.packet_wires.specs.world_semantics.specs.Running.{step_at, step_at_checkpoint, step_if, step_of}
-use Rattle.packet_wires.specs.world_semantics.specs.Running.{step_of_copy}
-use Rattle.packet_wires.specs.world_semantics.specs.declared.which.Which.{Which}
-use Rattle.packet_wires.specs.world_semantics.specs.declared.which.Which.TheVariants.{First, Second}
-use Rattle.packet_wires.specs.world_semantics.specs.World.{Down, Pair, copy_of, has_marked, may_pass, other_of}
+use Rattle.schedule_loop.specs.world_semantics.specs.process_semantics.specs.declared.point.Point.{Point}
+use Rattle.schedule_loop.specs.world_semantics.specs.process_semantics.specs.declared.point.Point.TheVariants as point
+use Rattle.schedule_loop.specs.world_semantics.specs.process_semantics.specs.Process as process
+use Rattle.schedule_loop.specs.world_semantics.specs.plain_semantics.specs.Openers.{openers_of}
+use Rattle.schedule_loop.specs.world_semantics.specs.declared.role.Role.{Role}
+use Rattle.schedule_loop.specs.world_semantics.specs.declared.role.Role.TheVariants.{Acting, Blank, Gone, Watching}
+use Rattle.schedule_loop.specs.world_semantics.specs.Core.{Core}
+use Rattle.schedule_loop.specs.world_semantics.specs.Own.{Around, around_with, is_new_write}
+use Rattle.schedule_loop.specs.world_semantics.specs.Records.{Records}
+use Rattle.schedule_loop.specs.world_semantics.specs.Running.{Own, Stepped, after_call, around_write, ending_step}
+use Rattle.schedule_loop.specs.world_semantics.specs.Running.{first_step, free_step, own_answer, own_answer_at, own_at}
+use Rattle.schedule_loop.specs.world_semantics.specs.Running.{own_device, own_of, own_step, own_take, own_took}
+use Rattle.schedule_loop.specs.world_semantics.specs.Running.{passing_step, renewing_step, sending_step, step_as}
+use Rattle.schedule_loop.specs.world_semantics.specs.Running.{step_at, step_at_checkpoint, step_if, step_of}
+use Rattle.schedule_loop.specs.world_semantics.specs.Running.{step_of_copy}
+use Rattle.schedule_loop.specs.world_semantics.specs.declared.which.Which.{Which}
+use Rattle.schedule_loop.specs.world_semantics.specs.declared.which.Which.TheVariants.{First, Second}
+use Rattle.schedule_loop.specs.world_semantics.specs.World.{Down, Pair, copy_of, has_marked, may_pass, other_of}
 use Rattle.history_laws.specs.Present.{present_pair}
 use Rattle.history_laws.proofs.Presents.{newest-twice, recent-twice}
 

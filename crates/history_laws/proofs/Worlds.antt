@@ -8,29 +8,34 @@ use Rattle.checkpoint_image.specs.tal_tree.specs.declared.site.Site.{Site}
 use Rattle.checkpoint_image.specs.tal_tree.specs.declared.site.ProcessSpec.{ProcessSpec}
 use Rattle.checkpoint_image.specs.tal_tree.specs.declared.site.Who.{Who}
 use Rattle.checkpoint_image.specs.tal_tree.specs.declared.site.Who.TheVariants as who
-use Rattle.packet_wires.specs.change_layout.specs.declared.message.ChangeMessage.{ChangeMessage}
-use Rattle.packet_wires.specs.plain_semantics.specs.declared.slot.Opener.{Opener}
-use Rattle.packet_wires.specs.plain_semantics.specs.Machine.{next_request}
-use Rattle.packet_wires.specs.plain_semantics.specs.Openers.{opener_of, openers_of}
-use Rattle.packet_wires.specs.world_semantics.specs.declared.which.Which.{Which}
-use Rattle.packet_wires.specs.world_semantics.specs.declared.which.Which.TheVariants.{First, Second}
-use Rattle.packet_wires.specs.world_semantics.specs.Core.{Core}
-use Rattle.packet_wires.specs.world_semantics.specs.Messages.{Asking, Checkpointing, Message, Replying, Sending, Taking}
-use Rattle.packet_wires.specs.world_semantics.specs.Records.{records_of}
-use Rattle.packet_wires.specs.world_semantics.specs.Rules.{most_reloads, new_core, pair_after_down, pair_at_down}
-use Rattle.packet_wires.specs.world_semantics.specs.Rules.{reloaded_at, reloaded_by, reloaded_from, renewals_ended}
-use Rattle.packet_wires.specs.world_semantics.specs.Rules.{stopped_pair, takeover_sendings, taker, told_at_down}
-use Rattle.packet_wires.specs.world_semantics.specs.Running.{Done, Stepped, in_world, run_done, run_pair, step_of}
-use Rattle.packet_wires.specs.world_semantics.specs.World.{Pair, Terminal, World, is_marked_by_all, is_pair_of}
-use Rattle.packet_wires.specs.world_semantics.specs.World.{is_whole, terminal_node}
-use Rattle.packet_wires.specs.computed_changes.specs.Changed.{change_brought, change_brought_to, change_done}
-use Rattle.packet_wires.specs.computed_changes.specs.Changed.{change_step_on}
-use Rattle.packet_wires.specs.computed_changes.specs.Entered.{enter_at, enter_done, enter_to, enter_where}
-use Rattle.packet_wires.specs.computed_changes.specs.Handed.{brought, brought_to, handed_done, replied_done, step_on}
-use Rattle.packet_wires.specs.computed_changes.specs.Replies.{awaits_at, printed_at, printed_done, printed_where}
-use Rattle.packet_wires.specs.computed_changes.specs.Stopped.{down_done, mark_where, marked_where, may_mark}
-use Rattle.packet_wires.specs.computed_changes.specs.Stopped.{reload_counted, reload_done, reload_if, reload_where}
-use Rattle.packet_wires.specs.computed_changes.specs.Stopped.{stop_done, stop_if, stop_where}
+use Rattle.packet_runs.specs.packet_wires.specs.change_layout.specs.declared.message.ChangeMessage.{ChangeMessage}
+use Rattle.schedule_loop.specs.world_semantics.specs.plain_semantics.specs.declared.slot.Opener.{Opener}
+use Rattle.schedule_loop.specs.world_semantics.specs.plain_semantics.specs.Machine.{next_request}
+use Rattle.schedule_loop.specs.world_semantics.specs.plain_semantics.specs.Openers.{opener_of, openers_of}
+use Rattle.schedule_loop.specs.world_semantics.specs.declared.which.Which.{Which}
+use Rattle.schedule_loop.specs.world_semantics.specs.declared.which.Which.TheVariants.{First, Second}
+use Rattle.schedule_loop.specs.world_semantics.specs.Core.{Core}
+use Rattle.schedule_loop.specs.world_semantics.specs.Messages.{Asking, Checkpointing, Message, Replying, Sending}
+use Rattle.schedule_loop.specs.world_semantics.specs.Messages.{Taking}
+use Rattle.schedule_loop.specs.world_semantics.specs.Records.{records_of}
+use Rattle.schedule_loop.specs.world_semantics.specs.Rules.{most_reloads, new_core, pair_after_down, pair_at_down}
+use Rattle.schedule_loop.specs.world_semantics.specs.Rules.{reloaded_at, reloaded_by, reloaded_from, renewals_ended}
+use Rattle.schedule_loop.specs.world_semantics.specs.Rules.{stopped_pair, takeover_sendings, taker, told_at_down}
+use Rattle.schedule_loop.specs.world_semantics.specs.Running.{Done, Stepped, in_world, run_done, run_pair, step_of}
+use Rattle.schedule_loop.specs.world_semantics.specs.World.{Pair, Terminal, World, is_marked_by_all, is_pair_of}
+use Rattle.schedule_loop.specs.world_semantics.specs.World.{is_whole, terminal_node}
+use Rattle.packet_runs.specs.packet_wires.specs.computed_changes.specs.Changed.{change_brought, change_brought_to}
+use Rattle.packet_runs.specs.packet_wires.specs.computed_changes.specs.Changed.{change_done, change_step_on}
+use Rattle.packet_runs.specs.packet_wires.specs.computed_changes.specs.Entered.{enter_at, enter_done, enter_to}
+use Rattle.packet_runs.specs.packet_wires.specs.computed_changes.specs.Entered.{enter_where}
+use Rattle.packet_runs.specs.packet_wires.specs.computed_changes.specs.Handed.{brought, brought_to, handed_done}
+use Rattle.packet_runs.specs.packet_wires.specs.computed_changes.specs.Handed.{replied_done, step_on}
+use Rattle.packet_runs.specs.packet_wires.specs.computed_changes.specs.Replies.{awaits_at, printed_at, printed_done}
+use Rattle.packet_runs.specs.packet_wires.specs.computed_changes.specs.Replies.{printed_where}
+use Rattle.packet_runs.specs.packet_wires.specs.computed_changes.specs.Stopped.{down_done, mark_where, marked_where}
+use Rattle.packet_runs.specs.packet_wires.specs.computed_changes.specs.Stopped.{may_mark, reload_counted, reload_done}
+use Rattle.packet_runs.specs.packet_wires.specs.computed_changes.specs.Stopped.{reload_if, reload_where, stop_done}
+use Rattle.packet_runs.specs.packet_wires.specs.computed_changes.specs.Stopped.{stop_if, stop_where}
 use Rattle.history_laws.specs.Present.{present, present_pair}
 use Rattle.history_laws.proofs.Presents.{get-present, pairs-twice, set-present, world-twice}
 use Rattle.history_laws.proofs.Messages.{change-present, message-present}
@@ -188,7 +193,7 @@ enter-present site number w = by (slice_get w.terminals number)
 -- Stops
 
 -- what changes each process by itself changes its present so
-each-present : (change : Pair → Pair) → ((pair : Pair) → present_pair (change pair) ≡ change (present_pair pair))
+pub each-present : (change : Pair → Pair) → ((pair : Pair) → present_pair (change pair) ≡ change (present_pair pair))
     → (pairs : List Pair) → map present_pair (map change pairs) ≡ map change (map present_pair pairs)
 each-present change same [] = refl
 each-present change same (pair ∷ pairs) =

@@ -2,8 +2,8 @@
 -- process its checkpoints and the messages that those were taken, since its rules and laws speak of them. The last two
 -- checkpoints of a process are of the present: the last one goes as what changed since the one before it.
 use Rattle.std.specs.Prelude.{List, [], map, take}
-use Rattle.packet_wires.specs.world_semantics.specs.World.{Pair, World}
-use Rattle.packet_wires.specs.machine_states.specs.States.{Makes, Played, Skips, State, Would}
+use Rattle.schedule_loop.specs.world_semantics.specs.World.{Pair, World}
+use Rattle.schedule_loop.specs.machine_states.specs.States.{Makes, Played, Skips, State, Would}
 
 -- of checkpoints, the newest first, the last two
 abbrev pub recent : {A : Type 0} → List A → List A

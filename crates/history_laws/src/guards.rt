@@ -1,10 +1,10 @@
 //! What the present of a world and of a state has.
 ghost use Rattle.std.specs.Prelude.{◌≡◌, [], ◌∷◌};
 ghost use Rattle.checkpoint_image.specs.declared.message.ImageMessage.{ImageMessage};
-ghost use Rattle.packet_wires.specs.world_semantics.specs.World.{Pair, World};
-ghost use Rattle.packet_wires.specs.machine_states.specs.States.{Harm, Makes, Skips, Would};
-ghost use Rattle.packet_wires.specs.Play.{Packeted};
-ghost use Rattle.packet_wires.specs.Wires.{Wires};
+ghost use Rattle.schedule_loop.specs.world_semantics.specs.World.{Pair, World};
+ghost use Rattle.schedule_loop.specs.machine_states.specs.States.{Harm, Makes, Skips, Would};
+ghost use Rattle.packet_runs.specs.packet_wires.specs.Play.{Packeted};
+ghost use Rattle.packet_runs.specs.packet_wires.specs.Wires.{Wires};
 ghost use Rattle.history_laws.specs.Present.{present, present_played, present_state};
 
 /// The present of a world has of each process its copies, its base, its sectors, the copy that leads and its last two

@@ -1,10 +1,10 @@
-//! That nothing reads what was sent.
+//! That no event reads what was sent, but for the last two checkpoints of each process.
 ghost use Rattle.std.specs.Prelude.{◌≡◌, List};
 ghost use Rattle.schedule.specs.declared.event.Event.{Event};
-ghost use Rattle.packet_wires.specs.message_wires.specs.Play as message;
-ghost use Rattle.packet_wires.specs.message_wires.specs.Examples as message_run;
-ghost use Rattle.packet_wires.specs.Play.{Packeted, play, sent_by};
-ghost use Rattle.packet_wires.specs.Sights.{end_of};
+ghost use Rattle.packet_runs.specs.packet_wires.specs.message_wires.specs.Play as message;
+ghost use Rattle.packet_runs.specs.packet_wires.specs.message_wires.specs.Examples as message_run;
+ghost use Rattle.packet_runs.specs.packet_wires.specs.Play.{Packeted, play, sent_by};
+ghost use Rattle.packet_runs.specs.packet_wires.specs.Sights.{end_of};
 ghost use Rattle.history_laws.specs.Present.{present_played, present_state};
 
 /// What an event makes of a state over packets, and what it sends, doesn't depend on what was sent before, but for the
@@ -25,7 +25,7 @@ pub fn no_run_reads_what_was_sent()
 
 /// Over whole messages too, what an event makes is the same for all states that have one present. Whatever events are
 /// played from them, the states at their end have one.
-pub fn nothing_over_whole_messages_reads_what_was_sent()
+pub fn no_event_over_whole_messages_reads_what_was_sent()
     ensures made { (s : message.MachineState) (event : Event)
         → present_played (message.play s event) ≡ present_played (message.play (present_state s) event) }
     ensures alike { (s other : message.MachineState) (event : Event) → present_state s ≡ present_state other
