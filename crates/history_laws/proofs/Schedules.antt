@@ -1,6 +1,6 @@
 -- What is counted, the close of a run, and the runs of a schedule, of states that have one present.
 use Rattle.std.proofs.Common.{◌≡◌, ℕ, ◌+◌, Bool, true, false, List, [], ◌∷◌, ◌++◌, length, map, Option, Some, None}
-use Rattle.std.proofs.Common.{◌⊎◌, inl, inr, refl, ap, ap₂, sym, ◌∙◌}
+use Rattle.std.proofs.Common.{inl, inr, refl, ap, ap₂, sym, ◌∙◌}
 use Rattle.std.proofs.Math.Path.{fun_ext}
 use Rattle.agendas.specs.Agendas.{Agenda, Plan}
 use Rattle.checkpoint_image.specs.tal_tree.specs.declared.act.Act.{Act}
@@ -12,7 +12,7 @@ use Rattle.player.specs.declared.stop.ProcessorStop.{ProcessorStop}
 use Rattle.schedule.specs.declared.event.Counts.{Counts}
 use Rattle.schedule.specs.declared.event.Event.{Event}
 use Rattle.schedule.specs.declared.line.Line.{Line}
-use Rattle.schedule_loop.specs.Ends.{Course, EndsBy, IsRunOn, Plays, RunsOutBy, RunsToHarmBy, planned_in}
+use Rattle.schedule_loop.specs.Ends.{Course, IsRunOn, Plays, RunsOutBy, RunsToHarmBy, planned_in}
 use Rattle.schedule_loop.specs.Plans.{Sight, seen_none, seen_on, upcoming_seen}
 use Rattle.schedule_loop.specs.declared.ran.Ending.{Ending}
 use Rattle.schedule_loop.specs.declared.ran.Ending.TheVariants.{Cut, Idle, Lost, Second}
@@ -20,7 +20,7 @@ use Rattle.schedule_loop.specs.Rules.{IsPlayBy, PlaysBy, sight_of}
 use Rattle.schedule_loop.specs.machine_states.specs.States.{DiscLoss, Harm, Makes, Played, SecondStop, Skips, Would}
 use Rattle.schedule_loop.specs.world_semantics.specs.Shares.{closed_by, closed_by_all, let_go}
 use Rattle.schedule_loop.specs.world_semantics.specs.World.{Pair, World}
-use Rattle.packet_runs.specs.Runs.{concerned, counts_of, is_alive, packet_meant, packet_rules, sender_of}
+use Rattle.packet_runs.specs.Runs.{counts_of, is_alive, packet_meant, packet_rules, sender_of}
 use Rattle.packet_runs.specs.node_copies.specs.ShownCounts.{replies_in, writes_in}
 use Rattle.packet_runs.specs.packet_wires.specs.Idle.{is_idle}
 use Rattle.packet_runs.specs.packet_wires.specs.Play.{Packeted, count_on, play}
@@ -180,11 +180,11 @@ module _ (sizes : Sizes) (lines : List Line) (stop : Option ProcessorStop) (othe
 abbrev pub from : Course Wires → Packeted → Course Wires
 from course other = record course { start = other }
 
--- a run of the schedule from the other state ended so, and left a state with this present
-abbrev pub EndsTo : Course Wires → Packeted → Bool → Packeted → ℕ → Ending → Type 0
-EndsTo course other is_broken left asked ending =
-    (rest : Packeted) × IsRunOn packet_rules (from course other) is_broken rest asked ending
-    × (present_state left ≡ present_state rest)
+-- a run of the schedule from the other state played these events, ended so, and left a state with this present
+abbrev pub EndsTo : Course Wires → Packeted → Bool → List Event → Packeted → ℕ → Ending → Type 0
+EndsTo course other is_broken events left asked ending =
+    (rest : Packeted) × (run : IsRunOn packet_rules (from course other) is_broken rest asked ending)
+    × (run.events ≡ events) × (present_state left ≡ present_state rest)
 
 module _ (course : Course Wires) (other : Packeted)
     (alike : present_state course.start ≡ present_state other) where
@@ -224,7 +224,8 @@ module _ (course : Course Wires) (other : Packeted)
       )
 
   pub ends-too : (is_broken : Bool) (left : Packeted) (asked : ℕ) (ending : Ending)
-      → IsRunOn packet_rules course is_broken left asked ending → EndsTo course other is_broken left asked ending
+      → (ran : IsRunOn packet_rules course is_broken left asked ending)
+      → EndsTo course other is_broken ran.events left asked ending
   ends-too is_broken left asked Idle ran =
       let out = outs-too ran.events ran.state ran.ends.0 in (
         closed_state out.0,
@@ -235,6 +236,7 @@ module _ (course : Course Wires) (other : Packeted)
           whole = ran.whole;
           ends = (out.1, sym (idle-alike ran.state out.0 out.2) ∙ ran.ends.1, refl, ran.ends.3);
         },
+        refl,
         ap (λ (one : Packeted). present_state one) ran.ends.2 ∙ closed-alike ran.state out.0 out.2,
       )
   ends-too is_broken left asked Cut ran =
@@ -247,6 +249,7 @@ module _ (course : Course Wires) (other : Packeted)
           whole = ran.whole;
           ends = (out.1, sym (idle-alike ran.state out.0 out.2) ∙ ran.ends.1, refl, ran.ends.3);
         },
+        refl,
         ap (λ (one : Packeted). present_state one) ran.ends.2 ∙ out.2,
       )
   ends-too is_broken left asked (Second processor) ran =
@@ -259,6 +262,7 @@ module _ (course : Course Wires) (other : Packeted)
           whole = ran.whole;
           ends = (to.1, refl, ran.ends.2);
         },
+        refl,
         ap (λ (one : Packeted). present_state one) ran.ends.1 ∙ to.2,
       )
   ends-too is_broken left asked (Lost process) ran =
@@ -271,5 +275,6 @@ module _ (course : Course Wires) (other : Packeted)
           whole = ran.whole;
           ends = (to.1, refl, ran.ends.2);
         },
+        refl,
         ap (λ (one : Packeted). present_state one) ran.ends.1 ∙ to.2,
       )

@@ -2,9 +2,9 @@
 //! messages; and why no run of a schedule over packets does. States that have one present are played in the same way. A
 //! present is all but what was sent; of that, it has the last two checkpoints of each process. No code runs here.
 //!
-//! Below stands `packet_runs`, whose rules say what a run over packets is, with `packet_wires` and `message_wires`, which
-//! say what each event makes of a state. The world in code keeps all else that was sent in ghost logs, which no code can
-//! read.
+//! Below stands `packet_runs`, whose rules say what a run over packets is, with `packet_wires` and `message_wires`.
+//! These say what each event makes of a state. The world in code keeps all else that was sent in ghost logs, which no
+//! code can read.
 #![tactic(auto)]
 
 pub mod guards;
