@@ -1,6 +1,6 @@
 -- No bus has more packets than it has room for.
-use Rattle.std.proofs.Common.{◌≡◌, ◌≤◌, inl, inr, ℕ, zero, suc, ◌+◌, Bool, true, false, if◌then◌else◌, List, [], ◌∷◌}
-use Rattle.std.proofs.Common.{◌++◌, ◌&&◌, length, slice_get, take, drop, Option, Some, None, refl, sym, subst, arith}
+use Rattle.std.proofs.Common.{◌≡◌, ◌≤◌, ℕ, zero, suc, ◌+◌, Bool, true, false, if◌then◌else◌, List, [], ◌∷◌}
+use Rattle.std.proofs.Common.{◌++◌, ◌&&◌, length, slice_get, take, drop, Option, Some, None, refl, subst, arith}
 use Rattle.std.proofs.Common.{length-append}
 use Rattle.std.specs.List.{remove}
 use Rattle.std.proofs.lemmas.Bool.{ltb-true}
@@ -15,18 +15,17 @@ use Rattle.pair_machine.specs.computed_changes.specs.Handed.{handed_done}
 use Rattle.pair_machine.specs.computed_changes.specs.Stopped.{stop_done, down_done, reload_done}
 use Rattle.pair_machine.specs.letters.specs.Routes.{Letter, letters_of}
 use Rattle.pair_machine.specs.letters.specs.Again.{sent_again}
-use Rattle.machine_states.specs.States.{Played, Makes, Skips, Would, SecondStop}
+use Rattle.machine_states.specs.States.{Played, Makes, Skips, Would}
 use Rattle.pair_machine.specs.message_wires.specs.Wires.{Sent, Wires, has_room, put_on, wires_after_post}
 use Rattle.pair_machine.specs.message_wires.specs.Wires.{wires_after_posts, paid}
 use Rattle.pair_machine.specs.message_wires.specs.Wires.{paid_between, without_packet, is_due, put_again, is_current}
-use Rattle.pair_machine.specs.message_wires.specs.Play.{MachineState, after_done, made_by, after_any}
+use Rattle.pair_machine.specs.message_wires.specs.Play.{MachineState, made_by, after_any}
 use Rattle.pair_machine.specs.message_wires.specs.Play.{state_after_handing, is_admitted}
 use Rattle.pair_machine.specs.message_wires.specs.Play.{deliver_played, lose_played, repeat_played, stop_played}
 use Rattle.pair_machine.specs.message_wires.specs.Play.{fail_played, marked_by}
 use Rattle.pair_machine.specs.message_wires.specs.Play.{marks_from, state_after_tick, tick_played, packet_at, play}
 use Rattle.pair_machine.specs.message_wires.specs.Play.{reload_played}
 use Rattle.pair_machine.specs.message_wires.specs.Runs.{IsPlayed, played_none, played_more, skipped}
-use Rattle.schedule_runs.specs.Runs.{IsPlay}
 use Rattle.machine_states.proofs.Turning.{drive-cases}
 
 abbrev IsFew : List Sent → Type 0
@@ -147,12 +146,6 @@ play-few s (Tick node) few = tick-few node s few
 play-few s (Fail processor) few = fail-few processor s (slice_get s.world.stopped processor) few
 play-few s (Reload processor) few = reload-few processor s (reload_done s.site processor s.world) few
 play-few s (Drive event) few = drive-cases event s IsFewPlayed (λ drives. few) tt (λ process. tt)
-
--- an event leaves at most 4,096 packets on the bus
-pub bus-few : (s : MachineState) (event : Event) (next : MachineState) → IsPlay s event next
-    → length s.wires.bus ≤ 4096 → length next.wires.bus ≤ 4096
-bus-few s event next (inl makes) few = subst IsFewPlayed makes (play-few s event few)
-bus-few s event next (inr skips) few = subst (λ (one : MachineState). IsFew one.wires.bus) (sym skips.1) few
 
 pub played-few : (site : Site) (events : List Event) (s : MachineState) → IsPlayed site events s
     → length s.wires.bus ≤ 4096
