@@ -6,7 +6,7 @@ ghost use Rattle.break_text.specs.unfailing_judge.specs.Sound.{IsApart, IsLackin
 ghost use Rattle.break_text.specs.unfailing_judge.specs.Turns.{HasTurn, KeepsTurns, is_same_actor};
 ghost use Rattle.break_text.specs.unfailing_judge.specs.declared.wrong.Apart.{Apart};
 ghost use Rattle.break_text.specs.unfailing_judge.specs.plain_semantics.specs.Machine.{plain_start};
-ghost use Rattle.break_text.specs.schedule_runs.specs.declared.ran.Ending.TheVariants as ending;
+ghost use Rattle.break_text.specs.schedule_runs.specs.schedule_loop.specs.declared.ran.Ending.TheVariants as ending;
 ghost use Rattle.tal_tree.specs.declared.act.Act.TheVariants.{Step, Take, Enter, Print};
 ghost use Rattle.tal_tree.specs.declared.act.Shown.{Shown};
 

@@ -12,9 +12,11 @@ use Rattle.schedule_runs.specs.message_wires.specs.Runs.{IsPlayed}
 use Rattle.schedule_runs.specs.pair_machine.specs.number_laws.proofs.Played.{kinds_of, played-within}
 use Rattle.schedule_runs.specs.pair_machine.specs.number_laws.proofs.Within.{WorldWithin, held_in}
 use Rattle.schedule_runs.proofs.Played.{played}
-use Rattle.schedule_runs.specs.Ends.{EndsAs}
-use Rattle.schedule_runs.specs.declared.ran.Ending.{Ending}
-use Rattle.schedule_runs.specs.declared.ran.Ending.TheVariants.{Idle, Cut, Second, Lost}
+use Rattle.schedule_runs.specs.Rules.{pair_rules}
+use Rattle.schedule_runs.specs.Runs.{course_on}
+use Rattle.schedule_runs.specs.schedule_loop.specs.Ends.{EndsBy}
+use Rattle.schedule_runs.specs.schedule_loop.specs.declared.ran.Ending.{Ending}
+use Rattle.schedule_runs.specs.schedule_loop.specs.declared.ran.Ending.TheVariants.{Idle, Cut, Second, Lost}
 use Rattle.schedule_runs.specs.world_copies.specs.Closed.{closed_world}
 use Rattle.world_semantics.specs.Shares.{closed, closed_by, closed_by_all, let_go}
 use Rattle.world_semantics.specs.World.{Pair, World}
@@ -51,7 +53,7 @@ played-few site events s few is =
 -- at each end of a run
 pub ended-few : (site : Site) (lines : List Line) (stop : Option ProcessorStop) (events : List Event)
     (s left : MachineState) (asked : ℕ) (ending : Ending)
-    → length events < 4294967295 → EndsAs site lines stop events s left asked ending
+    → length events < 4294967295 → EndsBy pair_rules (course_on site lines stop) events s left asked ending
     → length (closed left.world) < 4294967295
 ended-few site lines stop events s left asked Idle few ends =
     let most = played-few site events s few (played {lines = lines} {stop = stop} ends.0.played) in

@@ -6,9 +6,9 @@ use Rattle.tal_tree.specs.declared.site.Site.{Site}
 use Rattle.schedule.specs.declared.line.Line.{Line}
 use Rattle.player.specs.declared.stop.ProcessorStop.{ProcessorStop}
 use Rattle.schedule_runs.specs.Ends.{IsRunOfPairs}
-use Rattle.schedule_runs.specs.declared.ran.Ending.{Ending}
-use Rattle.schedule_runs.specs.declared.ran.Ending.TheVariants.{Idle, Cut, Second, Lost}
 use Rattle.schedule_runs.specs.declared.ran.Ran.{Ran}
+use Rattle.schedule_runs.specs.schedule_loop.specs.declared.ran.Ending.{Ending}
+use Rattle.schedule_runs.specs.schedule_loop.specs.declared.ran.Ending.TheVariants.{Idle, Cut, Second, Lost}
 use Rattle.unfailing_judge.specs.Sound.{IsJudged}
 use Rattle.unfailing_judge.specs.declared.wrong.Wrong.{Wrong}
 use Rattle.world_semantics.specs.Shares.{closed}

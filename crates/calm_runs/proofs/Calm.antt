@@ -23,6 +23,7 @@ use Rattle.computed_changes.specs.Stopped.{reload_counted, reload_done, reload_i
 use Rattle.machine_states.specs.States.{Played, Makes, Skips, Would, Harm, SecondStop, DiscLoss}
 use Rattle.packet_wires.specs.Wires.{Midst}
 use Rattle.packet_wires.specs.Play.{Packeted, acted, underway, ended, packeted_at_boot, play, reload_acted, taken_off}
+use Rattle.schedule_loop.proofs.Plain.{same-upcoming}
 use Rattle.single_stops.specs.StopsAsked.{stops_asked, stops_in, stops_of, stops_of_lines}
 use Rattle.single_stops.proofs.Costs.{IsPaid, to_come, upcoming-paid}
 use Rattle.single_stops.specs.message_wires_laws.proofs.Whole.{begins-whole}
@@ -238,7 +239,8 @@ module _ (site : Site) (few : site.processors ≤ 16) (counts : Packeted → Cou
       → next_plan (sizes_of site) before (counts s) agenda ≡ Some plan
       → stops_in plan.event 1 + to_come plan.agenda ≤ to_come agenda
   paid-by agenda s before plan comes =
-      subst (IsPaid (to_come agenda)) comes (upcoming-paid (sizes_of site) before (counts s) agenda)
+      subst (IsPaid (to_come agenda)) (sym (same-upcoming (sizes_of site) before (counts s) agenda) ∙ comes)
+      (upcoming-paid (sizes_of site) before (λ player. counts s) agenda)
 
   single : stops_asked lines stop ≤ 1 → (events : List Event) (agenda : Agenda) (s : Packeted)
       → PlaysOn (sizes_of site) counts IsClearPlay (packeted_at_boot site) lines stop events agenda s

@@ -5,7 +5,10 @@ use Rattle.schedule.specs.declared.line.Line.TheVariants.{One}
 use Rattle.player.specs.declared.standing.LinePlace.TheVariants as standing
 use Rattle.world_semantics.specs.Examples.{disc_site}
 use Rattle.message_wires.specs.Play.{machine_at_boot}
-use Rattle.schedule_runs.specs.Runs.{Plan, PlaysSchedule, plays_none, plays_on, RunsOut, RunsToHarm}
+use Rattle.schedule_runs.specs.Rules.{pair_rules}
+use Rattle.schedule_runs.specs.Runs.{Plan, course_on}
+use Rattle.schedule_runs.specs.schedule_loop.specs.Ends.{Plays, RunsOutBy, RunsToHarmBy}
+use Rattle.schedule_runs.specs.schedule_loop.specs.Plans.{seen_none, seen_on}
 use Rattle.run_guards.specs.Played.{both_stop, disc_after, skipped_first, stop_of_first}
 use Rattle.message_wires.specs.machine_states.specs.States.{SecondStop}
 
@@ -40,19 +43,19 @@ enter_plan = record {
   agenda = record { standing = standing.Event (event.Enter 0) 0; lines = []; stop = None; held_back = None };
 }
 
-skipped : PlaysSchedule disc_site skipped_first stop_of_first (event.Run 0 ∷ []) run_plan.agenda
+skipped : Plays pair_rules (course_on disc_site skipped_first stop_of_first) (event.Run 0 ∷ []) run_plan.agenda
     (machine_at_boot disc_site)
-skipped = plays_on {events = []} run_plan plays_none refl (inr (refl, refl))
+skipped = seen_on {events = []} run_plan seen_none refl (inr (refl, refl))
 
-stopped : PlaysSchedule disc_site skipped_first stop_of_first (event.Run 0 ∷ event.Fail 0 ∷ []) stop_plan.agenda
-    (disc_after (event.Run 0 ∷ event.Fail 0 ∷ []))
-stopped = plays_on {events = event.Run 0 ∷ []} stop_plan skipped refl (inl refl)
+stopped : Plays pair_rules (course_on disc_site skipped_first stop_of_first) (event.Run 0 ∷ event.Fail 0 ∷ [])
+    stop_plan.agenda (disc_after (event.Run 0 ∷ event.Fail 0 ∷ []))
+stopped = seen_on {events = event.Run 0 ∷ []} stop_plan skipped refl (inl refl)
 
-pub entered : RunsOut disc_site skipped_first stop_of_first (event.Run 0 ∷ event.Fail 0 ∷ event.Enter 0 ∷ [])
-    (disc_after (event.Run 0 ∷ event.Fail 0 ∷ event.Enter 0 ∷ []))
+pub entered : RunsOutBy pair_rules (course_on disc_site skipped_first stop_of_first)
+    (event.Run 0 ∷ event.Fail 0 ∷ event.Enter 0 ∷ []) (disc_after (event.Run 0 ∷ event.Fail 0 ∷ event.Enter 0 ∷ []))
 entered = record {
   agenda = enter_plan.agenda;
-  played = plays_on {events = event.Run 0 ∷ event.Fail 0 ∷ []} enter_plan stopped refl (inl refl);
+  played = seen_on {events = event.Run 0 ∷ event.Fail 0 ∷ []} enter_plan stopped refl (inl refl);
   over = refl;
 }
 
@@ -75,11 +78,12 @@ second_plan = record {
   agenda = record { standing = standing.Event (event.Fail 0) 0; lines = []; stop = None; held_back = None };
 }
 
-pub second : RunsToHarm disc_site both_stop None (event.Fail 1 ∷ []) (disc_after (event.Fail 1 ∷ [])) (SecondStop 0)
+pub second : RunsToHarmBy pair_rules (course_on disc_site both_stop None) (event.Fail 1 ∷ [])
+    (disc_after (event.Fail 1 ∷ [])) (SecondStop 0)
 second = record {
   agenda = first_plan.agenda;
   plan = second_plan;
-  played = plays_on {events = []} first_plan plays_none refl (inl refl);
+  played = seen_on {events = []} first_plan seen_none refl (inl refl);
   comes = refl;
   would = refl;
 }

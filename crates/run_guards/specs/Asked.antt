@@ -11,7 +11,8 @@ use Rattle.player.specs.Played.{idle, processes}
 use Rattle.tal_tree.specs.declared.act.Shown.{Shown}
 use Rattle.message_wires.specs.Play.{MachineState}
 use Rattle.message_wires.specs.Wires.{Sent}
-use Rattle.schedule_runs.specs.Runs.{Agenda, Plan, agenda_of, next_plan}
+use Rattle.schedule_runs.specs.Runs.{Agenda, Plan, agenda_of}
+use Rattle.schedule_runs.specs.schedule_loop.specs.Plans.{upcoming_seen}
 
 abbrev pub told : Option Plan → List Event
 told None = []
@@ -25,8 +26,8 @@ agenda_after agenda (Some plan) = plan.agenda
 abbrev pub events_from : Sizes → ℕ → Agenda → List Counts → List Event
 events_from sizes before agenda [] = []
 events_from sizes before agenda (counts ∷ more) =
-    told (next_plan sizes before counts agenda)
-    ++ events_from sizes (before + 1) (agenda_after agenda (next_plan sizes before counts agenda)) more
+    told (upcoming_seen sizes before (λ player. counts) agenda)
+    ++ events_from sizes (before + 1) (agenda_after agenda (upcoming_seen sizes before (λ player. counts) agenda)) more
 
 -- on a site of two processors, one process and two terminals
 abbrev pub events_of : List Line → Option ProcessorStop → List Counts → List Event

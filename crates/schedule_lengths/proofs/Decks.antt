@@ -7,7 +7,9 @@ use Rattle.schedule.specs.declared.line.Line.{Line}
 use Rattle.schedule.specs.declared.line.Line.TheVariants.{One, Many, Drain, Mix, Mute, Until}
 use Rattle.player.specs.declared.stop.ProcessorStop.{ProcessorStop}
 use Rattle.schedule_runs.specs.message_wires.specs.Play.{MachineState}
-use Rattle.schedule_runs.specs.Runs.{Agenda, PlaysSchedule}
+use Rattle.schedule_runs.specs.Rules.{pair_rules}
+use Rattle.schedule_runs.specs.Runs.{Agenda, course_on}
+use Rattle.schedule_runs.specs.schedule_loop.specs.Ends.{Plays}
 use Rattle.deck_reader.specs.Limits.{IsWithinDeckLimits}
 use Rattle.deck_reader.specs.Schedules.{singles_in, singles_of, rounds_in, rounds_of}
 use Rattle.deck_reader.specs.declared.deck.Deck.{Deck}
@@ -54,7 +56,7 @@ deck-asks deck stop within =
 
 pub deck-few : (deck : Deck) (stop : Option ProcessorStop) (events : List Event) (agenda : Agenda) (s : MachineState)
     → IsWithinDeckLimits deck
-    → PlaysSchedule deck.site deck.lines stop events agenda s → length events ≤ 828300001
+    → Plays pair_rules (course_on deck.site deck.lines stop) events agenda s → length events ≤ 828300001
 deck-few deck stop events agenda s within plays =
     let played = so-many deck.site deck.lines stop events agenda s plays in
     let most = deck-asks deck stop within in

@@ -6,7 +6,9 @@ ghost use Rattle.schedule.specs.declared.line.Line.{Line};
 ghost use Rattle.player.specs.declared.stop.ProcessorStop.{ProcessorStop};
 ghost use Rattle.schedule_runs.specs.message_wires.specs.Play.{MachineState};
 ghost use Rattle.schedule_runs.specs.message_wires.specs.Runs.{IsPlayed};
-ghost use Rattle.schedule_runs.specs.Runs.{Agenda, PlaysSchedule};
+ghost use Rattle.schedule_runs.specs.Rules.{pair_rules};
+ghost use Rattle.schedule_runs.specs.Runs.{Agenda, course_on};
+ghost use Rattle.schedule_runs.specs.schedule_loop.specs.Ends.{Plays};
 ghost use Rattle.deck_reader.specs.Limits.{IsWithinDeckLimits};
 ghost use Rattle.deck_reader.specs.declared.deck.Deck.{Deck};
 ghost use Rattle.schedule_runs.specs.Lengths.{AsksForFewEvents, most_events};
@@ -22,7 +24,7 @@ pub fn a_bus_has_room_for_its_packets()
 pub fn a_schedule_asks_for_so_many_events()
     ensures { (site : Site) (lines : List Line) (stop : Option ProcessorStop) (events : List Event) (agenda : Agenda)
         (s : MachineState)
-        → PlaysSchedule site lines stop events agenda s → length events ≤ most_events site lines stop }
+        → Plays pair_rules (course_on site lines stop) events agenda s → length events ≤ most_events site lines stop }
 {}
 
 /// The schedule of a deck asks for few events: at most 8,273 in each of 100,000 rounds, 1,000,000 single ones, and the
@@ -30,10 +32,10 @@ pub fn a_schedule_asks_for_so_many_events()
 pub fn a_schedule_asks_for_few_events()
     ensures most { (deck : Deck) (stop : Option ProcessorStop) (events : List Event) (agenda : Agenda)
         (s : MachineState) → IsWithinDeckLimits deck
-        → PlaysSchedule deck.site deck.lines stop events agenda s → length events ≤ 828300001 }
+        → Plays pair_rules (course_on deck.site deck.lines stop) events agenda s → length events ≤ 828300001 }
     ensures few { (deck : Deck) (stop : Option ProcessorStop) (events : List Event) (agenda : Agenda)
         (s : MachineState) → IsWithinDeckLimits deck
-        → PlaysSchedule deck.site deck.lines stop events agenda s → length events < 4294967294 }
+        → Plays pair_rules (course_on deck.site deck.lines stop) events agenda s → length events < 4294967294 }
     ensures asks { (deck : Deck) (stop : Option ProcessorStop) → IsWithinDeckLimits deck
         → AsksForFewEvents deck.site deck.lines stop }
 {}

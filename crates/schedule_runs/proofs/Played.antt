@@ -6,12 +6,15 @@ use Rattle.schedule.specs.declared.line.Line.{Line}
 use Rattle.player.specs.declared.stop.ProcessorStop.{ProcessorStop}
 use Rattle.pair_machine.specs.message_wires.specs.Play.{MachineState}
 use Rattle.pair_machine.specs.message_wires.specs.Runs.{IsPlayed, played_none, played_more, skipped}
-use Rattle.schedule_runs.specs.Runs.{Agenda, PlaysSchedule, plays_none, plays_on}
+use Rattle.schedule_loop.specs.Ends.{Plays}
+use Rattle.schedule_loop.specs.Plans.{seen_none, seen_on}
+use Rattle.schedule_runs.specs.Rules.{pair_rules}
+use Rattle.schedule_runs.specs.Runs.{Agenda, course_on}
 
 pub played : {site : Site} {lines : List Line} {stop : Option ProcessorStop} {events : List Event} {agenda : Agenda}
     {s : MachineState}
-    → PlaysSchedule site lines stop events agenda s → IsPlayed site events s
-played plays_none = played_none
-played (plays_on plan plays comes (inl makes)) = played_more plan.event (played plays) makes
-played (plays_on plan plays comes (inr skips)) =
+    → Plays pair_rules (course_on site lines stop) events agenda s → IsPlayed site events s
+played seen_none = played_none
+played (seen_on plan plays comes (inl makes)) = played_more plan.event (played plays) makes
+played (seen_on plan plays comes (inr skips)) =
     subst (IsPlayed _ _) (sym skips.1) (skipped plan.event (played plays) skips.0)

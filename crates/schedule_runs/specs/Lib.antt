@@ -5,3 +5,4 @@ pub mod Runs
 pub use Rattle.pair_machine
 pub use Rattle.pair_machine.specs.world_copies
 pub use Rattle.pair_machine.specs.message_wires
+pub use Rattle.schedule_loop

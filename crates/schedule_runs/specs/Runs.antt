@@ -1,20 +1,21 @@
--- The run of a schedule on the machine over whole messages: which event comes next, and how a run ends. The lines are
--- our own.
-use Rattle.std.specs.Prelude.{◌≡◌, ◌⊎◌, false, List, length, Option, Some, None}
+-- A schedule on the machine over whole messages: where it begins, and what is counted before an event.
+use Rattle.std.specs.Prelude.{false, List, length, Option}
 use Rattle.tal_tree.specs.declared.site.Site.{Site}
 use Rattle.schedule.specs.declared.event.Counts.{Counts}
-use Rattle.schedule.specs.declared.event.Event.{Event}
 use Rattle.schedule.specs.declared.line.Line.{Line}
 use Rattle.player.specs.declared.stop.ProcessorStop.{ProcessorStop}
-pub use Rattle.agendas.specs.Agendas.{Agenda, Plan, PlaysOn, plays_none, plays_on}
+pub use Rattle.agendas.specs.Agendas.{Agenda, Plan, agenda_of, coming, stopped_by}
 pub use Rattle.agendas.specs.Sizes.{sizes_of}
-pub use Rattle.agendas.specs.Agendas.{agenda_of, coming, planned_by, stopped_by, next_plan, upcoming_after}
-use Rattle.machine_states.specs.States.{Makes, Skips, Would, Harm}
 use Rattle.pair_machine.specs.message_wires.specs.Idle.{is_idle}
-use Rattle.pair_machine.specs.message_wires.specs.Play.{MachineState, play, machine_at_boot}
+use Rattle.pair_machine.specs.message_wires.specs.Play.{MachineState, machine_at_boot}
+use Rattle.pair_machine.specs.message_wires.specs.Wires.{Wires}
 use Rattle.pair_machine.specs.node_copies.specs.ShownCounts.{replies_in, writes_in}
+use Rattle.schedule_loop.specs.Ends.{Course}
 
--- What is counted before an event
+-- a schedule with a stop, from the beginning of a site
+abbrev pub course_on : Site → List Line → Option ProcessorStop → Course Wires
+course_on site lines stop =
+    record { sizes = sizes_of site; start = machine_at_boot site; lines = lines; stop = stop }
 
 -- the counts of a state: all packets are on bus X, and none is an alive one
 abbrev pub counts_of : MachineState → Counts
@@ -27,30 +28,3 @@ counts_of s = record {
   writes = writes_in s.world.shown;
   replies = replies_in s.world.shown;
 }
-
--- Runs
-
--- an event is played: it makes the next state, or is skipped
-abbrev pub IsPlay : MachineState → Event → MachineState → Type 0
-IsPlay s event next = (play s event ≡ Makes next) ⊎ ((play s event ≡ Skips) × (next ≡ s))
-
--- these events of a schedule with a stop were played on the site one after the other, each as it came, and lead to a
--- state and to where the schedule stands
-abbrev pub PlaysSchedule : Site → List Line → Option ProcessorStop → List Event → Agenda → MachineState → Type 0
-PlaysSchedule site lines stop = PlaysOn (sizes_of site) counts_of IsPlay (machine_at_boot site) lines stop
-
--- a run of a schedule played these events, with this state at its end: the schedule is over
-pub record RunsOut (site : Site) (lines : List Line) (stop : Option ProcessorStop) (events : List Event)
-    (s : MachineState) : Type 0 where
-  pub agenda : Agenda
-  pub played : PlaysSchedule site lines stop events agenda s
-  pub over : next_plan (sizes_of site) (length events) (counts_of s) agenda ≡ None
-
--- or it ends before an event that would do harm
-pub record RunsToHarm (site : Site) (lines : List Line) (stop : Option ProcessorStop) (events : List Event)
-    (s : MachineState) (harm : Harm) : Type 0 where
-  pub agenda : Agenda
-  pub plan : Plan
-  pub played : PlaysSchedule site lines stop events agenda s
-  pub comes : next_plan (sizes_of site) (length events) (counts_of s) agenda ≡ Some plan
-  pub would : play s plan.event ≡ Would harm

@@ -13,5 +13,6 @@ pub mod ran;
 mod running;
 
 pub use laws::events_of_a_schedule_are_played;
-pub use ran::{Ending, Ran};
+pub use ran::Ran;
 pub use running::run;
+pub use schedule_loop::Ending;

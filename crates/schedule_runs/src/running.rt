@@ -1,11 +1,11 @@
 ghost use Rattle.std.specs.Prelude.{◌≡◌, IfOk};
 ghost use Rattle.pair_machine.specs.process_copies.specs.Starting.{IsStartable};
-ghost use Rattle.schedule_runs.specs.Ends.{IsRunOfPairs, ending_of};
+ghost use Rattle.schedule_runs.specs.Ends.{IsRunOfPairs};
 ghost use Rattle.schedule_runs.specs.Lengths.{AsksForFewEvents};
 ghost use Rattle.schedule_runs.specs.Runs.{sizes_of};
 
 use crate::pairs::PlayedPairs;
-use crate::ran::{Ending, Ran};
+use crate::ran::Ran;
 use gd_words::NoMemory;
 use logs::Shared;
 use player::{ProcessorStop, Sizes};
@@ -29,7 +29,7 @@ pub fn run(
     Ok(Ran {
         machine: ran.machine.machine,
         asked: ran.asked,
-        ending: ending_of(ran.ending),
+        ending: ran.ending,
     })
 }
 
@@ -42,16 +42,5 @@ fn sizes_of(site: &Site) -> Sizes
         processors: site.processors,
         processes: site.processes.len() as u8,
         terminals: site.terminals.len() as u8,
-    }
-}
-
-fn ending_of(ending: schedule_loop::Ending) -> Ending
-    ensures { result ≡ ending_of ending }
-{
-    match ending {
-        schedule_loop::Ending::Idle => Ending::Idle,
-        schedule_loop::Ending::Cut => Ending::Cut,
-        schedule_loop::Ending::Second(processor) => Ending::Second(processor),
-        schedule_loop::Ending::Lost(process) => Ending::Lost(process),
     }
 }

@@ -8,7 +8,8 @@ use Rattle.world_semantics.specs.World.{is_whole}
 use Rattle.computed_changes.specs.Stopped.{stop_if, stop_where}
 use Rattle.machine_states.specs.States.{Would, SecondStop}
 use Rattle.message_wires_laws.specs.message_wires.specs.Play.{MachineState, fail_played, play, stop_played}
-use Rattle.schedule_runs.specs.Runs.{IsPlay}
+use Rattle.schedule_runs.specs.Rules.{pair_rules}
+use Rattle.schedule_runs.specs.schedule_loop.specs.Rules.{IsPlayBy}
 use Rattle.message_wires_laws.proofs.Calm.{KeepsWhole, whole-kept, whole-played}
 use Rattle.single_stops.specs.StopsAsked.{stops_in}
 
@@ -16,8 +17,8 @@ use Rattle.single_stops.specs.StopsAsked.{stops_in}
 no-stop : (event : Event) → stops_in event 1 ≡ 0 → (processor : ℕ) → event ≡ Fail processor → ⊥
 no-stop event calm processor same = let one = ap (λ (e : Event). stops_in e 1) same in cc
 
-pub calm-kept : (s : MachineState) (event : Event) (next : MachineState) → stops_in event 1 ≡ 0 → IsPlay s event next
-    → is_whole s.world ≡ true → is_whole next.world ≡ true
+pub calm-kept : (s : MachineState) (event : Event) (next : MachineState) → stops_in event 1 ≡ 0
+    → IsPlayBy pair_rules s event next → is_whole s.world ≡ true → is_whole next.world ≡ true
 calm-kept s event next calm (inl made) whole = whole-kept s event next whole (no-stop event calm) made
 calm-kept s event next calm (inr skipped) whole = ap (λ (w : MachineState). is_whole w.world) skipped.1 ∙ whole
 

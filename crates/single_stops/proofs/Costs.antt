@@ -20,7 +20,9 @@ use Rattle.player.specs.Lines.{moved_mixed}
 use Rattle.player.specs.Lines.{event_when_muted, next_event, proposed, event_when_spared}
 use Rattle.player.specs.Rounds.{next_turn}
 use Rattle.player.specs.Mixes.{next_mixed}
-use Rattle.schedule_runs.specs.Runs.{Agenda, Plan, coming, planned_by, stopped_by, next_plan, upcoming_after}
+use Rattle.schedule_runs.specs.Runs.{Agenda, Plan, coming, stopped_by}
+use Rattle.schedule_runs.specs.schedule_loop.specs.Plans.{Sight, next_seen, planned_seen, upcoming_seen}
+use Rattle.schedule_runs.specs.schedule_loop.specs.Plans.{upcoming_seen_after}
 use Rattle.single_stops.specs.StopsAsked.{stops_in, stops_of, stops_of_lines, stops_of_words}
 use Rattle.single_stops.proofs.Turns.{mixed-calm, turn-calm}
 
@@ -165,18 +167,22 @@ paid-more : (few most : ℕ) (stop : Option ProcessorStop) (plan : Option Plan) 
 paid-more few most stop None more paid = tt
 paid-more few most stop (Some plan) more paid = let within = paid.0 in (omega (arith, within, more), paid.1)
 
-planned-paid : (sizes : Sizes) (counts : Counts) (stop : Option ProcessorStop) (most : ℕ) (lines : List Line)
+next-seen-paid : (sizes : Sizes) (sight : Sight) (at : LinePlace)
+    → IsPaidMove (stops_left at) (next_seen sizes sight at)
+next-seen-paid sizes sight at = next-paid sizes at (sight (record { sizes = sizes; standing = at }))
+
+planned-paid : (sizes : Sizes) (sight : Sight) (stop : Option ProcessorStop) (most : ℕ) (lines : List Line)
     (move : Option Move) → IsPaidMove most move
-    → IsPaidPlan (most + stops_of_lines lines + stops_of_words stop) stop (planned_by sizes counts stop lines move)
-planned-paid sizes counts stop most lines (Some move) paid = (omega (arith, paid), refl)
-planned-paid sizes counts stop most [] None paid = tt
-planned-paid sizes counts stop most (line ∷ lines) None paid =
+    → IsPaidPlan (most + stops_of_lines lines + stops_of_words stop) stop (planned_seen sizes sight stop lines move)
+planned-paid sizes sight stop most lines (Some move) paid = (omega (arith, paid), refl)
+planned-paid sizes sight stop most [] None paid = tt
+planned-paid sizes sight stop most (line ∷ lines) None paid =
     let same = begun-stops line in
     paid-more (stops_left (begun line) + stops_of_lines lines + stops_of_words stop)
     (most + (stops_of line + stops_of_lines lines) + stops_of_words stop) stop
-    (planned_by sizes counts stop lines (next_event sizes (begun line) counts)) (omega (arith, same))
-    (planned-paid sizes counts stop (stops_left (begun line)) lines (next_event sizes (begun line) counts)
-    (next-paid sizes (begun line) counts))
+    (planned_seen sizes sight stop lines (next_seen sizes sight (begun line))) (omega (arith, same))
+    (planned-paid sizes sight stop (stops_left (begun line)) lines (next_seen sizes sight (begun line))
+    (next-seen-paid sizes sight (begun line)))
 
 -- the same of a plan that a stop may come before
 abbrev pub IsPaid : ℕ → Option Plan → Type 0
@@ -193,17 +199,16 @@ stopped-paid most before (Some stop) (Some plan) paid = by (stop.after == before
     by true = let within = paid.0 in let one = ap stops_of_words paid.1 in omega (arith, within, one)
     by false = paid.0
 
-pub upcoming-paid : (sizes : Sizes) (before : ℕ) (counts : Counts) (agenda : Agenda)
-    → IsPaid (to_come agenda) (next_plan sizes before counts agenda)
-upcoming-paid sizes before counts agenda = by agenda.held_back refl
+pub upcoming-paid : (sizes : Sizes) (before : ℕ) (sight : Sight) (agenda : Agenda)
+    → IsPaid (to_come agenda) (upcoming_seen sizes before sight agenda)
+upcoming-paid sizes before sight agenda = by agenda.held_back refl
   where
     by : (held : Option Event) → agenda.held_back ≡ held
-        → IsPaid (to_come agenda) (upcoming_after sizes before counts agenda held)
+        → IsPaid (to_come agenda) (upcoming_seen_after sizes before sight agenda held)
     by (Some event) is = let one = ap held_stops is in omega (arith, one)
     by None is =
         stopped-paid (to_come agenda) before agenda.stop _
         (paid-more (stops_left agenda.standing + stops_of_lines agenda.lines + stops_of_words agenda.stop)
         (to_come agenda) agenda.stop _ (omega arith)
-        (planned-paid sizes counts agenda.stop (stops_left agenda.standing) agenda.lines
-        (next_event sizes agenda.standing counts)
-        (next-paid sizes agenda.standing counts)))
+        (planned-paid sizes sight agenda.stop (stops_left agenda.standing) agenda.lines
+        (next_seen sizes sight agenda.standing) (next-seen-paid sizes sight agenda.standing)))

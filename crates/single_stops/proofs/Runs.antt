@@ -9,12 +9,15 @@ use Rattle.player.specs.declared.stop.ProcessorStop.{ProcessorStop}
 use Rattle.world_semantics.specs.World.{is_whole}
 use Rattle.message_wires_laws.specs.message_wires.specs.Play.{MachineState}
 use Rattle.message_wires_laws.proofs.Whole.{begins-whole}
-use Rattle.schedule_runs.specs.Ends.{EndsAs, IsRunOfPairs}
-use Rattle.schedule_runs.specs.Runs.{Agenda, IsPlay, Plan, PlaysSchedule, RunsToHarm, counts_of, plays_none, plays_on}
-use Rattle.schedule_runs.specs.Runs.{sizes_of}
-use Rattle.schedule_runs.specs.declared.ran.Ending.{Ending}
-use Rattle.schedule_runs.specs.declared.ran.Ending.TheVariants.{Second}
+use Rattle.schedule_runs.specs.Ends.{IsRunOfPairs}
+use Rattle.schedule_runs.specs.Rules.{pair_rules}
+use Rattle.schedule_runs.specs.Runs.{Agenda, Plan, course_on, sizes_of}
 use Rattle.schedule_runs.specs.declared.ran.Ran.{Ran}
+use Rattle.schedule_runs.specs.schedule_loop.specs.Ends.{EndsBy, Plays, RunsToHarmBy}
+use Rattle.schedule_runs.specs.schedule_loop.specs.Plans.{seen_none, seen_on}
+use Rattle.schedule_runs.specs.schedule_loop.specs.Rules.{IsPlayBy, sight_of}
+use Rattle.schedule_runs.specs.schedule_loop.specs.declared.ran.Ending.{Ending}
+use Rattle.schedule_runs.specs.schedule_loop.specs.declared.ran.Ending.TheVariants.{Second}
 use Rattle.single_stops.specs.StopsAsked.{stops_asked, stops_in}
 use Rattle.single_stops.proofs.Calm.{calm-kept, would-stop}
 use Rattle.single_stops.proofs.Costs.{IsPaid, to_come, upcoming-paid}
@@ -46,7 +49,7 @@ stop-or-calm (event.Drive turn) = inl refl
 
 -- after an event that is paid
 single-on : (agenda : Agenda) (s next : MachineState) (plan : Plan) → IsSingle agenda s
-    → IsPaid (to_come agenda) (Some plan) → IsPlay s plan.event next
+    → IsPaid (to_come agenda) (Some plan) → IsPlayBy pair_rules s plan.event next
     → IsSingle plan.agenda next
 single-on agenda s next plan single paid play = by (stop-or-calm plan.event)
   where
@@ -65,30 +68,31 @@ single-on agenda s next plan single paid play = by (stop-or-calm plan.event)
 
 played-single : (site : Site) (lines : List Line) (stop : Option ProcessorStop) → stops_asked lines stop ≤ 1
     → (events : List Event) (agenda : Agenda) (s : MachineState)
-    → PlaysSchedule site lines stop events agenda s → IsSingle agenda s
-played-single site lines stop few _ _ _ plays_none =
+    → Plays pair_rules (course_on site lines stop) events agenda s → IsSingle agenda s
+played-single site lines stop few _ _ _ seen_none =
     record { few = omega (arith, few); none = λ parts. absurd (not-both _ (begins-whole site) parts) }
 played-single site lines stop few _ _ _
-    (plays_on {events = events} {agenda = agenda} {s = s} {next = next} plan before comes play) =
+    (seen_on {events = events} {agenda = agenda} {s = s} {next = next} plan before comes play) =
     single-on agenda s next plan (played-single site lines stop few events agenda s before)
-    (subst (IsPaid (to_come agenda)) comes (upcoming-paid (sizes_of site) (length events) (counts_of s) agenda)) play
+    (subst (IsPaid (to_come agenda)) comes
+    (upcoming-paid (sizes_of site) (length events) (sight_of pair_rules s) agenda)) play
 
 no-second : (site : Site) (lines : List Line) (stop : Option ProcessorStop) → stops_asked lines stop ≤ 1
     → (events : List Event) (s : MachineState) (processor : ℕ)
-    → RunsToHarm site lines stop events s (SecondStop processor) → ⊥
+    → RunsToHarmBy pair_rules (course_on site lines stop) events s (SecondStop processor) → ⊥
 no-second site lines stop few events s processor runs =
     let single = played-single site lines stop few events runs.agenda s runs.played in
     let would = would-stop s runs.plan.event processor runs.would in
     let none = single.none would.1 in
     let one = would.0 in
     let paid = subst (IsPaid (to_come runs.agenda)) runs.comes
-    (upcoming-paid (sizes_of site) (length events) (counts_of s) runs.agenda) in
+    (upcoming-paid (sizes_of site) (length events) (sight_of pair_rules s) runs.agenda) in
     omega (arith, none, one, paid)
 
 pub never-second : (site : Site) (lines : List Line) (stop : Option ProcessorStop) (ran : Ran) (processor : ℕ)
     → stops_asked lines stop ≤ 1
     → IsRunOfPairs site lines stop ran → ran.ending ≡ Second processor → ⊥
 never-second site lines stop ran processor few run ended =
-    let ends = subst (λ (ending : Ending). EndsAs site lines stop run.events run.state ran.machine.state ran.asked
-    ending) ended run.ends in
+    let ends = subst (λ (ending : Ending). EndsBy pair_rules (course_on site lines stop) run.events run.state
+    ran.machine.state ran.asked ending) ended run.ends in
     no-second site lines stop few run.events run.state processor ends.0

@@ -3,7 +3,7 @@ ghost use Rattle.tal_tree.specs.declared.site.Site.{Site};
 ghost use Rattle.schedule.specs.declared.line.Line.{Line};
 ghost use Rattle.player.specs.declared.stop.ProcessorStop.{ProcessorStop};
 ghost use Rattle.schedule_runs.specs.Ends.{IsRunOfPairs};
-ghost use Rattle.schedule_runs.specs.declared.ran.Ending.TheVariants.{Second};
+ghost use Rattle.schedule_runs.specs.schedule_loop.specs.declared.ran.Ending.TheVariants.{Second};
 ghost use Rattle.schedule_runs.specs.declared.ran.Ran.{Ran};
 ghost use Rattle.single_stops.specs.StopsAsked.{stops_asked};
 

@@ -14,6 +14,6 @@ run-requires-clause-can c =
 pub returns : goal.returns
 returns c =
     is-run c.args.site.now c.args.lines.now c.args.stop c.sizes_of.result c.in_ok-pairs.pairs.machine.state
-    c.in_ok-ran.ran.machine.machine c.in_ok-ran.ran.asked c.in_ok-ran.ran.ending c.ending_of.result
-    (c.sizes_of.ensures ∙ ap sizes_of c.get.ensures) (ap (λ (m : MachineStanding). m.state) c.in_ok-pairs.ensures)
-    c.in_ok-ran.ensures c.ending_of.ensures
+    c.in_ok-ran.ran.machine.machine.state c.in_ok-ran.ran.machine.machine.is_broken c.in_ok-ran.ran.asked
+    c.in_ok-ran.ran.ending (c.sizes_of.ensures ∙ ap sizes_of c.get.ensures)
+    (ap (λ (m : MachineStanding). m.state) c.in_ok-pairs.ensures) c.in_ok-ran.ensures
