@@ -5,7 +5,7 @@ use Rattle.std.specs.Prelude.{ℕ, [], ◌∷◌, ◌+◌, ◌==◌, ◌&&◌, n
 use Rattle.std.specs.Prelude.{slice_get, slice_set, Option, Some, None, if◌then◌else◌}
 use Rattle.std.specs.List.{list_all}
 use Rattle.std.specs.Option.{option_map, unwrap_or}
-use Rattle.gd_words.specs.declared.limits.TheConstants.{MOST_PROCESSORS}
+use Rattle.gd_words.specs.declared.limits.TheConstants.{TERMINAL_NODE}
 use Rattle.alive_regroup.specs.declared.neighbour.Missed.{Missed}
 use Rattle.alive_regroup.specs.declared.neighbour.Missed.TheVariants as missed
 use Rattle.alive_regroup.specs.declared.neighbour.Neighbour.{Neighbour}
@@ -126,7 +126,7 @@ after_up processor w =
 -- Ticks. Every second tick of a processor checks; the node of the terminals checks never
 
 abbrev pub does_check : Watching → Bool
-does_check w = nat_lt w.me MOST_PROCESSORS && w.checks
+does_check w = nat_lt w.me TERMINAL_NODE && w.checks
 
 -- after a check, which has told the silent set where that changed
 abbrev pub after_check : Watching → Watching
@@ -167,7 +167,7 @@ is_coordinator processor w = all_but processor (λ one. not (is_up one)) (take w
 -- down, and the node is the coordinator
 abbrev pub is_held : ℕ → Watching → Bool
 is_held processor w =
-    nat_lt w.me MOST_PROCESSORS && is_silent_at processor w && is_coordinator processor w
+    nat_lt w.me TERMINAL_NODE && is_silent_at processor w && is_coordinator processor w
     && all_but processor (agrees processor) w.neighbours
 
 -- the last check missed none of the processors that it hasn't marked down

@@ -1,6 +1,6 @@
 ghost use Rattle.std.specs.Prelude.{◌≡◌, ◌<◌, ◌+◌, Some, take, drop, true, false, map, nat_lt, not, slice_get};
 ghost use Rattle.std.specs.List.{list_all};
-ghost use Rattle.gd_words.specs.declared.limits.TheConstants.{MOST_PROCESSORS};
+ghost use Rattle.gd_words.specs.declared.limits.TheConstants.{TERMINAL_NODE};
 ghost use Rattle.alive_regroup.specs.Sets.{has};
 ghost use Rattle.alive_regroup.specs.Watching.{Watching, neighbour_after_report};
 ghost use Rattle.alive_regroup.specs.Watching.{neighbour_after_down, is_down, is_up, is_silent, changed_at};
@@ -13,7 +13,7 @@ ghost use Rattle.alive_regroup.specs.Listening.{all_heard, is_at_rest, is_calm, 
 
 use crate::neighbour::{Neighbour, neighbour_up};
 use crate::set::ProcessorSet;
-use gd_words::limits::MOST_PROCESSORS;
+use gd_words::limits::TERMINAL_NODE;
 use std::marker::Model;
 
 /// The numbers of processors.
@@ -133,14 +133,14 @@ impl Watch {
     pub fn does_check(&self) -> bool
         ensures { result ≡ does_check self.now }
     {
-        self.me < MOST_PROCESSORS && self.checks
+        self.me < TERMINAL_NODE && self.checks
     }
 
     /// Whether the node is that of the terminals, whose ticks never check.
     pub(crate) fn never_checks(&self) -> bool
-        ensures { result ≡ not (nat_lt self.now.me MOST_PROCESSORS) }
+        ensures { result ≡ not (nat_lt self.now.me TERMINAL_NODE) }
     {
-        MOST_PROCESSORS <= self.me
+        TERMINAL_NODE <= self.me
     }
 
     /// The node's tick: the silent set to report, where a check changed it or a report is due.
@@ -206,7 +206,7 @@ impl Watch {
     pub fn holds(&self, processor: u8) -> bool
         ensures { result ≡ is_held processor self.now }
     {
-        self.me < MOST_PROCESSORS
+        self.me < TERMINAL_NODE
             && self.is_silent_at(processor)
             && self.is_coordinator(processor)
             && all_but_agree(self.neighbours.as_slice(), processor)
