@@ -1,11 +1,13 @@
 -- What is asked for is in its range.
-use Rattle.std.proofs.Common.{◌≡◌, ◌≤◌, ℕ, Bool, true, false, ◌&&◌, nat_le, List, Option, Some, None, refl, codes}
+use Rattle.std.proofs.Common.{◌≡◌, ◌<◌, ℕ, Bool, true, false, ◌&&◌, nat_le, nat_lt, suc, List, Option, Some, None, refl}
+use Rattle.std.proofs.Common.{codes}
 use Rattle.std.specs.Prelude.{IfSome, option_and_then, option_map, ◌==◌, if◌then◌else◌}
 use Rattle.std.specs.List.{after_first, before_first}
 use Rattle.std.specs.Str.{bytes_eq}
 use Rattle.std.proofs.lemmas.Bool.{and_parts, leb-true}
 use Rattle.clap.specs.Words.{Row, Text, first_of}
 use Rattle.deck_lines.specs.Numbers.{written_number}
+use Rattle.gd_words.specs.declared.limits.TheConstants.{MOST_PROCESSORS}
 use Rattle.command_words.specs.Asked.{IsInRange, asks_for_acts, asked_by, check_as, command_as, command_in, load_as}
 use Rattle.command_words.specs.Asked.{advise_as, load_of, run_as, stop_at, stop_of, sweep_as, sweep_of, verify_as}
 use Rattle.command_words.specs.Line.{parse_of}
@@ -31,19 +33,20 @@ sweep (Some n) = go (nat_le 1 n && nat_le n 10000) refl
     go true e = let parts =
         and_parts (nat_le 1 n) (nat_le n 10000) e in (leb-true 1 n parts.0, leb-true n 10000 parts.1)
 
-stop_in : (processor after : Option ℕ) → IfSome (stop_at processor after) (λ stop. stop.processor ≤ 15)
+stop_in : (processor after : Option ℕ) → IfSome (stop_at processor after) (λ stop. stop.processor < MOST_PROCESSORS)
 stop_in None after = tt
 stop_in (Some p) None = tt
-stop_in (Some p) (Some k) = go (nat_le p 15) refl
+stop_in (Some p) (Some k) = go (nat_lt p MOST_PROCESSORS) refl
   where
     at : ProcessorStop
     at = record { processor = p; after = k }
 
-    go : (holds : Bool) → nat_le p 15 ≡ holds → IfSome (if holds then Some at else None) (λ stop. stop.processor ≤ 15)
+    go : (holds : Bool) → nat_lt p MOST_PROCESSORS ≡ holds
+        → IfSome (if holds then Some at else None) (λ stop. stop.processor < MOST_PROCESSORS)
     go false e = tt
-    go true e = leb-true p 15 e
+    go true e = leb-true (suc p) MOST_PROCESSORS e
 
-stopped : (acts : Bool) (found : Option ProcessorStop) → IfSome found (λ stop. stop.processor ≤ 15)
+stopped : (acts : Bool) (found : Option ProcessorStop) → IfSome found (λ stop. stop.processor < MOST_PROCESSORS)
     → IfSome (option_map (λ stop. Run acts (Some stop)) found) IsInRange
 stopped acts None h = tt
 stopped acts (Some found) h = h

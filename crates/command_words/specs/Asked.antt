@@ -1,19 +1,20 @@
 -- Which command the words of a command line ask for. Our own rule.
-use Rattle.std.specs.Prelude.{ℕ, ◌≤◌, Bool, false, ◌==◌, ◌&&◌, nat_le, List, Option, Some, None, option_map}
-use Rattle.std.specs.Prelude.{option_and_then, codes, if◌then◌else◌}
+use Rattle.std.specs.Prelude.{ℕ, ◌≤◌, ◌<◌, Bool, false, ◌==◌, ◌&&◌, nat_le, nat_lt, List, Option, Some, None}
+use Rattle.std.specs.Prelude.{option_and_then, option_map, codes, if◌then◌else◌}
 use Rattle.std.specs.List.{before_first, after_first}
 use Rattle.std.specs.Option.{option_map_or}
 use Rattle.std.specs.Str.{bytes_eq}
 use Rattle.clap.specs.Words.{Row, Text, first_of}
 use Rattle.deck_lines.specs.Numbers.{written_number}
+use Rattle.gd_words.specs.declared.limits.TheConstants.{MOST_PROCESSORS}
 use Rattle.command_words.specs.Line.{parse_of}
 use Rattle.command_words.specs.declared.asked.Command.{Command}
 use Rattle.command_words.specs.declared.asked.Command.TheVariants.{Run, Check, Load, Sweep, Verify, Advise}
 use Rattle.player.specs.declared.stop.ProcessorStop.{ProcessorStop}
 
--- a stop of P, which is at most 15, just before the event that K events precede
+-- a stop of P, a processor that a site may have, just before the event that K events precede
 abbrev pub stop_at : Option ℕ → Option ℕ → Option ProcessorStop
-stop_at (Some p) (Some k) = if nat_le p 15 then Some (record { processor = p; after = k }) else None
+stop_at (Some p) (Some k) = if nat_lt p MOST_PROCESSORS then Some (record { processor = p; after = k }) else None
 stop_at _ _ = None
 
 -- `P:K`, numbers before and after the first colon
@@ -86,10 +87,10 @@ command_in rows = option_and_then
 abbrev pub asked_by : List Text → Option Command
 asked_by words = option_and_then command_in (parse_of words)
 
--- a stop is of a processor up to 15, a load is of 1 to 200, and a sweep of 1 to 10,000
+-- a stop is of a processor that a site may have, a load is of 1 to 200, and a sweep of 1 to 10,000
 abbrev pub IsInRange : Command → Type 0
 IsInRange (Run acts None) = Unit {0}
-IsInRange (Run acts (Some stop)) = stop.processor ≤ 15
+IsInRange (Run acts (Some stop)) = stop.processor < MOST_PROCESSORS
 IsInRange Check = Unit {0}
 IsInRange (Load n) = (1 ≤ n) × (n ≤ 200)
 IsInRange (Sweep n) = (1 ≤ n) × (n ≤ 10000)

@@ -8,6 +8,7 @@ use crate::line::{parsed, text_of};
 use clap::ArgMatches;
 use deck_lines::written_number;
 use gd_words::NoMemory;
+use gd_words::limits::MOST_PROCESSORS;
 use player::ProcessorStop;
 use std::alloc::Global;
 
@@ -175,10 +176,12 @@ fn stop_at(processor: Option<u32>, after: Option<u32>) -> Option<ProcessorStop>
     ensures { result ≡ stop_at processor after }
 {
     match (processor, after) {
-        (Some(processor), Some(after)) if processor <= 15 => Some(ProcessorStop {
-            processor: processor as u8,
-            after,
-        }),
+        (Some(processor), Some(after)) if processor < MOST_PROCESSORS as u32 => Some(
+            ProcessorStop {
+                processor: processor as u8,
+                after,
+            },
+        ),
         _ => None,
     }
 }
