@@ -10,7 +10,7 @@ ghost use Rattle.advice.specs.Answer.{IsAdvised};
 ghost use Rattle.advice.specs.Due.{IsItemDue, IsFileDue};
 ghost use Rattle.advice_search.specs.Gathered.{AreDue};
 ghost use Rattle.advice_search.specs.Advising.{IsInputTried, NoneDeepBefore, IsDepthFound, AreDepthsFound};
-ghost use Rattle.gd_words.specs.declared.limits.TheConstants.{MOST_STATEMENTS};
+ghost use Rattle.gd_words.specs.declared.limits.TheConstants.{MOST_DEPTH, MOST_STATEMENTS};
 
 use crate::deepest::deepest;
 use crate::due_sets::DueSets;
@@ -70,7 +70,7 @@ fn try_input(
     requires flow { IsFlow program.now flow.now }
     requires numbers { AreNumbered flow.now }
     requires clear { IsClear search.old.seen.items }
-    requires room { length search.old.seen.items ≡ length flow.now * 5 }
+    requires room { length search.old.seen.items ≡ length flow.now * (MOST_DEPTH + 1) }
     ensures tried { IsInputTried program.now result }
     ensures clear { OnOk result (IsClear search.new.seen.items) }
     ensures room { length search.new.seen.items ≡ length search.old.seen.items }
@@ -101,7 +101,7 @@ fn find_depths(
     requires numbers { AreNumbered flow.now }
     requires input { NoneDeepBefore program.now 0 }
     requires clear { IsClear search.old.seen.items }
-    requires room { length search.old.seen.items ≡ length flow.now * 5 }
+    requires room { length search.old.seen.items ≡ length flow.now * (MOST_DEPTH + 1) }
     requires count { length files.old.sets.items ≡ MOST_STATEMENTS + 1 }
     requires due { AreDue (IsFileDue program.now) files.old.sets.items 0 }
     ensures found { AreDepthsFound program.now result }
@@ -132,7 +132,7 @@ fn find_depth(
     requires numbers { AreNumbered flow.now }
     requires before { NoneDeepBefore program.now file }
     requires clear { IsClear search.old.seen.items }
-    requires room { length search.old.seen.items ≡ length flow.now * 5 }
+    requires room { length search.old.seen.items ≡ length flow.now * (MOST_DEPTH + 1) }
     requires count { length files.old.sets.items ≡ MOST_STATEMENTS + 1 }
     requires due { AreDue (IsFileDue program.now) files.old.sets.items file }
     ensures found { IsDepthFound program.now file result }
@@ -169,7 +169,7 @@ fn find_items(
     requires flow { IsFlow program.now flow.now }
     requires numbers { AreNumbered flow.now }
     requires clear { IsClear search.old.seen.items }
-    requires room { length search.old.seen.items ≡ length flow.now * 5 }
+    requires room { length search.old.seen.items ≡ length flow.now * (MOST_DEPTH + 1) }
     requires count { length items.old.sets.items ≡ MOST_STATEMENTS + 1 }
     requires due { AreDue (IsItemDue program.now) items.old.sets.items 0 }
     ensures due { OnOk result (AreDue (IsItemDue program.now) items.new.sets.items (length program.now.items)) }
@@ -194,7 +194,7 @@ fn find_item(
     requires flow { IsFlow program.now flow.now }
     requires numbers { AreNumbered flow.now }
     requires clear { IsClear search.old.seen.items }
-    requires room { length search.old.seen.items ≡ length flow.now * 5 }
+    requires room { length search.old.seen.items ≡ length flow.now * (MOST_DEPTH + 1) }
     requires count { length items.old.sets.items ≡ MOST_STATEMENTS + 1 }
     requires due { AreDue (IsItemDue program.now) items.old.sets.items item }
     ensures due { OnOk result (AreDue (IsItemDue program.now) items.new.sets.items (item + 1)) }

@@ -1,4 +1,4 @@
-ghost use Rattle.std.specs.Prelude.{◌≡◌, ◌*◌, ◌≤◌, length, OnOk};
+ghost use Rattle.std.specs.Prelude.{◌≡◌, ◌+◌, ◌*◌, ◌≤◌, length, OnOk};
 ghost use Rattle.tal_tree.specs.Limits.{IsWithinLimits};
 ghost use Rattle.tal_tree.specs.Ordered.{IsOrdered};
 ghost use Rattle.tal_tree.specs.Regular.{IsRegular};
@@ -9,6 +9,7 @@ ghost use Rattle.due_search.specs.reason_dues.specs.Sets.{IsNear};
 ghost use Rattle.discipline.specs.Suspects.{IsKnown, HaveNodes, AreSuspects};
 ghost use Rattle.due_search.specs.Search.{IsClear};
 ghost use Rattle.discipline.specs.Verdict.{NoneBefore, IsVerdict, IsTried, AreTriedBefore};
+ghost use Rattle.gd_words.specs.declared.limits.TheConstants.{MOST_DEPTH};
 
 use crate::suspects::suspects;
 use due_search::{Aim, Flow, FlowFault, Reasons, Search, most_of};
@@ -73,7 +74,7 @@ fn try_items(
     requires suspects { AreSuspects flow.now suspects }
     requires nodes { HaveNodes flow.now suspects }
     requires clear { IsClear search.old.seen.items }
-    requires room { length search.old.seen.items ≡ length flow.now * 5 }
+    requires room { length search.old.seen.items ≡ length flow.now * (MOST_DEPTH + 1) }
     ensures tried { AreTriedBefore program.now (SyncBlock 0) result }
     ensures clear { OnOk result (IsClear search.new.seen.items) }
     ensures room { length search.new.seen.items ≡ length search.old.seen.items }
@@ -101,7 +102,7 @@ fn try_files(
     requires nodes { HaveNodes flow.now suspects }
     requires before { NoneBefore program.now (SyncBlock 0) }
     requires clear { IsClear search.old.seen.items }
-    requires room { length search.old.seen.items ≡ length flow.now * 5 }
+    requires room { length search.old.seen.items ≡ length flow.now * (MOST_DEPTH + 1) }
     ensures tried { AreTriedBefore program.now Input result }
     ensures clear { OnOk result (IsClear search.new.seen.items) }
     ensures room { length search.new.seen.items ≡ length search.old.seen.items }
@@ -135,7 +136,7 @@ fn try_depths(
     requires nodes { HaveNodes flow.now suspects }
     requires before { NoneBefore program.now (Depth 0) }
     requires clear { IsClear search.old.seen.items }
-    requires room { length search.old.seen.items ≡ length flow.now * 5 }
+    requires room { length search.old.seen.items ≡ length flow.now * (MOST_DEPTH + 1) }
     ensures { IsVerdict program.now result }
 {
     for file in 0..program.files.len() as u8 {
@@ -163,7 +164,7 @@ fn try_reason(
     requires near { IsNear reason }
     requires before { NoneBefore program.now reason }
     requires clear { IsClear search.old.seen.items }
-    requires room { length search.old.seen.items ≡ length flow.now * 5 }
+    requires room { length search.old.seen.items ≡ length flow.now * (MOST_DEPTH + 1) }
     ensures tried { IsTried program.now reason result }
     ensures clear { OnOk result (IsClear search.new.seen.items) }
     ensures room { length search.new.seen.items ≡ length search.old.seen.items }

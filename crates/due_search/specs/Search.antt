@@ -12,8 +12,7 @@ use Rattle.flow_paths.specs.Graph.{Node, edges_of}
 use Rattle.reason_dues.specs.Amounts.{cut_after, after_changed, may_break_at}
 use Rattle.due_search.specs.declared.queue.Visit.{Visit}
 use Rattle.due_search.specs.declared.search.Aim.{Aim}
-use Rattle.gd_words.specs.declared.limits.TheConstants.{MOST_STATEMENTS}
-use Rattle.gd_words.specs.declared.limits.TheConstants.{MOST_DEPTH}
+use Rattle.gd_words.specs.declared.limits.TheConstants.{MOST_DEPTH, MOST_STATEMENTS}
 
 -- the visit with which a search begins
 abbrev pub first_visit : Visit
@@ -79,7 +78,7 @@ ComesByEach old new reason most after place visit (Some edge) =
 
 -- the place of a visit in what is seen
 abbrev pub place_in_seen : Visit → ℕ
-place_in_seen visit = visit.node * 5 + visit.due
+place_in_seen visit = visit.node * (MOST_DEPTH + 1) + visit.due
 
 -- exactly what stands in the queue is seen, once
 pub record IsSeenOnce (seen : List Bool) (queue : List Visit) : Type 0 where
@@ -96,7 +95,7 @@ IsSeenFrom seen queue from = (k : ℕ) → slice_get seen k ≡ Some true
 
 -- a node to which a goal leads has room in a list of so many
 abbrev pub HasRoom : Goal → ℕ → Type 0
-HasRoom (At k) count = k * 5 + 4 < count
+HasRoom (At k) count = k * (MOST_DEPTH + 1) + MOST_DEPTH < count
 HasRoom Left count = Unit {0}
 HasRoom Ended count = Unit {0}
 

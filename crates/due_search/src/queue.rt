@@ -1,6 +1,11 @@
 ghost use Rattle.std.specs.Prelude.{◌≡◌};
 ghost use Rattle.due_search.specs.Search.{first_visit, place_in_seen};
 
+use gd_words::limits::MOST_DEPTH;
+
+/// So many amounts may be due at a node: 0 to the greatest depth.
+pub(crate) const AMOUNTS: usize = MOST_DEPTH as usize + 1;
+
 /// A node to which a search comes, with how much is due there, cut at the most that is counted: the place in the queue
 /// of the visit from which it comes, and its steps from the start.
 #[derive(Clone, Copy)]
@@ -24,10 +29,10 @@ impl Visit {
         }
     }
 
-    /// Its place in what is seen: five for each node, one for each amount up to 4.
+    /// Its place in what is seen, in which each node has one for each amount.
     pub(crate) fn place_in_seen(&self) -> usize
         ensures { result ≡ place_in_seen self.now }
     {
-        usize::from(self.node) * 5 + usize::from(self.due)
+        usize::from(self.node) * AMOUNTS + usize::from(self.due)
     }
 }

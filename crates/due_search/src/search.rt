@@ -8,7 +8,7 @@ ghost use Rattle.due_search.specs.Search.{ComesBy};
 ghost use Rattle.due_search.specs.Search.{visit_after, back, IsTrail, IsSearched, Advances};
 ghost use Rattle.gd_words.specs.declared.limits.TheConstants.{MOST_DEPTH, MOST_STATEMENTS, MOST_WRITTEN_OUT};
 
-use crate::queue::Visit;
+use crate::queue::{AMOUNTS, Visit};
 use flow_paths::{Edge, Entry, Flow, Goal, Reason, entry_number};
 use gd_words::{List, NoMemory};
 use reason_dues::{after_entry, cut_changed, may_break_at};
@@ -48,9 +48,9 @@ impl Search {
     /// Room to search so many nodes.
     pub fn new(alloc: Global, count: u16) -> Result<Search, NoMemory>
         ensures clear { IfOk result (λ search. IsClear search.seen.items) }
-        ensures room { IfOk result (λ search. length search.seen.items ≡ count * 5) }
+        ensures room { IfOk result (λ search. length search.seen.items ≡ count * (MOST_DEPTH + 1)) }
     {
-        let seen = vec![in alloc; false; usize::from(count) * 5]?;
+        let seen = vec![in alloc; false; usize::from(count) * AMOUNTS]?;
         let queue = Vec::new(alloc);
         Ok(Search { queue, seen })
     }
@@ -67,7 +67,7 @@ impl Search {
         requires few { aim.most ≤ MOST_DEPTH }
         requires numbers { AreNumbered flow.now }
         requires clear { IsClear self.old.seen.items }
-        requires room { length self.old.seen.items ≡ length flow.now * 5 }
+        requires room { length self.old.seen.items ≡ length flow.now * (MOST_DEPTH + 1) }
         ensures found { IfOk result (λ found. HasFound flow.now aim self.new.queue.items found) }
         ensures clear { IfOk result (λ _. IsClear self.new.seen.items) }
         ensures room { length self.new.seen.items ≡ length self.old.seen.items }
@@ -96,7 +96,7 @@ impl Search {
     fn explore(&mut self, flow: &Flow<'_>, aim: Aim) -> Result<Option<usize>, NoMemory>
         requires few { aim.most ≤ MOST_DEPTH }
         requires clear { IsClear self.old.seen.items }
-        requires room { length self.old.seen.items ≡ length flow.now * 5 }
+        requires room { length self.old.seen.items ≡ length flow.now * (MOST_DEPTH + 1) }
         ensures stopped { IfOk result (λ stopped. HasStopped flow.now aim self.new.queue.items stopped) }
         ensures once { IfOk result (λ _. IsSeenOnce self.new.seen.items self.new.queue.items) }
         ensures room { length self.new.seen.items ≡ length self.old.seen.items }
@@ -123,7 +123,7 @@ impl Search {
         requires head { head < length self.old.queue.items }
         requires searched { IsSearched flow.now aim self.old.queue.items head }
         requires once { IsSeenOnce self.old.seen.items self.old.queue.items }
-        requires room { length self.old.seen.items ≡ length flow.now * 5 }
+        requires room { length self.old.seen.items ≡ length flow.now * (MOST_DEPTH + 1) }
         ensures advances { IfOk result (λ ends.
             Advances flow.now aim self.old.queue.items self.new.queue.items head ends) }
         ensures once { IfOk result (λ _. IsSeenOnce self.new.seen.items self.new.queue.items) }

@@ -1,4 +1,4 @@
-ghost use Rattle.std.specs.Prelude.{◌≡◌, ◌≤◌, min, Some};
+ghost use Rattle.std.specs.Prelude.{◌≡◌, ◌≤◌, ◌+◌, min, Some};
 ghost use Rattle.std.specs.Option.{option_copied};
 ghost use Rattle.gd_words.specs.Members.{is_among};
 ghost use Rattle.tal_tree.specs.declared.statement.What.{out-What};
@@ -16,7 +16,7 @@ use tal_tree::{FileUse, Program, Spot, Variable, What};
 pub fn after_entry(reason: Reason, entry: Entry<'_>, due: u8) -> u8
     requires { due ≤ MOST_DEPTH }
     ensures value { result ≡ after_entry reason (entry_of entry.entry) due }
-    ensures most { result ≤ 5 }
+    ensures most { result ≤ MOST_DEPTH + 1 }
 {
     match entry {
         Entry::Run(statement) => after_what(reason, &statement.what, due),
@@ -29,7 +29,7 @@ pub fn after_entry(reason: Reason, entry: Entry<'_>, due: u8) -> u8
 fn after_what(reason: Reason, what: &What, due: u8) -> u8
     requires { due ≤ MOST_DEPTH }
     ensures value { result ≡ after_what reason (out-What what.now) due }
-    ensures most { result ≤ 5 }
+    ensures most { result ≤ MOST_DEPTH + 1 }
 {
     if clears(what) {
         0
@@ -44,7 +44,7 @@ fn after_what(reason: Reason, what: &What, due: u8) -> u8
 fn one_more(reason: Reason, due: u8) -> u8
     requires { due ≤ MOST_DEPTH }
     ensures value { result ≡ one_more reason due }
-    ensures most { result ≤ 5 }
+    ensures most { result ≤ MOST_DEPTH + 1 }
 {
     match reason {
         Reason::Depth(_) => due + 1,
@@ -56,7 +56,7 @@ fn one_more(reason: Reason, due: u8) -> u8
 fn after_last(reason: Reason, what: &What, due: u8) -> u8
     requires { due ≤ MOST_DEPTH }
     ensures value { result ≡ after_changed reason (changed_by (out-What what.now)) due }
-    ensures most { result ≤ 5 }
+    ensures most { result ≤ MOST_DEPTH + 1 }
 {
     if adds_last(reason, what) { 1 } else { due }
 }
