@@ -5,6 +5,7 @@ ghost use Rattle.command_words.specs.declared.asked.Command.TheVariants.{Run, Ve
 ghost use Rattle.deck_reader.specs.Decks.{Decks};
 ghost use Rattle.deck_reader.specs.declared.deck.Deck.{Deck};
 ghost use Rattle.player.specs.declared.stop.ProcessorStop.{ProcessorStop};
+ghost use Rattle.player.specs.gd_words.specs.declared.limits.TheConstants.{MOST_INPUT_BYTES};
 ghost use Rattle.plain_semantics.specs.Machine.{shown_by};
 ghost use Rattle.report_judge.specs.Reported.{IsReported};
 ghost use Rattle.report_judge.specs.Verdicts.{IsVerdict};
@@ -85,7 +86,7 @@ pub fn a_run_and_its_report_are_verified()
         → closing_of report.run.ran.ending ≡ Ended end
         → ((deck : Deck) → Decks bytes deck → AreUnmirrored deck.site.processes) → asked_by others ≡ Some Verify
         → IsEnded bytes
-        → length (bytes ++ text_of (due.Report report)) ≤ 67108864
+        → length (bytes ++ text_of (due.Report report)) ≤ MOST_INPUT_BYTES
         → IsDue others (Some (bytes ++ text_of (due.Report report))) later last
         (due.Verified (length (acts_of_run report.run))) }
 {}
