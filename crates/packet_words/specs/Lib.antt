@@ -1,4 +1,3 @@
-pub mod Buses
 pub mod Layout
 pub mod Pieces
 pub mod Telling

@@ -1,12 +1,14 @@
+use crate::bus_name::BusName;
+
 /// One atomic step of the whole system. Processes and terminals are named by their places in the deck, nodes by their
-/// numbers, and packets by their positions from 0 on bus Y or, where `y` is false, on bus X.
+/// numbers, and packets by their bus and their positions on it, from 0.
 #[derive(Clone, Copy, PartialEq, Eq)]
 pub enum Event {
     Run(u8),
     Enter(u8),
-    Deliver { y: bool, k: u32 },
-    Lose { y: bool, k: u32 },
-    Repeat { y: bool, k: u32 },
+    Deliver { bus: BusName, k: u32 },
+    Lose { bus: BusName, k: u32 },
+    Repeat { bus: BusName, k: u32 },
     Tick(u8),
     Fail(u8),
     Reload(u8),

@@ -1,5 +1,5 @@
 ghost use Rattle.std.specs.Prelude.{◌≡◌};
-ghost use Rattle.packet_words.specs.Buses.{other_bus};
+ghost use Rattle.schedule.specs.Buses.{other_bus};
 
 /// One of the two buses between the nodes.
 #[derive(Clone, Copy, PartialEq, Eq)]
