@@ -1,6 +1,7 @@
 -- The packet that an event concerns is the aimed one.
 use Rattle.std.proofs.Common.{◌≡◌, ℕ, Bool, true, false, ◌==◌, ◌&&◌, Option, Some, None, if◌then◌else◌, refl, ap, sym}
 use Rattle.std.proofs.Common.{◌∙◌, option_map}
+use Rattle.schedule.specs.declared.bus_name.BusName.{BusName}
 use Rattle.schedule.specs.declared.event.Event.{Event}
 use Rattle.schedule.specs.declared.event.Event.TheVariants.{Run, Enter, Deliver, Lose, Repeat, Tick, Fail, Reload}
 use Rattle.schedule.specs.declared.event.Event.TheVariants.{Drive}
@@ -14,12 +15,12 @@ use Rattle.player.specs.Lines.{proposed, is_over, event_when_muted, event_when_s
 use Rattle.player.specs.Lines.{next_event, on_bus, packet_of}
 use Rattle.player.specs.Lines.{packet_of_move, packet_aimed_at}
 
-lost-or-delivered : (x y : ℕ) (bus : Bool) (k : ℕ) (lost : Bool)
+lost-or-delivered : (x y : ℕ) (bus : BusName) (k : ℕ) (lost : Bool)
     → packet_of x y (if lost then Lose bus k else Deliver bus k) ≡ on_bus x y bus k
 lost-or-delivered x y bus k true = refl
 lost-or-delivered x y bus k false = refl
 
-delivered-or-lost : (x y : ℕ) (bus : Bool) (k : ℕ) (spared : Bool)
+delivered-or-lost : (x y : ℕ) (bus : BusName) (k : ℕ) (spared : Bool)
     → packet_of x y (if spared then Deliver bus k else Lose bus k) ≡ on_bus x y bus k
 delivered-or-lost x y bus k true = refl
 delivered-or-lost x y bus k false = refl

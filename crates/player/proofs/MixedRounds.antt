@@ -2,6 +2,8 @@
 use Rattle.std.proofs.Common.{◌≡◌, ℕ, zero, suc, ◌+◌, ◌-◌, ◌/◌, ◌%◌, ◌≤◌, ◌==◌, Bool, true, false, nat_lt}
 use Rattle.std.proofs.Common.{if◌then◌else◌, refl, arith}
 use Rattle.std.proofs.lemmas.Bool.{ltb-true}
+use Rattle.schedule.specs.declared.bus_name.BusName.{BusName}
+use Rattle.schedule.specs.declared.bus_name.BusName.TheVariants as bus
 use Rattle.schedule.specs.declared.event.Event.TheVariants as event
 use Rattle.player.specs.declared.standing.Sizes.{Sizes}
 use Rattle.player.specs.declared.standing.MixedPlace.{MixedPlace}
@@ -31,20 +33,20 @@ ticks-one sizes node draws few = by (nat_lt node sizes.processors) refl
     by true is = not-last node (let low = ltb-true node sizes.processors is in omega (arith, low, few))
     by false is = one
 
-handled-one : (y : Bool) (k choice left draws : ℕ) → IsOfOneMixed (handled y k choice left draws)
-handled-one y k choice left draws = either (choice == 0) _ _ one (either (choice == 1) _ _ one one)
+handled-one : (bus : BusName) (k choice left draws : ℕ) → IsOfOneMixed (handled bus k choice left draws)
+handled-one bus k choice left draws = either (choice == 0) _ _ one (either (choice == 1) _ _ one one)
 
-packet-one : (y : Bool) (left draws : ℕ) → IsOfOneMixed (drawn_packet y left draws)
-packet-one y left draws = handled-one y (word draws / 8 % left) (word draws % 8) (left - 1) (drawn draws)
+packet-one : (bus : BusName) (left draws : ℕ) → IsOfOneMixed (drawn_packet bus left draws)
+packet-one bus left draws = handled-one bus (word draws / 8 % left) (word draws % 8) (left - 1) (drawn draws)
 
 delivers_y-one : (sizes : Sizes) (left draws : ℕ) → sizes.processors ≤ 16 → IsOfOneMixed (delivers_y sizes left draws)
 delivers_y-one sizes left draws few =
-    either (nat_lt 0 left) _ _ (packet-one true left draws) (ticks-one sizes 0 draws few)
+    either (nat_lt 0 left) _ _ (packet-one bus.Y left draws) (ticks-one sizes 0 draws few)
 
 delivers_x-one : (sizes : Sizes) (y left draws : ℕ) → sizes.processors ≤ 16
     → IsOfOneMixed (delivers_x sizes y left draws)
 delivers_x-one sizes y left draws few =
-    either (nat_lt 0 left) _ _ (packet-one false left draws) (delivers_y-one sizes y draws few)
+    either (nat_lt 0 left) _ _ (packet-one bus.X left draws) (delivers_y-one sizes y draws few)
 
 drawn_runs-one : (sizes : Sizes) (x y more process draws : ℕ) → sizes.processors ≤ 16
     → IsOfOneMixed (drawn_runs sizes x y more process draws)
@@ -70,7 +72,7 @@ pub mixed-one : (sizes : Sizes) (x y : ℕ) (place : MixedPlace) (draws : ℕ) �
 mixed-one sizes x y place.Before draws few = enters-one sizes x y 0 draws few
 mixed-one sizes x y (place.Enters terminal) draws few = enters-one sizes x y terminal draws few
 mixed-one sizes x y (place.Runs next left) draws few = runs-one sizes x y next left draws few
-mixed-one sizes x y (place.Delivers false left) draws few = delivers_x-one sizes y left draws few
-mixed-one sizes x y (place.Delivers true left) draws few = delivers_y-one sizes left draws few
+mixed-one sizes x y (place.Delivers bus.X left) draws few = delivers_x-one sizes y left draws few
+mixed-one sizes x y (place.Delivers bus.Y left) draws few = delivers_y-one sizes left draws few
 mixed-one sizes x y (place.Repeated bus k left) draws few = one
 mixed-one sizes x y (place.Ticks node) draws few = ticks-one sizes node draws few

@@ -1,6 +1,7 @@
 -- A turn ends its round or leaves it under way.
 use Rattle.std.proofs.Common.{◌≡◌, ℕ, ◌+◌, ◌<◌, ◌≤◌, ◌==◌, Bool, true, false, nat_lt, if◌then◌else◌, refl, arith}
 use Rattle.std.proofs.lemmas.Bool.{ltb-true, eqb-true}
+use Rattle.schedule.specs.declared.bus_name.BusName.TheVariants as bus
 use Rattle.schedule.specs.declared.event.Event.TheVariants as event
 use Rattle.player.specs.declared.standing.Sizes.{Sizes}
 use Rattle.player.specs.declared.standing.Place.{Place}
@@ -53,6 +54,6 @@ pub turn-one : (sizes : Sizes) (x y : ℕ) (place : Place) → sizes.processors 
 turn-one sizes x y place.Before few = enters-one sizes x y 0 few
 turn-one sizes x y (place.Enters terminal) few = enters-one sizes x y terminal few
 turn-one sizes x y (place.Runs process) few = runs-one sizes x y process few
-turn-one sizes x y (place.Delivers false left) few = delivers_x-one sizes y left few
-turn-one sizes x y (place.Delivers true left) few = delivers_y-one sizes left few
+turn-one sizes x y (place.Delivers bus.X left) few = delivers_x-one sizes y left few
+turn-one sizes x y (place.Delivers bus.Y left) few = delivers_y-one sizes left few
 turn-one sizes x y (place.Ticks node) few = ticks-one sizes node few

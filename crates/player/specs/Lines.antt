@@ -2,6 +2,8 @@
 use Rattle.std.specs.Prelude.{ℕ, ◌-◌, ◌==◌, ◌&&◌, ◌||◌, nat_lt, nat_le, Bool, true, false, Option, Some, None}
 use Rattle.std.specs.Prelude.{if◌then◌else◌}
 use Rattle.std.specs.Option.{option_map}
+use Rattle.schedule.specs.declared.bus_name.BusName.{BusName}
+use Rattle.schedule.specs.declared.bus_name.BusName.TheVariants as bus
 use Rattle.schedule.specs.declared.event.Event.{Event}
 use Rattle.schedule.specs.declared.event.Event.TheVariants as event
 use Rattle.schedule.specs.declared.event.Counts.{Counts}
@@ -92,13 +94,13 @@ is_over standing counts = has_reached standing counts || (asks_idle standing && 
 
 -- an alive packet of a muted node is lost in place of being delivered
 abbrev pub event_when_muted : ℕ → Counts → Event → Event
-event_when_muted node counts (event.Deliver y k) =
-    if counts.alive && (counts.sender == node) then event.Lose y k else event.Deliver y k
+event_when_muted node counts (event.Deliver bus k) =
+    if counts.alive && (counts.sender == node) then event.Lose bus k else event.Deliver bus k
 event_when_muted node counts event = event
 
 -- an alive packet in a mixed round is delivered in place of being lost
 abbrev pub event_when_spared : Counts → Event → Event
-event_when_spared counts (event.Lose y k) = if counts.alive then event.Deliver y k else event.Lose y k
+event_when_spared counts (event.Lose bus k) = if counts.alive then event.Deliver bus k else event.Lose bus k
 event_when_spared counts event = event
 
 -- what comes of an event where the packet that it concerns is an alive one, or isn't
@@ -125,28 +127,33 @@ stands_after None = standing.Ended
 abbrev pub event_of : Option Move → Option Event
 event_of move = option_map (λ m. m.event) move
 
--- the packet at a position of a bus, where the buses hold x and y packets
-abbrev pub on_bus : ℕ → ℕ → Bool → ℕ → Option (Bool × ℕ)
-on_bus x y bus k = if nat_lt k (if bus then y else x) then Some (bus, k) else None
+-- how many packets a bus holds, where the buses hold x and y packets
+abbrev pub held : ℕ → ℕ → BusName → ℕ
+held x y bus.X = x
+held x y bus.Y = y
+
+-- the packet at a position of a bus
+abbrev pub on_bus : ℕ → ℕ → BusName → ℕ → Option (BusName × ℕ)
+on_bus x y bus k = if nat_lt k (held x y bus) then Some (bus, k) else None
 
 -- the packet that an event concerns
-abbrev pub packet_of : ℕ → ℕ → Event → Option (Bool × ℕ)
+abbrev pub packet_of : ℕ → ℕ → Event → Option (BusName × ℕ)
 packet_of x y (event.Deliver bus k) = on_bus x y bus k
 packet_of x y (event.Lose bus k) = on_bus x y bus k
 packet_of x y (event.Repeat bus k) = on_bus x y bus k
 packet_of x y _ = None
 
-abbrev pub packet_of_move : ℕ → ℕ → Option Move → Option (Bool × ℕ)
+abbrev pub packet_of_move : ℕ → ℕ → Option Move → Option (BusName × ℕ)
 packet_of_move x y (Some move) = packet_of x y move.event
 packet_of_move x y None = None
 
 -- the packet that the next event of a line concerns, where the line goes on
-abbrev pub packet_aimed_at : Sizes → ℕ → ℕ → LinePlace → Option (Bool × ℕ)
+abbrev pub packet_aimed_at : Sizes → ℕ → ℕ → LinePlace → Option (BusName × ℕ)
 packet_aimed_at sizes x y standing = packet_of_move x y (proposed sizes x y standing)
 
 -- the bus whose packets a drain delivers next, whatever is counted, and how many of them are left
-abbrev pub bus_to_drain : LinePlace → Option (Bool × ℕ)
-bus_to_drain (standing.Rounds rule.Drain left (place.Delivers y packets)) = Some (y, packets)
+abbrev pub bus_to_drain : LinePlace → Option (BusName × ℕ)
+bus_to_drain (standing.Rounds rule.Drain left (place.Delivers bus packets)) = Some (bus, packets)
 bus_to_drain _ = None
 
 -- how many rounds are left of a drain that stands between two rounds
@@ -156,6 +163,6 @@ rounds_to_drain _ = None
 
 -- where a line stands with so many packets left that its round delivers
 abbrev pub with_packets_left : ℕ → LinePlace → LinePlace
-with_packets_left packets (standing.Rounds rule left (place.Delivers y before)) =
-    standing.Rounds rule left (place.Delivers y packets)
+with_packets_left packets (standing.Rounds rule left (place.Delivers bus before)) =
+    standing.Rounds rule left (place.Delivers bus packets)
 with_packets_left packets standing = standing

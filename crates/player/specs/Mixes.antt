@@ -1,9 +1,11 @@
 -- The events of one mixed round, part by part. How often a process runs, and which packet comes next and what becomes
 -- of it, is drawn from the line's own generator. The order and the draws are our own rule.
-use Rattle.std.specs.Prelude.{ℕ, zero, suc, ◌+◌, ◌-◌, ◌/◌, ◌%◌, ◌==◌, nat_lt, Bool, true, false, if◌then◌else◌}
+use Rattle.std.specs.Prelude.{ℕ, zero, suc, ◌+◌, ◌-◌, ◌/◌, ◌%◌, ◌==◌, nat_lt, if◌then◌else◌}
 use Rattle.gd_words.specs.declared.limits.TheConstants.{TERMINAL_NODE}
 use Rattle.rand_pcg.specs.Lcg.{Lcg, started, increment_of}
 use Rattle.rand_pcg.specs.Pcg.{multiplier_64, pcg32}
+use Rattle.schedule.specs.declared.bus_name.BusName.{BusName}
+use Rattle.schedule.specs.declared.bus_name.BusName.TheVariants as bus
 use Rattle.schedule.specs.declared.event.Event.{Event}
 use Rattle.schedule.specs.declared.event.Event.TheVariants as event
 use Rattle.player.specs.declared.standing.Sizes.{Sizes}
@@ -35,23 +37,23 @@ ticks sizes node draws =
     (event.Tick TERMINAL_NODE) place.Before draws
 
 -- what becomes of the packet at a position: it is repeated and then delivered, lost, or delivered
-abbrev pub handled : Bool → ℕ → ℕ → ℕ → ℕ → MixedTurn
-handled y k choice left draws =
-    if choice == 0 then turn (event.Repeat y k) (place.Repeated y k left) draws
-    else if choice == 1 then turn (event.Lose y k) (place.Delivers y left) draws
-    else turn (event.Deliver y k) (place.Delivers y left) draws
+abbrev pub handled : BusName → ℕ → ℕ → ℕ → ℕ → MixedTurn
+handled bus k choice left draws =
+    if choice == 0 then turn (event.Repeat bus k) (place.Repeated bus k left) draws
+    else if choice == 1 then turn (event.Lose bus k) (place.Delivers bus left) draws
+    else turn (event.Deliver bus k) (place.Delivers bus left) draws
 
 -- a word says which of the packets that are left comes next, and what becomes of it
-abbrev pub drawn_packet : Bool → ℕ → ℕ → MixedTurn
-drawn_packet y left draws = handled y (word draws / 8 % left) (word draws % 8) (left - 1) (drawn draws)
+abbrev pub drawn_packet : BusName → ℕ → ℕ → MixedTurn
+drawn_packet bus left draws = handled bus (word draws / 8 % left) (word draws % 8) (left - 1) (drawn draws)
 
 -- bus Y has its packets in a drawn order
 abbrev pub delivers_y : Sizes → ℕ → ℕ → MixedTurn
-delivers_y sizes left draws = if nat_lt 0 left then drawn_packet true left draws else ticks sizes 0 draws
+delivers_y sizes left draws = if nat_lt 0 left then drawn_packet bus.Y left draws else ticks sizes 0 draws
 
 -- and bus X before it; `y` packets are on bus Y
 abbrev pub delivers_x : Sizes → ℕ → ℕ → ℕ → MixedTurn
-delivers_x sizes y left draws = if nat_lt 0 left then drawn_packet false left draws else delivers_y sizes y draws
+delivers_x sizes y left draws = if nat_lt 0 left then drawn_packet bus.X left draws else delivers_y sizes y draws
 
 -- of so many processes from this one on, each runs a drawn number of times, up to three; `x` and `y` packets are on the
 -- buses
@@ -83,7 +85,7 @@ abbrev pub next_mixed : Sizes → ℕ → ℕ → MixedPlace → ℕ → MixedTu
 next_mixed sizes x y place.Before draws = enters sizes x y 0 draws
 next_mixed sizes x y (place.Enters terminal) draws = enters sizes x y terminal draws
 next_mixed sizes x y (place.Runs next left) draws = runs sizes x y next left draws
-next_mixed sizes x y (place.Delivers false left) draws = delivers_x sizes y left draws
-next_mixed sizes x y (place.Delivers true left) draws = delivers_y sizes left draws
+next_mixed sizes x y (place.Delivers bus.X left) draws = delivers_x sizes y left draws
+next_mixed sizes x y (place.Delivers bus.Y left) draws = delivers_y sizes left draws
 next_mixed sizes x y (place.Repeated bus k left) draws = turn (event.Deliver bus k) (place.Delivers bus left) draws
 next_mixed sizes x y (place.Ticks node) draws = ticks sizes node draws

@@ -1,6 +1,7 @@
 -- The events of a line one after another, and values for the guards.
 use Rattle.std.specs.Prelude.{ℕ, true, false, List, [], ◌∷◌, ◌++◌, Option, Some, None, replicate}
 use Rattle.gd_words.specs.declared.limits.TheConstants.{TERMINAL_NODE}
+use Rattle.schedule.specs.declared.bus_name.BusName.TheVariants as bus
 use Rattle.schedule.specs.declared.event.Event.{Event}
 use Rattle.schedule.specs.declared.event.Event.TheVariants as event
 use Rattle.schedule.specs.declared.event.Counts.{Counts}
@@ -47,13 +48,13 @@ ticks = event.Tick 0 ∷ event.Tick 1 ∷ event.Tick TERMINAL_NODE ∷ []
 
 -- a round of one process with two packets on bus X and one on bus Y
 abbrev pub round : List Event
-round = event.Enter 0 ∷ event.Enter 1 ∷ event.Run 0 ∷ event.Deliver false 0 ∷ event.Deliver false 0
-    ∷ event.Deliver true 0 ∷ ticks
+round = event.Enter 0 ∷ event.Enter 1 ∷ event.Run 0 ∷ event.Deliver bus.X 0 ∷ event.Deliver bus.X 0
+    ∷ event.Deliver bus.Y 0 ∷ ticks
 
 -- the same where every packet is lost
 abbrev pub lost_round : List Event
 lost_round =
-    event.Enter 0 ∷ event.Enter 1 ∷ event.Run 0 ∷ event.Lose false 0 ∷ event.Lose false 0 ∷ event.Lose true 0 ∷ ticks
+    event.Enter 0 ∷ event.Enter 1 ∷ event.Run 0 ∷ event.Lose bus.X 0 ∷ event.Lose bus.X 0 ∷ event.Lose bus.Y 0 ∷ ticks
 
 -- what a mixed round begins with that is drawn from 42, up to its first packet
 abbrev pub mixed_from_42 : List Event
@@ -61,4 +62,4 @@ mixed_from_42 = event.Enter 0 ∷ event.Enter 1 ∷ replicate 3 (event.Run 0)
 
 -- and what it ends with after its first packet
 abbrev pub mixed_to_the_end : List Event
-mixed_to_the_end = event.Repeat false 0 ∷ event.Deliver false 0 ∷ event.Deliver true 0 ∷ ticks
+mixed_to_the_end = event.Repeat bus.X 0 ∷ event.Deliver bus.X 0 ∷ event.Deliver bus.Y 0 ∷ ticks

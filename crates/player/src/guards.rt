@@ -1,4 +1,5 @@
 ghost use Rattle.std.specs.Prelude.{◌≡◌, true, false, [], ◌∷◌, ◌++◌, replicate, take};
+ghost use Rattle.schedule.specs.declared.bus_name.BusName.TheVariants as bus;
 ghost use Rattle.schedule.specs.declared.event.Event.TheVariants as event;
 ghost use Rattle.schedule.specs.declared.line.Line.TheVariants.{One, Many, Drain, Mix, Mute, Until};
 ghost use Rattle.player.specs.Mixes.{first_draws, word, drawn};
@@ -30,7 +31,7 @@ pub fn packets_are_counted_as_their_part_begins()
     ensures empty { events_of (processes 1) (Drain 1) (replicate 9 (packets 0 0))
         ≡ event.Enter 0 ∷ event.Enter 1 ∷ event.Run 0 ∷ ticks }
     ensures nobody { events_of (record (processes 0) { terminals = 0 }) (Drain 1) (replicate 9 (packets 0 1))
-        ≡ event.Deliver true 0 ∷ ticks }
+        ≡ event.Deliver bus.Y 0 ∷ ticks }
 {}
 
 /// A line that waits for a count makes no event where it is reached before, and ends right after the event at which it
@@ -51,7 +52,7 @@ pub fn alive_packets_of_a_muted_node_are_lost()
     ensures lost { events_of (processes 1) (Mute 1 2) (replicate 30 (alive_of 1)) ≡ lost_round ++ lost_round }
     ensures another { events_of (processes 1) (Mute 1 1) (replicate 30 (alive_of 0)) ≡ round }
     ensures not_alive { events_of (processes 0) (Mute 0 1) (replicate 30 (packets 0 1))
-        ≡ event.Enter 0 ∷ event.Enter 1 ∷ event.Deliver true 0 ∷ ticks }
+        ≡ event.Enter 0 ∷ event.Enter 1 ∷ event.Deliver bus.Y 0 ∷ ticks }
     ensures when_idle { events_of (processes 1) (Mute 1 2) (replicate 30 idle) ≡ round ++ round }
 {}
 
@@ -68,12 +69,12 @@ pub fn words_are_those_of_the_generator()
 /// rounds are made.
 pub fn mixed_rounds_are_drawn()
     ensures lost { events_of (processes 1) (Mix 42 1) (replicate 30 (packets 2 1))
-        ≡ mixed_from_42 ++ event.Lose false 1 ∷ mixed_to_the_end }
+        ≡ mixed_from_42 ++ event.Lose bus.X 1 ∷ mixed_to_the_end }
     ensures spared { events_of (processes 1) (Mix 42 1) (replicate 30 (alive_of 1))
-        ≡ mixed_from_42 ++ event.Deliver false 1 ∷ mixed_to_the_end }
+        ≡ mixed_from_42 ++ event.Deliver bus.X 1 ∷ mixed_to_the_end }
     ensures passed_over { events_of (processes 4) (Mix 42 1) (replicate 30 (packets 0 0))
         ≡ mixed_from_42 ++ event.Run 1 ∷ replicate 3 (event.Run 3) ++ ticks }
     ensures two { take 17 (events_of (processes 1) (Mix 42 2) (replicate 30 idle))
-        ≡ mixed_from_42 ++ event.Lose false 1 ∷ mixed_to_the_end ++ mixed_from_42 }
+        ≡ mixed_from_42 ++ event.Lose bus.X 1 ∷ mixed_to_the_end ++ mixed_from_42 }
     ensures none { events_of (processes 1) (Mix 42 0) (replicate 30 (packets 2 1)) ≡ [] }
 {}

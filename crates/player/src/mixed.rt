@@ -6,7 +6,7 @@ use crate::standing::{MixedPlace, MixedTurn, Sizes};
 use gd_words::limits::TERMINAL_NODE;
 use rand_core::utils::NextWord;
 use rand_pcg::Pcg32;
-use schedule::Event;
+use schedule::{BusName, Event};
 
 const STREAM: u64 = 54;
 
@@ -45,11 +45,17 @@ pub fn next_mixed(sizes: Sizes, x: u32, y: u32, place: MixedPlace, draws: u64) -
         MixedPlace::Before => enters(sizes, x, y, 0, draws),
         MixedPlace::Enters(terminal) => enters(sizes, x, y, terminal, draws),
         MixedPlace::Runs { next, left } => runs(sizes, x, y, next, left, draws),
-        MixedPlace::Delivers { y: false, left } => delivers_x(sizes, y, left, draws),
-        MixedPlace::Delivers { y: true, left } => delivers_y(sizes, left, draws),
-        MixedPlace::Repeated { y: bus, k, left } => MixedTurn {
-            event: Event::Deliver { y: bus, k },
-            place: MixedPlace::Delivers { y: bus, left },
+        MixedPlace::Delivers {
+            bus: BusName::X,
+            left,
+        } => delivers_x(sizes, y, left, draws),
+        MixedPlace::Delivers {
+            bus: BusName::Y,
+            left,
+        } => delivers_y(sizes, left, draws),
+        MixedPlace::Repeated { bus, k, left } => MixedTurn {
+            event: Event::Deliver { bus, k },
+            place: MixedPlace::Delivers { bus, left },
             draws,
         },
         MixedPlace::Ticks(node) => ticks(sizes, node, draws),
@@ -113,7 +119,7 @@ fn delivers_x(sizes: Sizes, y: u32, left: u32, draws: u64) -> MixedTurn
     ensures { result ≡ delivers_x sizes y left draws }
 {
     if 0 < left {
-        drawn_packet(false, left, draws)
+        drawn_packet(BusName::X, left, draws)
     } else {
         delivers_y(sizes, y, draws)
     }
@@ -123,41 +129,41 @@ fn delivers_y(sizes: Sizes, left: u32, draws: u64) -> MixedTurn
     ensures { result ≡ delivers_y sizes left draws }
 {
     if 0 < left {
-        drawn_packet(true, left, draws)
+        drawn_packet(BusName::Y, left, draws)
     } else {
         ticks(sizes, 0, draws)
     }
 }
 
-fn drawn_packet(y: bool, left: u32, draws: u64) -> MixedTurn
+fn drawn_packet(bus: BusName, left: u32, draws: u64) -> MixedTurn
     requires { 0 < left }
-    ensures { result ≡ drawn_packet y left draws }
+    ensures { result ≡ drawn_packet bus left draws }
 {
     let draw = draw_word(draws);
     let k = draw.word / 8 % left;
     let choice = draw.word % 8;
-    handled(y, k, choice, left - 1, draw.draws)
+    handled(bus, k, choice, left - 1, draw.draws)
 }
 
-fn handled(y: bool, k: u32, choice: u32, left: u32, draws: u64) -> MixedTurn
-    ensures { result ≡ handled y k choice left draws }
+fn handled(bus: BusName, k: u32, choice: u32, left: u32, draws: u64) -> MixedTurn
+    ensures { result ≡ handled bus k choice left draws }
 {
     if choice == 0 {
         MixedTurn {
-            event: Event::Repeat { y, k },
-            place: MixedPlace::Repeated { y, k, left },
+            event: Event::Repeat { bus, k },
+            place: MixedPlace::Repeated { bus, k, left },
             draws,
         }
     } else if choice == 1 {
         MixedTurn {
-            event: Event::Lose { y, k },
-            place: MixedPlace::Delivers { y, left },
+            event: Event::Lose { bus, k },
+            place: MixedPlace::Delivers { bus, left },
             draws,
         }
     } else {
         MixedTurn {
-            event: Event::Deliver { y, k },
-            place: MixedPlace::Delivers { y, left },
+            event: Event::Deliver { bus, k },
+            place: MixedPlace::Delivers { bus, left },
             draws,
         }
     }

@@ -3,15 +3,15 @@ ghost use Rattle.schedule.specs.declared.event.Counts.{Counts as AnyCounts};
 ghost use Rattle.player.specs.declared.standing.LinePlace.TheVariants as standing;
 ghost use Rattle.player.specs.declared.standing.Place.TheVariants as place;
 ghost use Rattle.player.specs.declared.standing.Rule.TheVariants as rule;
-ghost use Rattle.player.specs.Lines.{begun, proposed, asks_idle, next_event, stands_after, event_of, packet_of, on_bus};
-ghost use Rattle.player.specs.Lines.{packet_aimed_at};
+ghost use Rattle.player.specs.Lines.{begun, proposed, asks_idle, next_event, stands_after, event_of, packet_of};
+ghost use Rattle.player.specs.Lines.{held, on_bus, packet_aimed_at};
 ghost use Rattle.player.specs.Lines.{bus_to_drain, is_mixed, rounds_to_drain, with_packets_left};
 
 use crate::mixed::{first_draws, next_mixed};
 use crate::round::next_turn;
 use crate::standing::{LinePlace, MixedPlace, Move, Place, Rule, Sizes};
 use crate::step::{is_before, is_before_mixed};
-use schedule::{Counts, Event, Line};
+use schedule::{BusName, Counts, Event, Line};
 
 /// Gives the events of a line one by one.
 #[derive(Clone, Copy, PartialEq, Eq)]
@@ -47,9 +47,9 @@ impl Player {
         self.standing = begun(line);
     }
 
-    /// The packet that the next event concerns where the buses hold `x` and `y` packets and the line goes on: whether
-    /// it is on bus Y, and its position.
-    pub fn aim(&self, x: u32, y: u32) -> Option<(bool, u32)>
+    /// The packet that the next event concerns where the buses hold `x` and `y` packets and the line goes on: its
+    /// bus, and its position there.
+    pub fn aim(&self, x: u32, y: u32) -> Option<(BusName, u32)>
         ensures { result ≡ packet_aimed_at self.now.sizes x y self.now.standing }
     {
         let next = proposed(self.sizes, x, y, self.standing)?;
@@ -86,17 +86,16 @@ impl Player {
         matches!(self.standing, LinePlace::Mixed { .. })
     }
 
-    /// Whether a drain delivers the packets of bus Y, or else of bus X, next, whatever is counted, and how many of them
-    /// are left.
-    pub fn draining(&self) -> Option<(bool, u32)>
+    /// The bus whose packets a drain delivers next, whatever is counted, and how many of them are left.
+    pub fn draining(&self) -> Option<(BusName, u32)>
         ensures { result ≡ bus_to_drain self.now.standing }
     {
         match self.standing {
             LinePlace::Rounds {
                 rule: Rule::Drain,
                 left: _,
-                place: Place::Delivers { y, left },
-            } => Some((y, left)),
+                place: Place::Delivers { bus, left },
+            } => Some((bus, left)),
             _ => None,
         }
     }
@@ -141,13 +140,13 @@ impl Player {
         if let LinePlace::Rounds {
             rule,
             left,
-            place: Place::Delivers { y, left: _ },
+            place: Place::Delivers { bus, left: _ },
         } = self.standing
         {
             self.standing = LinePlace::Rounds {
                 rule,
                 left,
-                place: Place::Delivers { y, left: packets },
+                place: Place::Delivers { bus, left: packets },
             };
         }
     }
@@ -251,20 +250,32 @@ fn asks_idle(standing: LinePlace) -> bool
     }
 }
 
-fn packet_of(x: u32, y: u32, event: Event) -> Option<(bool, u32)>
+fn packet_of(x: u32, y: u32, event: Event) -> Option<(BusName, u32)>
     ensures { result ≡ packet_of x y event }
 {
     match event {
-        Event::Deliver { y: bus, k } | Event::Lose { y: bus, k } | Event::Repeat { y: bus, k } => {
+        Event::Deliver { bus, k } | Event::Lose { bus, k } | Event::Repeat { bus, k } => {
             on_bus(x, y, bus, k)
         }
         _ => None,
     }
 }
 
-fn on_bus(x: u32, y: u32, bus: bool, k: u32) -> Option<(bool, u32)>
+fn on_bus(x: u32, y: u32, bus: BusName, k: u32) -> Option<(BusName, u32)>
     ensures { result ≡ on_bus x y bus k }
 {
-    let held = if bus { y } else { x };
-    if k < held { Some((bus, k)) } else { None }
+    if k < held(x, y, bus) {
+        Some((bus, k))
+    } else {
+        None
+    }
+}
+
+fn held(x: u32, y: u32, bus: BusName) -> u32
+    ensures { result ≡ held x y bus }
+{
+    match bus {
+        BusName::X => x,
+        BusName::Y => y,
+    }
 }

@@ -3,7 +3,7 @@ ghost use Rattle.player.specs.Rounds.{ticks, delivers_y, delivers_x, runs, enter
 
 use crate::standing::{Place, Sizes, Turn};
 use gd_words::limits::TERMINAL_NODE;
-use schedule::Event;
+use schedule::{BusName, Event};
 
 /// The next event of a round at a place, where `x` and `y` packets are on the buses.
 #[inline(always)]
@@ -14,8 +14,14 @@ pub fn next_turn(sizes: Sizes, x: u32, y: u32, place: Place) -> Turn
         Place::Before => enters(sizes, x, y, 0),
         Place::Enters(terminal) => enters(sizes, x, y, terminal),
         Place::Runs(process) => runs(sizes, x, y, process),
-        Place::Delivers { y: false, left } => delivers_x(sizes, y, left),
-        Place::Delivers { y: true, left } => delivers_y(sizes, left),
+        Place::Delivers {
+            bus: BusName::X,
+            left,
+        } => delivers_x(sizes, y, left),
+        Place::Delivers {
+            bus: BusName::Y,
+            left,
+        } => delivers_y(sizes, left),
         Place::Ticks(node) => ticks(sizes, node),
     }
 }
@@ -51,9 +57,12 @@ fn delivers_x(sizes: Sizes, y: u32, left: u32) -> Turn
 {
     if 0 < left {
         Turn {
-            event: Event::Deliver { y: false, k: 0 },
+            event: Event::Deliver {
+                bus: BusName::X,
+                k: 0,
+            },
             place: Place::Delivers {
-                y: false,
+                bus: BusName::X,
                 left: left - 1,
             },
         }
@@ -67,9 +76,12 @@ fn delivers_y(sizes: Sizes, left: u32) -> Turn
 {
     if 0 < left {
         Turn {
-            event: Event::Deliver { y: true, k: 0 },
+            event: Event::Deliver {
+                bus: BusName::Y,
+                k: 0,
+            },
             place: Place::Delivers {
-                y: true,
+                bus: BusName::Y,
                 left: left - 1,
             },
         }

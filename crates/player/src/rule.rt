@@ -51,7 +51,10 @@ pub fn muted(node: u8, counts: &Counts, event: Event) -> Event
     ensures { result ≡ event_when_muted node counts.now event }
 {
     match event {
-        Event::Deliver { y, k } if counts.alive && counts.sender == node => Event::Lose { y, k },
+        Event::Deliver { bus, k } if counts.alive && counts.sender == node => Event::Lose {
+            bus,
+            k,
+        },
         other => other,
     }
 }
@@ -61,7 +64,7 @@ pub fn spared(counts: &Counts, event: Event) -> Event
     ensures { result ≡ event_when_spared counts.now event }
 {
     match event {
-        Event::Lose { y, k } if counts.alive => Event::Deliver { y, k },
+        Event::Lose { bus, k } if counts.alive => Event::Deliver { bus, k },
         other => other,
     }
 }

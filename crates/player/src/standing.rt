@@ -1,4 +1,4 @@
-use schedule::Event;
+use schedule::{BusName, Event};
 
 /// How many processors, processes and terminals there are.
 #[derive(Clone, Copy, PartialEq, Eq)]
@@ -18,7 +18,7 @@ pub enum Place {
     /// The turn comes to this process.
     Runs(u8),
     /// So many packets are left of those that were on the bus when its part began.
-    Delivers { y: bool, left: u32 },
+    Delivers { bus: BusName, left: u32 },
     /// The turn comes to this node.
     Ticks(u8),
 }
@@ -33,9 +33,9 @@ pub enum MixedPlace {
     /// The turn comes to process `next` after so many more runs of the one before it.
     Runs { next: u8, left: u8 },
     /// So many packets are left of those that were on the bus when its part began.
-    Delivers { y: bool, left: u32 },
+    Delivers { bus: BusName, left: u32 },
     /// The packet at `k` was put on the bus once more, and is delivered next.
-    Repeated { y: bool, k: u32, left: u32 },
+    Repeated { bus: BusName, k: u32, left: u32 },
     /// The turn comes to this node.
     Ticks(u8),
 }
