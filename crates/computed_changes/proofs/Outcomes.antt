@@ -2,6 +2,7 @@
 use Rattle.std.proofs.Common.{◌≡◌, ◌&&◌, ℕ, Bool, true, false, nat_lt, List, [], Option, Some, None, slice_get, refl}
 use Rattle.std.proofs.Common.{sym, ap, subst, ◌∙◌}
 use Rattle.tal_tree.specs.declared.site.Site.{Site}
+use Rattle.schedule.specs.declared.bus_name.BusName.{BusName}
 use Rattle.schedule.specs.declared.event.Event.{Event}
 use Rattle.schedule.specs.declared.event.Event.TheVariants.{Enter, Deliver, Fail, Reload}
 use Rattle.world_semantics.specs.World.{World, is_marked_by_all, is_whole}
@@ -30,18 +31,18 @@ idle-where site w cause computed only none sendings next c = let one = only next
 
 -- Messages
 
-handed-as : (site : Site) (w : World) (y : Bool) (k node : ℕ) (message : Message) → IsSent w message
+handed-as : (site : Site) (w : World) (bus : BusName) (k node : ℕ) (message : Message) → IsSent w message
     → (done : Option Done)
-    → handed_done site node message w ≡ done → Follows site w (Deliver y k) (sendings_of done) (world_after w done)
-handed-as site w y k node message sent None e = delivers_none
-handed-as site w y k node message sent (Some done) e =
+    → handed_done site node message w ≡ done → Follows site w (Deliver bus k) (sendings_of done) (world_after w done)
+handed-as site w bus k node message sent None e = delivers_none
+handed-as site w bus k node message sent (Some done) e =
     delivers node message (handed-may site node message w done sent e)
 
-pub handed-follows : (site : Site) (w : World) (y : Bool) (k node : ℕ) (message : Message) → IsSent w message
-    → Follows site w (Deliver y k) (sendings_of (handed_done site node message w))
+pub handed-follows : (site : Site) (w : World) (bus : BusName) (k node : ℕ) (message : Message) → IsSent w message
+    → Follows site w (Deliver bus k) (sendings_of (handed_done site node message w))
     (world_after w (handed_done site node message w))
-handed-follows site w y k node message sent =
-    handed-as site w y k node message sent (handed_done site node message w) refl
+handed-follows site w bus k node message sent =
+    handed-as site w bus k node message sent (handed_done site node message w) refl
 
 pub run-only : {site : Site} {events : List Event} (w next : World) (node : ℕ) (message : Message)
     (sendings : List Sending) → IsRun site events w
@@ -52,16 +53,17 @@ run-only w next node message sendings run apart fitting c =
 
 -- Marks
 
-marked-as : (site : Site) (w : World) (y : Bool) (k node processor : ℕ) (done : Option Done)
+marked-as : (site : Site) (w : World) (bus : BusName) (k node processor : ℕ) (done : Option Done)
     → down_done node processor w ≡ done
-    → Follows site w (Deliver y k) (sendings_of done) (world_after w done)
-marked-as site w y k node processor None e = delivers_none
-marked-as site w y k node processor (Some done) e = delivers_mark node processor (mark-may site node processor w done e)
+    → Follows site w (Deliver bus k) (sendings_of done) (world_after w done)
+marked-as site w bus k node processor None e = delivers_none
+marked-as site w bus k node processor (Some done) e = delivers_mark node processor
+    (mark-may site node processor w done e)
 
-pub mark-follows : (site : Site) (w : World) (y : Bool) (k node processor : ℕ)
-    → Follows site w (Deliver y k) (sendings_of (down_done node processor w))
+pub mark-follows : (site : Site) (w : World) (bus : BusName) (k node processor : ℕ)
+    → Follows site w (Deliver bus k) (sendings_of (down_done node processor w))
     (world_after w (down_done node processor w))
-mark-follows site w y k node processor = marked-as site w y k node processor (down_done node processor w) refl
+mark-follows site w bus k node processor = marked-as site w bus k node processor (down_done node processor w) refl
 
 -- Entries
 

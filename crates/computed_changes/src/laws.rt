@@ -1,7 +1,8 @@
-ghost use Rattle.std.specs.Prelude.{◌≡◌, ℕ, ◌<◌, Bool, true, false, List, [], length, slice_get, Some, None};
+ghost use Rattle.std.specs.Prelude.{◌≡◌, ℕ, ◌<◌, true, false, List, [], length, slice_get, Some, None};
 ghost use Rattle.tal_tree.specs.gd_words.specs.Members.{IsAmong};
 ghost use Rattle.tal_tree.specs.declared.site.Site.{Site};
 ghost use Rattle.tal_tree.specs.declared.site.ProcessSpec.{ProcessSpec};
+ghost use Rattle.schedule.specs.declared.bus_name.BusName.{BusName};
 ghost use Rattle.schedule.specs.declared.event.Event.{Event};
 ghost use Rattle.schedule.specs.declared.event.Event.TheVariants.{Enter, Deliver, Fail, Reload};
 ghost use Rattle.world_semantics.specs.plain_semantics.specs.Openers.{files_of};
@@ -26,8 +27,8 @@ pub fn a_handing_is_computed()
     ensures made { (site : Site) (w : World) (node : ℕ) (message : Message) (done : Done) → IsSent w message
         → handed_done site node message w ≡ Some done
         → Change site w (Handing node message) done.sendings done.world }
-    ensures follows { (site : Site) (w : World) (y : Bool) (k node : ℕ) (message : Message) → IsSent w message
-        → Follows site w (Deliver y k) (sendings_of (handed_done site node message w))
+    ensures follows { (site : Site) (w : World) (bus : BusName) (k node : ℕ) (message : Message) → IsSent w message
+        → Follows site w (Deliver bus k) (sendings_of (handed_done site node message w))
         (world_after w (handed_done site node message w)) }
 {}
 
@@ -116,7 +117,7 @@ pub fn a_mark_is_computed()
         → down_done node processor w ≡ Some (record { world = next; sendings = sendings }) }
     ensures none { (site : Site) (w : World) (node processor : ℕ) → down_done node processor w ≡ None
         → IsIdleFor site w (MarkingDown node processor) }
-    ensures follows { (site : Site) (w : World) (y : Bool) (k node processor : ℕ)
-        → Follows site w (Deliver y k) (sendings_of (down_done node processor w))
+    ensures follows { (site : Site) (w : World) (bus : BusName) (k node processor : ℕ)
+        → Follows site w (Deliver bus k) (sendings_of (down_done node processor w))
         (world_after w (down_done node processor w)) }
 {}

@@ -1,10 +1,11 @@
 -- Worked examples: a disc that nobody asks, a request that was lost on its way to its disc, one that two copies hold,
 -- and a disc of which both processors stop, the first of them before it is loaded again.
-use Rattle.std.specs.Prelude.{false, List, [], ◌∷◌}
+use Rattle.std.specs.Prelude.{List, [], ◌∷◌}
 use Rattle.tal_tree.specs.declared.act.Act.{Act}
 use Rattle.tal_tree.specs.declared.act.Act.TheVariants.{Take}
 use Rattle.tal_tree.specs.declared.act.Act.TheVariants as act
 use Rattle.tal_tree.specs.declared.site.Site.{Site}
+use Rattle.schedule.specs.declared.bus_name.BusName.TheVariants as bus
 use Rattle.schedule.specs.declared.event.Event.{Event}
 use Rattle.schedule.specs.declared.event.Event.TheVariants.{Run, Enter, Deliver, Tick, Fail, Reload}
 use Rattle.world_semantics.specs.declared.role.Role.TheVariants.{Acting, Gone}
@@ -38,6 +39,6 @@ taken_over_from held = record lost.world {
 -- one stops, and the terminal's request is entered, taken, done and answered
 abbrev pub two_stops : List Event
 two_stops =
-    Fail 0 ∷ Tick 1 ∷ Tick 16 ∷ Reload 0 ∷ Run 0 ∷ Deliver false 0 ∷ Deliver false 0 ∷ Run 0
+    Fail 0 ∷ Tick 1 ∷ Tick 16 ∷ Reload 0 ∷ Run 0 ∷ Deliver bus.X 0 ∷ Deliver bus.X 0 ∷ Run 0
     ∷ Fail 1 ∷ Tick 0 ∷ Tick 16
-    ∷ Enter 0 ∷ Deliver false 0 ∷ Run 0 ∷ Run 0 ∷ Run 0 ∷ Run 0 ∷ Deliver false 0 ∷ []
+    ∷ Enter 0 ∷ Deliver bus.X 0 ∷ Run 0 ∷ Run 0 ∷ Run 0 ∷ Run 0 ∷ Deliver bus.X 0 ∷ []

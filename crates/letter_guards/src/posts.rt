@@ -1,4 +1,5 @@
-ghost use Rattle.std.specs.Prelude.{◌≡◌, ℕ, Bool, List, []};
+ghost use Rattle.std.specs.Prelude.{◌≡◌, ℕ, List, []};
+ghost use Rattle.schedule.specs.declared.bus_name.BusName.{BusName};
 ghost use Rattle.schedule.specs.declared.event.Event.TheVariants.{Deliver};
 ghost use Rattle.world_semantics.specs.Messages.{Asking, Sending, Handing};
 ghost use Rattle.world_semantics.specs.Rules.{Change};
@@ -7,6 +8,6 @@ ghost use Rattle.letter_guards.specs.Worlds.{site, next_request, owing};
 
 /// A request that is owed to a copy which acts goes by no delivery but the one that hands it over: it can't be dropped.
 pub fn a_letter_that_is_taken_is_not_dropped()
-    ensures { (y : Bool) (k : ℕ) (next : Post) → PlaysEvent site owing (Deliver y k) next → next.owed ≡ []
+    ensures { (bus : BusName) (k : ℕ) (next : Post) → PlaysEvent site owing (Deliver bus k) next → next.owed ≡ []
         → (sendings : List Sending) × Change site owing.world (Handing 0 (Asking next_request)) sendings next.world }
 {}

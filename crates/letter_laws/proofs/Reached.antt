@@ -2,6 +2,7 @@
 use Rattle.std.proofs.Common.{◌≡◌, ℕ, Bool, true, false, List, [], ◌∷◌, ◌++◌, Option, Some, None, slice_get, refl, ap}
 use Rattle.std.proofs.Common.{sym, subst}
 use Rattle.tal_tree.specs.declared.site.Site.{Site}
+use Rattle.schedule.specs.declared.bus_name.BusName.TheVariants as bus
 use Rattle.schedule.specs.declared.event.Event.{Event}
 use Rattle.schedule.specs.declared.event.Event.TheVariants.{Fail, Reload}
 use Rattle.world_semantics.specs.Follows.{Follows, runs, enters, delivers, delivers_mark, fails, reloads, IsRun}
@@ -73,9 +74,9 @@ change-permits : {site : Site} (w next : World) (cause : Cause) (sendings : List
     → (event : Event) × Follows site w event sendings next
 change-permits w next (Running number) sendings change = (_, runs change)
 change-permits w next (Entering terminal) sendings change = (_, enters change)
-change-permits w next (Handing node message) sendings change = (_, delivers {y = false} {k = 0} node message change)
+change-permits w next (Handing node message) sendings change = (_, delivers {bus = bus.X} {k = 0} node message change)
 change-permits w next (MarkingDown node processor) sendings change =
-    (_, delivers_mark {y = false} {k = 0} node processor change)
+    (_, delivers_mark {bus = bus.X} {k = 0} node processor change)
 change-permits {site = site} w next (Stopping processor) sendings change =
     let none = (stop-is w next processor sendings change).none in (
       _,

@@ -4,6 +4,7 @@ use Rattle.std.specs.Prelude.{◌≡◌, ◌≢◌, ℕ, Bool, true, not, List, 
 use Rattle.std.specs.List.{filter}
 use Rattle.world_semantics.specs.gd_words.specs.Members.{IsAmong}
 use Rattle.world_semantics.specs.tal_tree.specs.declared.site.Site.{Site}
+use Rattle.schedule.specs.declared.bus_name.BusName.{BusName}
 use Rattle.schedule.specs.declared.event.DriveEvent.{DriveEvent}
 use Rattle.schedule.specs.declared.event.Event.{Event}
 use Rattle.schedule.specs.declared.event.Event.TheVariants.{Run, Enter, Deliver, Lose, Repeat, Tick, Fail, Drive}
@@ -87,24 +88,24 @@ pub data PlaysEvent (site : Site) (post : Post) : Event → Post → Type 0 wher
       → Change site post.world (Entering number) sendings next
       → PlaysEvent site post (Enter number) (after_change site sendings next post)
   plays_no_enter : {number : ℕ} → IsIdleFor site post.world (Entering number) → PlaysEvent site post (Enter number) post
-  plays_nothing : {y : Bool} {k : ℕ} → PlaysEvent site post (Deliver y k) post
-  plays_hand : {y : Bool} {k : ℕ} {sendings : List Sending} {next : World} {rest : List Letter} → (letter : Letter)
+  plays_nothing : {bus : BusName} {k : ℕ} → PlaysEvent site post (Deliver bus k) post
+  plays_hand : {bus : BusName} {k : ℕ} {sendings : List Sending} {next : World} {rest : List Letter} → (letter : Letter)
       → IsTaken letter post.owed rest
       → Change site post.world (Handing letter.receiver letter.message) sendings next
-      → PlaysEvent site post (Deliver y k) (after_change site sendings next (record post { owed = rest }))
-  plays_drop : {y : Bool} {k : ℕ} {rest : List Letter} → (letter : Letter) → IsTaken letter post.owed rest
+      → PlaysEvent site post (Deliver bus k) (after_change site sendings next (record post { owed = rest }))
+  plays_drop : {bus : BusName} {k : ℕ} {rest : List Letter} → (letter : Letter) → IsTaken letter post.owed rest
       → is_running post.world.stopped letter.receiver ≡ true
       → IsIdleFor site post.world (Handing letter.receiver letter.message)
-      → PlaysEvent site post (Deliver y k) (record post { owed = rest })
-  plays_again : {y : Bool} {k : ℕ} {sendings : List Sending} {next : World} → (letter : Letter)
+      → PlaysEvent site post (Deliver bus k) (record post { owed = rest })
+  plays_again : {bus : BusName} {k : ℕ} {sendings : List Sending} {next : World} → (letter : Letter)
       → IsAmong letter post.sent
       → Change site post.world (Handing letter.receiver letter.message) sendings next
-      → PlaysEvent site post (Deliver y k) (after_change site sendings next post)
-  plays_mark : {y : Bool} {k : ℕ} {sendings : List Sending} {next : World} → (node processor : ℕ)
+      → PlaysEvent site post (Deliver bus k) (after_change site sendings next post)
+  plays_mark : {bus : BusName} {k : ℕ} {sendings : List Sending} {next : World} → (node processor : ℕ)
       → Change site post.world (MarkingDown node processor) sendings next
-      → PlaysEvent site post (Deliver y k) (post_after_down site node processor sendings next post)
-  plays_loss : {y : Bool} {k : ℕ} → PlaysEvent site post (Lose y k) post
-  plays_repeat : {y : Bool} {k : ℕ} → PlaysEvent site post (Repeat y k) post
+      → PlaysEvent site post (Deliver bus k) (post_after_down site node processor sendings next post)
+  plays_loss : {bus : BusName} {k : ℕ} → PlaysEvent site post (Lose bus k) post
+  plays_repeat : {bus : BusName} {k : ℕ} → PlaysEvent site post (Repeat bus k) post
   plays_no_tick : {node : ℕ} → PlaysEvent site post (Tick node) post
   plays_tick : {node : ℕ} {next : Post} → is_running post.world.stopped node ≡ true → MarksLetters site node post next
       → PlaysEvent site post (Tick node) next

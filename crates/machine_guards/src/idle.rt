@@ -1,4 +1,5 @@
 ghost use Rattle.std.specs.Prelude.{◌≡◌, ◌∷◌, [], ℕ, true, false};
+ghost use Rattle.schedule.specs.declared.bus_name.BusName.TheVariants as bus;
 ghost use Rattle.schedule.specs.declared.event.Event.TheVariants.{Deliver, Enter, Fail};
 ghost use Rattle.world_semantics.specs.declared.role.Role.TheVariants.{Acting, Blank, Gone, Watching};
 ghost use Rattle.world_semantics.specs.Messages.{Message};
@@ -17,9 +18,9 @@ pub fn who_can_go_on_is_told()
     ensures none_enters { none_enters discs_at_boot.site (end_of discs_at_boot (Enter 0 ∷ Enter 1 ∷ [])).world ≡ true }
     ensures none_runs { none_runs discs_at_boot.site (end_of discs_at_boot (Enter 0 ∷ Enter 1 ∷ [])).world ≡ true }
     ensures first_runs { none_runs discs_at_boot.site
-        (end_of discs_at_boot (Enter 0 ∷ Enter 1 ∷ Deliver false 0 ∷ [])).world ≡ false }
+        (end_of discs_at_boot (Enter 0 ∷ Enter 1 ∷ Deliver bus.X 0 ∷ [])).world ≡ false }
     ensures second_runs { none_runs discs_at_boot.site
-        (end_of discs_at_boot (Enter 0 ∷ Enter 1 ∷ Deliver false 1 ∷ [])).world ≡ false }
+        (end_of discs_at_boot (Enter 0 ∷ Enter 1 ∷ Deliver bus.X 1 ∷ [])).world ≡ false }
 {}
 
 /// A copy waits for what it has sent to be taken that acts, whichever of the two and of whichever process it is.
@@ -62,7 +63,7 @@ pub fn who_has_not_marked_is_told()
 pub fn a_state_is_idle_where_nothing_is_left()
     ensures idle { is_idle (nothing_owed (end_of discs_at_boot (Enter 0 ∷ Enter 1 ∷ []))) ≡ true }
     ensures entry { is_idle discs_at_boot ≡ false }
-    ensures run { is_idle (nothing_owed (end_of discs_at_boot (Enter 0 ∷ Enter 1 ∷ Deliver false 0 ∷ []))) ≡ false }
+    ensures run { is_idle (nothing_owed (end_of discs_at_boot (Enter 0 ∷ Enter 1 ∷ Deliver bus.X 0 ∷ []))) ≡ false }
     ensures wait { is_idle (awaiting_taking (nothing_owed (end_of discs_at_boot (Enter 0 ∷ Enter 1 ∷ [])))) ≡ false }
     ensures owed { is_idle (end_of discs_at_boot (Enter 0 ∷ Enter 1 ∷ [])) ≡ false }
     ensures mark { is_idle (nothing_owed (end_of discs_at_boot (Enter 0 ∷ Enter 1 ∷ Fail 0 ∷ []))) ≡ false }

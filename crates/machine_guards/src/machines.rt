@@ -3,6 +3,7 @@ ghost use Rattle.machine_states.specs.declared.effect.Effect.{Effect};
 ghost use Rattle.machine_states.specs.declared.effect.Effect.TheVariants.{Done, Skipped};
 ghost use Rattle.machine_states.specs.declared.effect.Effect.TheVariants.{WouldLoseDisc, WouldStopSecond};
 ghost use Rattle.machine_states.specs.States.{DiscLoss, Makes, SecondStop, Settles, Skips, Would};
+ghost use Rattle.schedule.specs.declared.bus_name.BusName.TheVariants as bus;
 ghost use Rattle.schedule.specs.declared.event.Event.TheVariants.{Fail, Lose};
 ghost use Rattle.computed_changes.specs.Stopped.{down_done, stopped_world};
 ghost use Rattle.message_wires.specs.Play.{MachineState, play};
@@ -69,7 +70,7 @@ pub fn what_is_lost_stays_owed()
           owed = wires.owed ++ record { number = wires.count; letter = letter } ∷ [];
           before = wires.before;
         } }
-    ensures lost { (s next : MachineState) (k : ℕ) → play s (Lose false k) ≡ Makes next
+    ensures lost { (s next : MachineState) (k : ℕ) → play s (Lose bus.X k) ≡ Makes next
         → (next.wires.owed ≡ s.wires.owed) × (next.world ≡ s.world) }
 {}
 

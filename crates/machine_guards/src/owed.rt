@@ -1,4 +1,5 @@
-ghost use Rattle.std.specs.Prelude.{◌≡◌, ◌∷◌, [], pos, false, replicate};
+ghost use Rattle.std.specs.Prelude.{◌≡◌, ◌∷◌, [], pos, replicate};
+ghost use Rattle.schedule.specs.declared.bus_name.BusName.TheVariants as bus;
 ghost use Rattle.schedule.specs.declared.event.Event.TheVariants.{Deliver, Enter, Fail, Lose, Repeat, Run, Tick};
 ghost use Rattle.tal_tree.specs.declared.site.Site.{Site};
 ghost use Rattle.machine_states.specs.States.{Skips};
@@ -51,8 +52,8 @@ pub fn a_tick_marks_what_stopped()
 pub fn what_can_not_be_is_skipped()
     ensures run { play discs_at_boot (Run 0) ≡ Skips }
     ensures enter { play (end_of discs_at_boot (Enter 0 ∷ [])) (Enter 0) ≡ Skips }
-    ensures deliver { play discs_at_boot (Deliver false 0) ≡ Skips }
-    ensures repeat { play discs_at_boot (Repeat false 0) ≡ Skips }
+    ensures deliver { play discs_at_boot (Deliver bus.X 0) ≡ Skips }
+    ensures repeat { play discs_at_boot (Repeat bus.X 0) ≡ Skips }
     ensures no_process { play discs_at_boot (Run 2) ≡ Skips }
     ensures no_terminal { play discs_at_boot (Enter 2) ≡ Skips }
     ensures no_processor { play discs_at_boot (Fail 3) ≡ Skips }
@@ -64,7 +65,7 @@ pub fn what_can_not_be_is_skipped()
 /// both, in the order of the deck.
 pub fn a_mark_asks_in_deck_order()
     ensures { (end_of (machine_at_boot (adder_for (pos 5 ∷ pos 7 ∷ [])))
-        (Enter 0 ∷ Enter 1 ∷ Lose false 0 ∷ Lose false 0 ∷ Fail 0 ∷ Tick 16 ∷ [])).wires.bus
+        (Enter 0 ∷ Enter 1 ∷ Lose bus.X 0 ∷ Lose bus.X 0 ∷ Fail 0 ∷ Tick 16 ∷ [])).wires.bus
         ≡ record {
           number = 2;
           letter = record {

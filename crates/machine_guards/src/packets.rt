@@ -1,5 +1,6 @@
 ghost use Rattle.std.specs.Prelude.{◌≡◌, ◌+◌, ◌++◌, ◌∷◌, [], ℕ, true, false, Bool, Some, None, replicate};
 ghost use Rattle.machine_states.specs.States.{Makes, Skips};
+ghost use Rattle.schedule.specs.declared.bus_name.BusName.TheVariants as bus;
 ghost use Rattle.schedule.specs.declared.event.Event.TheVariants.{Deliver, Lose, Repeat};
 ghost use Rattle.computed_changes.specs.Handed.{handed_done};
 ghost use Rattle.world_semantics.specs.Running.{Done};
@@ -14,15 +15,15 @@ ghost use Rattle.machine_guards.specs.States.{with_bus, with_owed};
 /// never.
 pub fn a_packet_is_that_at_its_position()
     ensures lost { (s : MachineState) (a b c : Sent)
-        → play (with_bus (a ∷ b ∷ c ∷ []) s) (Lose false 1) ≡ Makes (with_bus (a ∷ c ∷ []) s) }
+        → play (with_bus (a ∷ b ∷ c ∷ []) s) (Lose bus.X 1) ≡ Makes (with_bus (a ∷ c ∷ []) s) }
     ensures repeated { (s : MachineState) (a b c : Sent)
-        → play (with_bus (a ∷ b ∷ c ∷ []) s) (Repeat false 1) ≡ Makes (with_bus (a ∷ b ∷ c ∷ b ∷ []) s) }
+        → play (with_bus (a ∷ b ∷ c ∷ []) s) (Repeat bus.X 1) ≡ Makes (with_bus (a ∷ b ∷ c ∷ b ∷ []) s) }
     ensures dropped { (s : MachineState) (a b c : Sent) → is_admitted s b.letter ≡ false
-        → play (with_bus (a ∷ b ∷ c ∷ []) s) (Deliver false 1) ≡ Makes (with_bus (a ∷ c ∷ []) s) }
+        → play (with_bus (a ∷ b ∷ c ∷ []) s) (Deliver bus.X 1) ≡ Makes (with_bus (a ∷ c ∷ []) s) }
     ensures old { (s : MachineState) (a b c : Sent) → is_current s.wires.before b ≡ false
-        → play (with_bus (a ∷ b ∷ c ∷ []) s) (Deliver false 1) ≡ Makes (with_bus (a ∷ c ∷ []) s) }
-    ensures behind { (s : MachineState) (a b c : Sent) → play (with_bus (a ∷ b ∷ c ∷ []) s) (Lose false 3) ≡ Skips }
-    ensures other_bus { (s : MachineState) (a b c : Sent) → play (with_bus (a ∷ b ∷ c ∷ []) s) (Lose true 1) ≡ Skips }
+        → play (with_bus (a ∷ b ∷ c ∷ []) s) (Deliver bus.X 1) ≡ Makes (with_bus (a ∷ c ∷ []) s) }
+    ensures behind { (s : MachineState) (a b c : Sent) → play (with_bus (a ∷ b ∷ c ∷ []) s) (Lose bus.X 3) ≡ Skips }
+    ensures other_bus { (s : MachineState) (a b c : Sent) → play (with_bus (a ∷ b ∷ c ∷ []) s) (Lose bus.Y 1) ≡ Skips }
 {}
 
 /// What comes in and isn't old is handed over at its receiver and owed no more, whether it changes anything there or
@@ -31,12 +32,12 @@ pub fn what_comes_in_is_handed_over()
     ensures changed { (s : MachineState) (a b c : Sent) (done : Done) → is_current s.wires.before b ≡ true
         → is_admitted s b.letter ≡ true
         → handed_done s.site b.letter.receiver b.letter.message s.world ≡ Some done
-        → play (with_bus (a ∷ b ∷ c ∷ []) s) (Deliver false 1)
+        → play (with_bus (a ∷ b ∷ c ∷ []) s) (Deliver bus.X 1)
         ≡ Makes (after_done (with_owed (without_number b.number s.wires.owed) (with_bus (a ∷ c ∷ []) s)) done) }
     ensures unchanged { (s : MachineState) (a b c : Sent) → is_current s.wires.before b ≡ true
         → is_admitted s b.letter ≡ true
         → handed_done s.site b.letter.receiver b.letter.message s.world ≡ None
-        → play (with_bus (a ∷ b ∷ c ∷ []) s) (Deliver false 1)
+        → play (with_bus (a ∷ b ∷ c ∷ []) s) (Deliver bus.X 1)
         ≡ Makes (with_owed (without_number b.number s.wires.owed) (with_bus (a ∷ c ∷ []) s)) }
 {}
 

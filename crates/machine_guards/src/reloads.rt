@@ -1,4 +1,5 @@
 ghost use Rattle.std.specs.Prelude.{◌≡◌, ◌∷◌, [], ℕ, true, false, Some, None};
+ghost use Rattle.schedule.specs.declared.bus_name.BusName.TheVariants as bus;
 ghost use Rattle.schedule.specs.declared.event.Event.TheVariants.{Deliver, Enter, Fail, Reload, Tick};
 ghost use Rattle.machine_states.specs.States.{Makes, Skips};
 ghost use Rattle.computed_changes.specs.Stopped.{reload_done};
@@ -54,10 +55,10 @@ pub fn a_reload_is_played_where_it_can_be()
 /// at the other copy.
 pub fn an_old_letter_is_not_handed_over()
     ensures dropped { (s : MachineState) (message : Message)
-        → play (loaded_after (3 ∷ 0 ∷ []) (with_bus (numbered 2 0 1 message ∷ []) s)) (Deliver false 0)
+        → play (loaded_after (3 ∷ 0 ∷ []) (with_bus (numbered 2 0 1 message ∷ []) s)) (Deliver bus.X 0)
         ≡ Makes (loaded_after (3 ∷ 0 ∷ []) (with_bus [] s)) }
     ensures buses { buses_from discs_at_boot
-        (Enter 0 ∷ Enter 1 ∷ Fail 0 ∷ Tick 1 ∷ Tick 2 ∷ Tick 16 ∷ Reload 0 ∷ Deliver false 0 ∷ [])
+        (Enter 0 ∷ Enter 1 ∷ Fail 0 ∷ Tick 1 ∷ Tick 2 ∷ Tick 16 ∷ Reload 0 ∷ Deliver bus.X 0 ∷ [])
         ≡ (asks 0 ∷ []) ∷ (asks 0 ∷ asks 2 ∷ []) ∷ (asks 0 ∷ asks 2 ∷ []) ∷ (asks 0 ∷ asks 2 ∷ [])
         ∷ (asks 0 ∷ asks 2 ∷ []) ∷ (asks 0 ∷ asks 2 ∷ asks 1 ∷ []) ∷ (asks 0 ∷ asks 2 ∷ asks 1 ∷ [])
         ∷ (asks 2 ∷ asks 1 ∷ []) ∷ [] }

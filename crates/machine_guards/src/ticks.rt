@@ -1,4 +1,5 @@
 ghost use Rattle.std.specs.Prelude.{◌≡◌, ◌∷◌, [], true, false};
+ghost use Rattle.schedule.specs.declared.bus_name.BusName.TheVariants as bus;
 ghost use Rattle.schedule.specs.declared.event.Event.TheVariants.{Enter, Fail, Lose, Tick};
 ghost use Rattle.world_semantics.specs.Messages.{Message};
 ghost use Rattle.message_wires.specs.Examples.{asks, buses_from};
@@ -23,6 +24,6 @@ pub fn a_tick_puts_the_oldest_first()
 /// A tick marks first, and then puts on the bus again what is owed. So where the requests to two discs were lost and
 /// processor 0 stops, the new request to the disc that was lost goes before the old one to the other disc.
 pub fn a_tick_marks_before_it_puts_again()
-    ensures { buses_from discs_at_boot (Enter 0 ∷ Enter 1 ∷ Lose false 1 ∷ Lose false 0 ∷ Fail 0 ∷ Tick 16 ∷ [])
+    ensures { buses_from discs_at_boot (Enter 0 ∷ Enter 1 ∷ Lose bus.X 1 ∷ Lose bus.X 0 ∷ Fail 0 ∷ Tick 16 ∷ [])
         ≡ (asks 0 ∷ []) ∷ (asks 0 ∷ asks 2 ∷ []) ∷ (asks 0 ∷ []) ∷ [] ∷ [] ∷ (asks 1 ∷ asks 2 ∷ []) ∷ [] }
 {}

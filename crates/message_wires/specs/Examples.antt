@@ -1,5 +1,6 @@
 -- Worked runs of the adder over whole messages: what is on the bus after each event, and what is owed at the end.
-use Rattle.std.specs.Prelude.{ℕ, pos, false, List, [], ◌∷◌, ◌++◌, map}
+use Rattle.std.specs.Prelude.{ℕ, pos, List, [], ◌∷◌, ◌++◌, map}
+use Rattle.schedule.specs.declared.bus_name.BusName.TheVariants as bus
 use Rattle.schedule.specs.declared.event.Event.{Event}
 use Rattle.schedule.specs.declared.event.Event.TheVariants as event
 use Rattle.computed_changes.specs.world_semantics.specs.Examples.{adder_for, delivery, run}
@@ -104,7 +105,7 @@ everything_told = record { sender = 0; receiver = 1; sort = Taken }
 
 -- the old request is dropped, and the first copy gets everything
 abbrev pub renewal : List Event
-renewal = delivery ∷ run ∷ event.Deliver false 1 ∷ event.Deliver false 1 ∷ run ∷ []
+renewal = delivery ∷ run ∷ event.Deliver bus.X 1 ∷ event.Deliver bus.X 1 ∷ run ∷ []
 
 abbrev pub buses_of_renewal : List (List Sight)
 buses_of_renewal =
@@ -114,8 +115,8 @@ buses_of_renewal =
 -- printed
 abbrev pub second_takeover : List Event
 second_takeover =
-    event.Fail 1 ∷ event.Tick 0 ∷ event.Tick 16 ∷ run ∷ run ∷ run ∷ event.Deliver false 1 ∷ run ∷ run ∷ run ∷ run
-    ∷ run ∷ event.Deliver false 1 ∷ []
+    event.Fail 1 ∷ event.Tick 0 ∷ event.Tick 16 ∷ run ∷ run ∷ run ∷ event.Deliver bus.X 1 ∷ run ∷ run ∷ run ∷ run
+    ∷ run ∷ event.Deliver bus.X 1 ∷ []
 
 abbrev pub adder_reloaded : MachineState
 adder_reloaded = end_of adder_at_boot until_reload

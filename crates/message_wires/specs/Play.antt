@@ -3,6 +3,8 @@ use Rattle.std.specs.Prelude.{ℕ, zero, suc, ◌+◌, ◌&&◌, Bool, true, fal
 use Rattle.std.specs.Prelude.{slice_get, Option, Some, None}
 use Rattle.std.specs.List.{list_any}
 use Rattle.tal_tree.specs.declared.site.Site.{Site}
+use Rattle.schedule.specs.declared.bus_name.BusName.{BusName}
+use Rattle.schedule.specs.declared.bus_name.BusName.TheVariants as bus
 use Rattle.schedule.specs.declared.event.Event.{Event}
 use Rattle.schedule.specs.declared.event.Event.TheVariants.{Run, Enter, Deliver, Lose, Repeat, Tick, Fail, Reload}
 use Rattle.schedule.specs.declared.event.Event.TheVariants.{Drive}
@@ -132,17 +134,17 @@ tick_played node s =
 -- Events
 
 -- the packet at a position of a bus: all are on bus X
-abbrev pub packet_at : MachineState → Bool → ℕ → Option Sent
-packet_at s true k = None
-packet_at s false k = slice_get s.wires.bus k
+abbrev pub packet_at : MachineState → BusName → ℕ → Option Sent
+packet_at s bus.X k = slice_get s.wires.bus k
+packet_at s bus.Y k = None
 
 -- what an event makes of a state
 abbrev pub play : MachineState → Event → Played Wires
 play s (Run number) = made_by s (run_done s.site number s.world)
 play s (Enter terminal) = made_by s (enter_done s.site terminal s.world)
-play s (Deliver y k) = deliver_played k s (packet_at s y k)
-play s (Lose y k) = lose_played k s (packet_at s y k)
-play s (Repeat y k) = repeat_played s (packet_at s y k)
+play s (Deliver bus k) = deliver_played k s (packet_at s bus k)
+play s (Lose bus k) = lose_played k s (packet_at s bus k)
+play s (Repeat bus k) = repeat_played s (packet_at s bus k)
 play s (Tick node) = tick_played node s
 play s (Fail processor) = fail_played processor s (slice_get s.world.stopped processor)
 play s (Reload processor) = reload_played processor s (reload_done s.site processor s.world)

@@ -1,5 +1,6 @@
 //! Worked runs over whole messages, packet by packet.
 ghost use Rattle.std.specs.Prelude.{◌≡◌, true, false, pos, [], ◌∷◌, map};
+ghost use Rattle.schedule.specs.declared.bus_name.BusName.TheVariants as bus;
 ghost use Rattle.schedule.specs.declared.event.Event.TheVariants as event;
 ghost use Rattle.tal_tree.specs.declared.act.Act.TheVariants as act;
 ghost use Rattle.tal_tree.specs.declared.act.Shown.TheVariants.{Reply};
@@ -29,18 +30,18 @@ pub fn an_adder_is_taken_over()
 /// A request that is lost on the bus stays owed, and is put on the bus again at its sender's tick, and not at another
 /// node's.
 pub fn a_lost_request_is_put_again()
-    ensures { buses_from adder_at_boot (event.Enter 0 ∷ event.Lose false 0 ∷ event.Tick 0 ∷ event.Tick 16
+    ensures { buses_from adder_at_boot (event.Enter 0 ∷ event.Lose bus.X 0 ∷ event.Tick 0 ∷ event.Tick 16
         ∷ event.Tick 16 ∷ [])
         ≡ (asks 0 ∷ []) ∷ [] ∷ [] ∷ (asks 0 ∷ []) ∷ (asks 0 ∷ []) ∷ [] }
 {}
 
 /// A repeat of a request that was handed over is handed over again, and is never put on the bus again.
 pub fn a_repeat_is_not_put_again()
-    ensures bus { buses_from adder_at_boot (event.Enter 0 ∷ event.Repeat false 0 ∷ delivery ∷ event.Tick 16 ∷ delivery
+    ensures bus { buses_from adder_at_boot (event.Enter 0 ∷ event.Repeat bus.X 0 ∷ delivery ∷ event.Tick 16 ∷ delivery
         ∷ event.Tick 16 ∷ [])
         ≡ (asks 0 ∷ []) ∷ (asks 0 ∷ asks 0 ∷ []) ∷ (asks 0 ∷ []) ∷ (asks 0 ∷ []) ∷ [] ∷ [] ∷ [] }
     ensures lost { buses_from adder_at_boot
-        (event.Enter 0 ∷ event.Repeat false 0 ∷ delivery ∷ event.Lose false 0 ∷ event.Tick 16 ∷ [])
+        (event.Enter 0 ∷ event.Repeat bus.X 0 ∷ delivery ∷ event.Lose bus.X 0 ∷ event.Tick 16 ∷ [])
         ≡ (asks 0 ∷ []) ∷ (asks 0 ∷ asks 0 ∷ []) ∷ (asks 0 ∷ []) ∷ [] ∷ [] ∷ [] }
 {}
 

@@ -74,9 +74,9 @@ module _ (s : MachineState) where
   pub whole-played : (event : Event) → ((processor : ℕ) → event ≡ Fail processor → ⊥) → KeepsWhole s (play s event)
   whole-played (Run number) calm = made-whole (run_done s.site number s.world) (run-whole s.site s.world number)
   whole-played (Enter number) calm = made-whole (enter_done s.site number s.world) (enter-whole s.site s.world number)
-  whole-played (Deliver y k) calm = deliver-whole k (packet_at s y k)
-  whole-played (Lose y k) calm = lose-whole k (packet_at s y k)
-  whole-played (Repeat y k) calm = repeat-whole (packet_at s y k)
+  whole-played (Deliver bus k) calm = deliver-whole k (packet_at s bus k)
+  whole-played (Lose bus k) calm = lose-whole k (packet_at s bus k)
+  whole-played (Repeat bus k) calm = repeat-whole (packet_at s bus k)
   whole-played (Tick node) calm = tick-whole node
   whole-played (Fail processor) calm = absurd (calm processor refl)
   whole-played (Reload processor) calm = reload-whole processor

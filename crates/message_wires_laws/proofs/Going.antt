@@ -152,13 +152,13 @@ tick-goes node s = by (is_running s.world.stopped node)
 pub play-goes : (s : MachineState) (event : Event) → Goes s (play s event)
 play-goes s (Run number) = made-goes s (run_done s.site number s.world) (run-none s.site s.world number)
 play-goes s (Enter number) = made-goes s (enter_done s.site number s.world) (enter-none s.site s.world number)
-play-goes s (Deliver y k) = deliver-goes k s (packet_at s y k)
-play-goes s (Lose y k) = by (packet_at s y k)
+play-goes s (Deliver bus k) = deliver-goes k s (packet_at s bus k)
+play-goes s (Lose bus k) = by (packet_at s bus k)
   where
     by : (packet : Option Sent) → Goes s (lose_played k s packet)
     by None = skips
     by (Some packet) = stops_none refl refl refl
-play-goes s (Repeat y k) = by (packet_at s y k)
+play-goes s (Repeat bus k) = by (packet_at s bus k)
   where
     by : (packet : Option Sent) → Goes s (repeat_played s packet)
     by None = skips

@@ -4,6 +4,8 @@ use Rattle.std.proofs.Common.{◌∷◌, ◌++◌, ◌&&◌, length, Option, Som
 use Rattle.std.proofs.lemmas.Option.{slice_get_within}
 use Rattle.gd_words.specs.Members.{IsAmong}
 use Rattle.gd_words.proofs.Among.{among-at, among-left, among-right}
+use Rattle.schedule.specs.declared.bus_name.BusName.TheVariants as bus
+use Rattle.schedule.specs.declared.bus_name.BusName.{BusName}
 use Rattle.schedule.specs.declared.event.Event.{Event}
 use Rattle.schedule.specs.declared.event.Event.TheVariants.{Run, Enter, Deliver, Lose, Repeat, Tick, Fail, Reload}
 use Rattle.schedule.specs.declared.event.Event.TheVariants.{Drive}
@@ -120,28 +122,28 @@ module _ (events : List Event) (s : MachineState) (sent : List Letter) (carried 
           let change = enter-may s.site number s.world done e in
           changes (Enter number) done change (plays_enter change)
 
-  lose-on : (y : Bool) (k : ℕ) → GoesOn (events ++ Lose y k ∷ []) s sent (play s (Lose y k))
-  lose-on y k = by (packet_at s y k)
+  lose-on : (bus : BusName) (k : ℕ) → GoesOn (events ++ Lose bus k ∷ []) s sent (play s (Lose bus k))
+  lose-on bus k = by (packet_at s bus k)
     where
-      by : (packet : Option Sent) → GoesOn (events ++ Lose y k ∷ []) s sent (lose_played k s packet)
-      by None = skips (Lose y k) plays_loss
+      by : (packet : Option Sent) → GoesOn (events ++ Lose bus k ∷ []) s sent (lose_played k s packet)
+      by None = skips (Lose bus k) plays_loss
       by (Some packet) =
-          bus-alone (Lose y k) (without_packet k s.wires) refl (without-tidy k carried.tidy) (without-on k s.wires)
+          bus-alone (Lose bus k) (without_packet k s.wires) refl (without-tidy k carried.tidy) (without-on k s.wires)
           plays_loss
 
-  on-bus : (y : Bool) (k : ℕ) (packet : Sent) → packet_at s y k ≡ Some packet → IsAmong packet s.wires.bus
-  on-bus true k packet e = absurd (cc)
-  on-bus false k packet e = among-at s.wires.bus k packet e
+  on-bus : (bus : BusName) (k : ℕ) (packet : Sent) → packet_at s bus k ≡ Some packet → IsAmong packet s.wires.bus
+  on-bus bus.Y k packet e = absurd (cc)
+  on-bus bus.X k packet e = among-at s.wires.bus k packet e
 
-  repeat-on : (y : Bool) (k : ℕ) → GoesOn (events ++ Repeat y k ∷ []) s sent (play s (Repeat y k))
-  repeat-on y k = by (packet_at s y k) refl
+  repeat-on : (bus : BusName) (k : ℕ) → GoesOn (events ++ Repeat bus k ∷ []) s sent (play s (Repeat bus k))
+  repeat-on bus k = by (packet_at s bus k) refl
     where
-      by : (packet : Option Sent) → packet_at s y k ≡ packet
-          → GoesOn (events ++ Repeat y k ∷ []) s sent (repeat_played s packet)
-      by None e = skips (Repeat y k) plays_repeat
+      by : (packet : Option Sent) → packet_at s bus k ≡ packet
+          → GoesOn (events ++ Repeat bus k ∷ []) s sent (repeat_played s packet)
+      by None e = skips (Repeat bus k) plays_repeat
       by (Some packet) e =
-          let on = on-bus y k packet e in
-          bus-alone (Repeat y k) (repeated_packet packet s.wires) refl (repeated-tidy packet on carried.tidy)
+          let on = on-bus bus k packet e in
+          bus-alone (Repeat bus k) (repeated_packet packet s.wires) refl (repeated-tidy packet on carried.tidy)
           (repeated-on packet s.wires on) plays_repeat
 
   fail-on : (processor : ℕ) → GoesOn (events ++ Fail processor ∷ []) s sent (play s (Fail processor))
@@ -201,7 +203,7 @@ module _ (events : List Event) (s : MachineState) (sent : List Letter) (carried 
 
   -- Deliveries
 
-  module _ (y : Bool) (k : ℕ) (packet : Sent) (on : IsAmong packet s.wires.bus) where
+  module _ (bus : BusName) (k : ℕ) (packet : Sent) (on : IsAmong packet s.wires.bus) where
     abbrev handed : Wires
     handed = paid packet.number (without_packet k s.wires)
 
@@ -216,21 +218,21 @@ module _ (events : List Event) (s : MachineState) (sent : List Letter) (carried 
       hand-changes : (done : Done) → handed_done s.site packet.letter.receiver packet.letter.message s.world ≡ Some done
           → (owed : List Letter) → letters_in handed.owed ≡ owed
           → (Change s.site s.world (Handing packet.letter.receiver packet.letter.message) done.sendings done.world
-          → PlaysEvent s.site (post_of s sent) (Deliver y k) (after_change s.site done.sendings done.world
+          → PlaysEvent s.site (post_of s sent) (Deliver bus k) (after_change s.site done.sendings done.world
           (record (post_of s sent) { owed = owed })))
-          → Carries (events ++ Deliver y k ∷ []) (after_any (record s { wires = handed }) (Some done))
+          → Carries (events ++ Deliver bus k ∷ []) (after_any (record s { wires = handed }) (Some done))
       hand-changes done e owed same plays =
           let change = handed-may s.site packet.letter.receiver packet.letter.message s.world done
           (carried.honest packet (inl on)) e in
-          posted-on s (events ++ Deliver y k ∷ []) done.world handed owed
+          posted-on s (events ++ Deliver bus k ∷ []) done.world handed owed
           (letters_of s.site done.world done.sendings) same handed-tidy
           (λ one there. stays-sent done change one (handed-on one there))
-          (were (Deliver y k) _ (played_more carried.played (plays change)))
+          (were (Deliver bus k) _ (played_more carried.played (plays change)))
           (played_more carried.played (plays change))
 
       hand-on : is_running s.world.stopped packet.letter.receiver ≡ true → Pays packet.number s.wires.owed
           → (done : Option Done) → handed_done s.site packet.letter.receiver packet.letter.message s.world ≡ done
-          → Carries (events ++ Deliver y k ∷ []) (after_any (record s { wires = handed }) done)
+          → Carries (events ++ Deliver bus k ∷ []) (after_any (record s { wires = handed }) done)
       hand-on running (was_owed one among same taken) done e =
           by done e (subst (λ (letter : Letter). IsTaken letter (letters_in s.wires.owed)
           (letters_in (without_number packet.number s.wires.owed)))
@@ -239,7 +241,7 @@ module _ (events : List Event) (s : MachineState) (sent : List Letter) (carried 
           by : (done : Option Done) → handed_done s.site packet.letter.receiver packet.letter.message s.world ≡ done
               → IsTaken packet.letter (letters_in s.wires.owed)
               (letters_in (without_number packet.number s.wires.owed))
-              → Carries (events ++ Deliver y k ∷ []) (after_any (record s { wires = handed }) done)
+              → Carries (events ++ Deliver bus k ∷ []) (after_any (record s { wires = handed }) done)
           by None e taken = (
             sent,
             record {
@@ -253,13 +255,13 @@ module _ (events : List Event) (s : MachineState) (sent : List Letter) (carried 
               hand-changes done e (letters_in (without_number packet.number s.wires.owed)) refl
               (λ change. plays_hand packet.letter taken change)
       hand-on running (was_paid same) None e =
-          bus-alone (Deliver y k) handed same handed-tidy handed-on plays_nothing
+          bus-alone (Deliver bus k) handed same handed-tidy handed-on plays_nothing
       hand-on running (was_paid same) (Some done) e =
           hand-changes done e (letters_in s.wires.owed) (ap letters_in same)
           (λ change. plays_again packet.letter before change)
 
     receive-on : (test : Bool) → (is_current s.wires.before packet && is_admitted s packet.letter) ≡ test
-        → Carries (events ++ Deliver y k ∷ []) (if test then state_after_handing packet
+        → Carries (events ++ Deliver bus k ∷ []) (if test then state_after_handing packet
         (record s { wires = without_packet k s.wires }) else record s { wires = without_packet k s.wires })
     receive-on true e =
         let both = both-true (is_current s.wires.before packet) _ e in
@@ -267,17 +269,18 @@ module _ (events : List Event) (s : MachineState) (sent : List Letter) (carried 
         (both-true (is_running s.world.stopped packet.letter.receiver) _ both.1).0
         (pays packet.number s.wires.owed) _ refl
     receive-on false e =
-        bus-alone (Deliver y k) (without_packet k s.wires) refl (without-tidy k carried.tidy) (without-on k s.wires)
+        bus-alone (Deliver bus k) (without_packet k s.wires) refl (without-tidy k carried.tidy) (without-on k s.wires)
         plays_nothing
 
-  deliver-on : (y : Bool) (k : ℕ) → GoesOn (events ++ Deliver y k ∷ []) s sent (play s (Deliver y k))
-  deliver-on y k = by (packet_at s y k) refl
+  deliver-on : (bus : BusName) (k : ℕ) → GoesOn (events ++ Deliver bus k ∷ []) s sent (play s (Deliver bus k))
+  deliver-on bus k = by (packet_at s bus k) refl
     where
-      by : (packet : Option Sent) → packet_at s y k ≡ packet
-          → GoesOn (events ++ Deliver y k ∷ []) s sent (deliver_played k s packet)
-      by None e = skips (Deliver y k) plays_nothing
+      by : (packet : Option Sent) → packet_at s bus k ≡ packet
+          → GoesOn (events ++ Deliver bus k ∷ []) s sent (deliver_played k s packet)
+      by None e = skips (Deliver bus k) plays_nothing
       by (Some packet) e =
-          receive-on y k packet (on-bus y k packet e) (is_current s.wires.before packet && is_admitted s packet.letter)
+          receive-on bus k packet (on-bus bus k packet e)
+          (is_current s.wires.before packet && is_admitted s packet.letter)
           refl
 
 -- Ticks
@@ -377,9 +380,9 @@ pub plays-on : (events : List Event) (s : MachineState) (sent : List Letter) →
     → (event : Event) → GoesOn (events ++ event ∷ []) s sent (play s event)
 plays-on events s sent carried were only noted (Run number) = run-on events s sent carried were only noted number
 plays-on events s sent carried were only noted (Enter number) = enter-on events s sent carried were only noted number
-plays-on events s sent carried were only noted (Deliver y k) = deliver-on events s sent carried were only noted y k
-plays-on events s sent carried were only noted (Lose y k) = lose-on events s sent carried were only noted y k
-plays-on events s sent carried were only noted (Repeat y k) = repeat-on events s sent carried were only noted y k
+plays-on events s sent carried were only noted (Deliver bus k) = deliver-on events s sent carried were only noted bus k
+plays-on events s sent carried were only noted (Lose bus k) = lose-on events s sent carried were only noted bus k
+plays-on events s sent carried were only noted (Repeat bus k) = repeat-on events s sent carried were only noted bus k
 plays-on events s sent carried were only noted (Tick node) = tick-on events s sent carried node (were (Tick node))
 plays-on events s sent carried were only noted (Fail processor) =
     fail-on events s sent carried were only noted processor

@@ -278,9 +278,9 @@ module _ (n : ℕ) (kinds : ℕ → Bool) (low : n < 4294967295) (s : MachineSta
   play-counted : (event : Event) → CountedPlayed (n + 1) (play s event)
   play-counted (Run number) = made-counted n s _ is (run-quiet s.site s.world number)
   play-counted (Enter number) = made-counted n s _ is (enter-quiet s.site s.world number)
-  play-counted (Deliver y k) = deliver-counted n k s (packet_at s y k) is
-  play-counted (Lose y k) = lose-counted n k s (packet_at s y k) is
-  play-counted (Repeat y k) = repeat-counted n s (packet_at s y k) is
+  play-counted (Deliver bus k) = deliver-counted n k s (packet_at s bus k) is
+  play-counted (Lose bus k) = lose-counted n k s (packet_at s bus k) is
+  play-counted (Repeat bus k) = repeat-counted n s (packet_at s bus k) is
   play-counted (Tick node) =
       tick-counted (n + 1) n (omega arith) kinds (omega (arith, low)) node s (later n kinds low s within)
       (watchers-within n kinds s.world within.0) (counted-more n s is)

@@ -6,6 +6,8 @@ use Rattle.std.specs.List.{cons_option}
 use Rattle.tal_tree.specs.declared.site.Site.{Site}
 use Rattle.tal_tree.specs.declared.site.ProcessSpec.{ProcessSpec}
 use Rattle.tal_tree.specs.declared.site.TerminalSpec.{TerminalSpec}
+use Rattle.schedule.specs.declared.bus_name.BusName.TheVariants as bus
+use Rattle.schedule.specs.declared.bus_name.BusName.{BusName}
 use Rattle.schedule.specs.declared.event.Event.{Event}
 use Rattle.schedule.specs.declared.event.Event.TheVariants.{Run, Enter, Deliver, Lose, Repeat, Tick, Fail, Reload}
 use Rattle.schedule.specs.declared.event.Event.TheVariants.{Drive}
@@ -212,15 +214,15 @@ module _ (n : ℕ) (kinds : ℕ → Bool) (low : n < 4294967295) (s : MachineSta
   without : (k : ℕ) → WiresWithin (n + 1) kinds (without_packet k s.wires)
   without k = (each-remove _ s.wires.bus k later.1.0, later.1.1)
 
-  packet-there : (y : Bool) (k : ℕ) (packet : Sent) → packet_at s y k ≡ Some packet
+  packet-there : (bus : BusName) (k : ℕ) (packet : Sent) → packet_at s bus k ≡ Some packet
       → MessageWithin (n + 1) kinds packet.letter.message
-  packet-there true k packet there = absurd (cc)
-  packet-there false k packet there = each-get _ s.wires.bus k packet later.1.0 there
+  packet-there bus.Y k packet there = absurd (cc)
+  packet-there bus.X k packet there = each-get _ s.wires.bus k packet later.1.0 there
 
-  deliver-within : (y : Bool) (k : ℕ) (packet : Option Sent) → packet_at s y k ≡ packet
+  deliver-within : (bus : BusName) (k : ℕ) (packet : Option Sent) → packet_at s bus k ≡ packet
       → PlayedWithin (n + 1) kinds (deliver_played k s packet)
-  deliver-within y k None there = tt
-  deliver-within y k (Some packet) there =
+  deliver-within bus k None there = tt
+  deliver-within bus k (Some packet) there =
       by (is_current s.wires.before packet && is_admitted (record s { wires = without_packet k s.wires }) packet.letter)
     where
       by : (test : Bool)
@@ -231,19 +233,19 @@ module _ (n : ℕ) (kinds : ℕ → Bool) (low : n < 4294967295) (s : MachineSta
           any-within (n + 1) kinds (record s { wires = paid packet.number (without_packet k s.wires) }) _
           (later.0, ((without k).0, without-within (n + 1) kinds packet.number s.wires.owed later.1.1), within.2)
           (handed-within n kinds s.world within.0 low s.site packet.letter.receiver packet.letter.message
-          (packet-there y k packet there))
+          (packet-there bus k packet there))
       by false = (later.0, without k, within.2)
 
   lose-within : (k : ℕ) (packet : Option Sent) → PlayedWithin (n + 1) kinds (lose_played k s packet)
   lose-within k None = tt
   lose-within k (Some packet) = (later.0, without k, within.2)
 
-  repeat-within : (y : Bool) (k : ℕ) (packet : Option Sent) → packet_at s y k ≡ packet
+  repeat-within : (bus : BusName) (k : ℕ) (packet : Option Sent) → packet_at s bus k ≡ packet
       → PlayedWithin (n + 1) kinds (repeat_played s packet)
-  repeat-within y k None there = tt
-  repeat-within y k (Some packet) there = (
+  repeat-within bus k None there = tt
+  repeat-within bus k (Some packet) there = (
     later.0,
-    (put-within (n + 1) kinds packet s.wires.bus (packet-there y k packet there) later.1.0, later.1.1),
+    (put-within (n + 1) kinds packet s.wires.bus (packet-there bus k packet there) later.1.0, later.1.1),
     within.2,
   )
 
@@ -252,9 +254,9 @@ module _ (n : ℕ) (kinds : ℕ → Bool) (low : n < 4294967295) (s : MachineSta
       made-within (n + 1) kinds s _ later (run-within n kinds s.world within.0 low s.site number)
   play-within (Enter number) =
       made-within (n + 1) kinds s _ later (enter-within n kinds s.world within.0 low s.site number)
-  play-within (Deliver y k) = deliver-within y k (packet_at s y k) refl
-  play-within (Lose y k) = lose-within k (packet_at s y k)
-  play-within (Repeat y k) = repeat-within y k (packet_at s y k) refl
+  play-within (Deliver bus k) = deliver-within bus k (packet_at s bus k) refl
+  play-within (Lose bus k) = lose-within k (packet_at s bus k)
+  play-within (Repeat bus k) = repeat-within bus k (packet_at s bus k) refl
   play-within (Tick node) =
       tick-within (n + 1) kinds n node s (omega arith) later (watchers-within n kinds s.world within.0)
   play-within (Fail processor) = fail-within (n + 1) kinds processor s _ later

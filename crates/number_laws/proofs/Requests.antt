@@ -5,6 +5,8 @@ use Rattle.std.specs.List.{cons_option}
 use Rattle.gd_words.specs.Members.{IsAmong}
 use Rattle.gd_words.specs.declared.message.Request.{Request}
 use Rattle.tal_tree.specs.declared.site.Site.{Site}
+use Rattle.schedule.specs.declared.bus_name.BusName.TheVariants as bus
+use Rattle.schedule.specs.declared.bus_name.BusName.{BusName}
 use Rattle.schedule.specs.declared.event.Event.{Event}
 use Rattle.schedule.specs.declared.event.Event.TheVariants.{Run, Enter, Deliver, Lose, Repeat, Tick, Fail, Reload}
 use Rattle.schedule.specs.declared.event.Event.TheVariants.{Drive}
@@ -168,9 +170,10 @@ module _ (s : MachineState) (names : WholeNames s) where
   without : (k : ℕ) → WiresName s.site (without_packet k s.wires)
   without k = (each-remove _ s.wires.bus k names.0, names.1)
 
-  packet-there : (y : Bool) (k : ℕ) (packet : Sent) → packet_at s y k ≡ Some packet → Names s.site packet.letter.message
-  packet-there true k packet there = absurd (cc)
-  packet-there false k packet there = each-get _ s.wires.bus k packet names.0 there
+  packet-there : (bus : BusName) (k : ℕ) (packet : Sent) → packet_at s bus k ≡ Some packet
+      → Names s.site packet.letter.message
+  packet-there bus.Y k packet there = absurd (cc)
+  packet-there bus.X k packet there = each-get _ s.wires.bus k packet names.0 there
 
   deliver-named : (k : ℕ) (packet : Option Sent) → PlayedNames (deliver_played k s packet)
   deliver-named k None = tt
@@ -190,18 +193,18 @@ module _ (s : MachineState) (names : WholeNames s) where
   lose-named k None = tt
   lose-named k (Some packet) = without k
 
-  repeat-named : (y : Bool) (k : ℕ) (packet : Option Sent) → packet_at s y k ≡ packet
+  repeat-named : (bus : BusName) (k : ℕ) (packet : Option Sent) → packet_at s bus k ≡ packet
       → PlayedNames (repeat_played s packet)
-  repeat-named y k None there = tt
-  repeat-named y k (Some packet) there =
-      (put-named s.site packet s.wires.bus (packet-there y k packet there) names.0, names.1)
+  repeat-named bus k None there = tt
+  repeat-named bus k (Some packet) there =
+      (put-named s.site packet s.wires.bus (packet-there bus k packet there) names.0, names.1)
 
   play-named : (event : Event) → PlayedNames (play s event)
   play-named (Run number) = made-named s _ names (run-named s.site s.world number)
   play-named (Enter number) = made-named s _ names (enter-named s.site s.world number)
-  play-named (Deliver y k) = deliver-named k (packet_at s y k)
-  play-named (Lose y k) = lose-named k (packet_at s y k)
-  play-named (Repeat y k) = repeat-named y k (packet_at s y k) refl
+  play-named (Deliver bus k) = deliver-named k (packet_at s bus k)
+  play-named (Lose bus k) = lose-named k (packet_at s bus k)
+  play-named (Repeat bus k) = repeat-named bus k (packet_at s bus k) refl
   play-named (Tick node) = tick-named node s names
   play-named (Fail processor) = fail-named processor s _ names
   play-named (Reload processor) = reload-named processor s _ names

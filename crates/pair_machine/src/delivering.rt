@@ -16,27 +16,28 @@ use crate::whole::MachineParts;
 use gd_words::NoMemory;
 use machine_states::Effect;
 use posted_letters::{Message, Sent};
+use schedule::BusName;
 use world_copies::StepOutcome;
 
 impl MachineParts {
     /// The packet at a position of a bus is taken off, and its letter comes in or is dropped.
     #[tactic(auto, using(crate::proofs::Packets::none_removed))]
-    pub(crate) fn deliver(&mut self, y: bool, k: u32) -> Result<Effect, NoMemory>
+    pub(crate) fn deliver(&mut self, bus: BusName, k: u32) -> Result<Effect, NoMemory>
         requires openers { OpenersAreThere self.old }
         requires room { HasRoom self.old }
-        requires letters { AreCountedAfter (deliver_played k self.old (packet_at self.old y k)) }
-        ensures { IfOk result (λ effect. Settles (deliver_played k self.old (packet_at self.old y k)) self.old effect
+        requires letters { AreCountedAfter (deliver_played k self.old (packet_at self.old bus k)) }
+        ensures { IfOk result (λ effect. Settles (deliver_played k self.old (packet_at self.old bus k)) self.old effect
             self.new) }
     {
-        if y {
-            return Ok(Effect::Skipped);
-        }
-        match self.wires.take(k as usize) {
-            None => Ok(Effect::Skipped),
-            Some(packet) => {
-                self.receive(packet)?;
-                Ok(Effect::Done)
-            }
+        match bus {
+            BusName::Y => Ok(Effect::Skipped),
+            BusName::X => match self.wires.take(k as usize) {
+                None => Ok(Effect::Skipped),
+                Some(packet) => {
+                    self.receive(packet)?;
+                    Ok(Effect::Done)
+                }
+            },
         }
     }
 
@@ -95,34 +96,36 @@ impl MachineParts {
 
     /// The packet at a position of a bus is lost.
     #[tactic(auto, using(crate::proofs::Packets::none_removed))]
-    pub(crate) fn lose(&mut self, y: bool, k: u32) -> Result<Effect, NoMemory>
-        ensures { IfOk result (λ effect. Settles (lose_played k self.old (packet_at self.old y k)) self.old effect
+    pub(crate) fn lose(&mut self, bus: BusName, k: u32) -> Result<Effect, NoMemory>
+        ensures { IfOk result (λ effect. Settles (lose_played k self.old (packet_at self.old bus k)) self.old effect
             self.new) }
     {
-        if y {
-            return Ok(Effect::Skipped);
-        }
-        match self.wires.take(k as usize) {
-            None => Ok(Effect::Skipped),
-            Some(packet) => {
-                drop(packet);
-                Ok(Effect::Done)
-            }
+        match bus {
+            BusName::Y => Ok(Effect::Skipped),
+            BusName::X => match self.wires.take(k as usize) {
+                None => Ok(Effect::Skipped),
+                Some(packet) => {
+                    drop(packet);
+                    Ok(Effect::Done)
+                }
+            },
         }
     }
 
     /// The packet at a position of a bus comes once more.
-    pub(crate) fn repeat(&mut self, y: bool, k: u32) -> Result<Effect, NoMemory>
-        ensures { IfOk result (λ effect. Settles (repeat_played self.old (packet_at self.old y k)) self.old effect
+    pub(crate) fn repeat(&mut self, bus: BusName, k: u32) -> Result<Effect, NoMemory>
+        ensures { IfOk result (λ effect. Settles (repeat_played self.old (packet_at self.old bus k)) self.old effect
             self.new) }
     {
-        if y {
-            return Ok(Effect::Skipped);
-        }
-        if self.wires.repeat(k as usize)? {
-            Ok(Effect::Done)
-        } else {
-            Ok(Effect::Skipped)
+        match bus {
+            BusName::Y => Ok(Effect::Skipped),
+            BusName::X => {
+                if self.wires.repeat(k as usize)? {
+                    Ok(Effect::Done)
+                } else {
+                    Ok(Effect::Skipped)
+                }
+            }
         }
     }
 }

@@ -188,9 +188,9 @@ impl MachineParts {
         match event {
             Event::Run(number) => self.run(number),
             Event::Enter(terminal) => self.enter(terminal),
-            Event::Deliver { y, k } => self.deliver(y, k),
-            Event::Lose { y, k } => self.lose(y, k),
-            Event::Repeat { y, k } => self.repeat(y, k),
+            Event::Deliver { bus, k } => self.deliver(bus, k),
+            Event::Lose { bus, k } => self.lose(bus, k),
+            Event::Repeat { bus, k } => self.repeat(bus, k),
             Event::Tick(node) => self.tick(node),
             Event::Fail(processor) => self.fail(processor),
             Event::Reload(processor) => self.reload(processor),

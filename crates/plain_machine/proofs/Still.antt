@@ -69,9 +69,9 @@ happened-same site (event.Run process) ran equal =
     (omega (arith, equal))
 happened-same site (event.Enter terminal) ran equal =
     ran_on-same ran (Enter terminal) (made site ran.plain (Enter terminal)) (omega (arith, equal))
-happened-same site (event.Deliver y k) ran equal = refl
-happened-same site (event.Lose y k) ran equal = refl
-happened-same site (event.Repeat y k) ran equal = refl
+happened-same site (event.Deliver bus k) ran equal = refl
+happened-same site (event.Lose bus k) ran equal = refl
+happened-same site (event.Repeat bus k) ran equal = refl
 happened-same site (event.Tick node) ran equal = refl
 happened-same site (event.Fail processor) ran equal = refl
 happened-same site (event.Reload processor) ran equal = refl

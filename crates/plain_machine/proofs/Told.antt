@@ -55,9 +55,9 @@ told-tried site act ran t = told-on site ran act (made site ran.plain act) refl 
 told-happened : (site : Site) (event : Event) (ran : Ran) → Told site ran → Told site (happened site event ran)
 told-happened site (event.Run process) ran t = told-tried site (next_move ran.plain process) ran t
 told-happened site (event.Enter terminal) ran t = told-tried site (Enter terminal) ran t
-told-happened site (event.Deliver y k) ran t = t
-told-happened site (event.Lose y k) ran t = t
-told-happened site (event.Repeat y k) ran t = t
+told-happened site (event.Deliver bus k) ran t = t
+told-happened site (event.Lose bus k) ran t = t
+told-happened site (event.Repeat bus k) ran t = t
 told-happened site (event.Tick node) ran t = t
 told-happened site (event.Fail processor) ran t = t
 told-happened site (event.Reload processor) ran t = t

@@ -250,9 +250,9 @@ pub happened-within : (site : Site) (event : Event) (ran : Ran)
     → most_write (happened site event ran).plain.processes ≤ most_write ran.plain.processes + 1
 happened-within site (event.Run process) ran = tried-within site (next_move ran.plain process) ran
 happened-within site (event.Enter terminal) ran = tried-within site (Enter terminal) ran
-happened-within site (event.Deliver y k) ran = omega arith
-happened-within site (event.Lose y k) ran = omega arith
-happened-within site (event.Repeat y k) ran = omega arith
+happened-within site (event.Deliver bus k) ran = omega arith
+happened-within site (event.Lose bus k) ran = omega arith
+happened-within site (event.Repeat bus k) ran = omega arith
 happened-within site (event.Tick node) ran = omega arith
 happened-within site (event.Fail processor) ran = omega arith
 happened-within site (event.Reload processor) ran = omega arith

@@ -10,6 +10,7 @@ use Rattle.checkpoint_image.specs.gd_words.specs.declared.message.Reply.{Reply}
 use Rattle.checkpoint_image.specs.tal_tree.specs.declared.act.Act.TheVariants as act
 use Rattle.checkpoint_image.specs.tal_tree.specs.declared.site.Site.{Site}
 use Rattle.checkpoint_image.specs.tal_tree.specs.declared.site.Who.TheVariants as who
+use Rattle.schedule.specs.declared.bus_name.BusName.TheVariants as bus
 use Rattle.schedule.specs.declared.event.Event.{Event}
 use Rattle.schedule.specs.declared.event.Event.TheVariants as event
 use Rattle.plain_semantics.specs.process_semantics.specs.declared.point.Point.{Point}
@@ -65,11 +66,11 @@ pub data Move : Type 0 where
 abbrev pub event_of : Move → Event
 event_of (Runs number) = event.Run number
 event_of (Enters terminal) = event.Enter terminal
-event_of (Brings request k) = event.Deliver false 0
-event_of (Prints reply terminal) = event.Deliver false 0
-event_of (Gets number reply k) = event.Deliver false 0
-event_of (Applies number checkpoint k) = event.Deliver false 0
-event_of (Tells number taken k) = event.Deliver false 0
+event_of (Brings request k) = event.Deliver bus.X 0
+event_of (Prints reply terminal) = event.Deliver bus.X 0
+event_of (Gets number reply k) = event.Deliver bus.X 0
+event_of (Applies number checkpoint k) = event.Deliver bus.X 0
+event_of (Tells number taken k) = event.Deliver bus.X 0
 event_of (Fails processor) = event.Fail processor
 event_of (Ticks node processor) = event.Tick node
 event_of (Reloads processor) = event.Reload processor
@@ -117,7 +118,7 @@ enter_move site w number =
 abbrev bring_as : (site : Site) (w : World) (request : Request) (k : Which) (pair : Pair) (role : Role)
     → IsAmong request w.requests
     → slice_get w.processes request.process ≡ Some pair → (copy_of k pair).role ≡ role
-    → Perhaps site w (event.Deliver false 0)
+    → Perhaps site w (event.Deliver bus.X 0)
 bring_as site w request k pair Acting i there e =
     Some (record { world = _; sendings = _; follows = delivers _ _ (by_request request k pair i there e) })
 bring_as site w request k pair Watching i there e =
@@ -134,7 +135,7 @@ bring_as site w request k pair Blank i there e =
     })
 bring_as site w request k pair Gone i there e = None
 
-abbrev bring_move : (site : Site) (w : World) (place : ℕ) (k : Which) → Perhaps site w (event.Deliver false 0)
+abbrev bring_move : (site : Site) (w : World) (place : ℕ) (k : Which) → Perhaps site w (event.Deliver bus.X 0)
 bring_move site w place k =
     with_reason (slice_get w.requests place) (λ request sent.
     with_reason (slice_get w.processes request.process) (λ pair there.
@@ -149,7 +150,7 @@ opener-is opener reply e =
     let b = both-true (opener.server == reply.process) _ e in
     let s = eqb-true _ _ b.0 in let p = eqb-true _ _ b.1 in λ i. record { server = s i; place = p i }
 
-abbrev print_move : (site : Site) (w : World) (place number : ℕ) → Perhaps site w (event.Deliver false 0)
+abbrev print_move : (site : Site) (w : World) (place number : ℕ) → Perhaps site w (event.Deliver bus.X 0)
 print_move site w place number =
     with_reason (slice_get w.replies place) (λ reply sent.
     with_reason (slice_get w.terminals number) (λ terminal there.
@@ -168,7 +169,7 @@ print_move site w place number =
 abbrev get_at : (site : Site) (w : World) (number : ℕ) (reply : Reply) (k : Which) (pair : Pair) (p : Point)
     → slice_get w.processes number ≡ Some pair
     → IsAmong reply w.replies → (copy_of k pair).role ≡ Acting → process.point (copy_of k pair).core.state ≡ p
-    → Perhaps site w (event.Deliver false 0)
+    → Perhaps site w (event.Deliver bus.X 0)
 get_at site w number reply k pair point.Await there i role stands =
     with_reason (opener_of site (who.File number (process.asked_file (copy_of k pair).core.state))) (λ opener opens.
     where_true (is_opener opener reply) (λ same.
@@ -186,12 +187,12 @@ get_at site w number reply k pair _ there i role stands = None
 
 abbrev get_as : (site : Site) (w : World) (number : ℕ) (reply : Reply) (k : Which) (pair : Pair) (role : Role)
     → slice_get w.processes number ≡ Some pair
-    → IsAmong reply w.replies → (copy_of k pair).role ≡ role → Perhaps site w (event.Deliver false 0)
+    → IsAmong reply w.replies → (copy_of k pair).role ≡ role → Perhaps site w (event.Deliver bus.X 0)
 get_as site w number reply k pair Acting there i role =
     get_at site w number reply k pair (process.point (copy_of k pair).core.state) there i role refl
 get_as site w number reply k pair _ there i role = None
 
-abbrev get_move : (site : Site) (w : World) (number place : ℕ) (k : Which) → Perhaps site w (event.Deliver false 0)
+abbrev get_move : (site : Site) (w : World) (number place : ℕ) (k : Which) → Perhaps site w (event.Deliver bus.X 0)
 get_move site w number place k =
     with_reason (slice_get w.replies place) (λ reply sent.
     with_reason (slice_get w.processes number) (λ pair there.
@@ -201,7 +202,7 @@ abbrev apply_by : (site : Site) (w : World) (number : ℕ) (message : ImageMessa
     → slice_get w.processes number ≡ Some pair
     → IsAmong message pair.checkpoints → receives (copy_of k pair).role ≡ true → (behind : Bool)
     → nat_lt (copy_of (other_of k) pair).position (own_acts number w.kept) ≡ behind
-    → Perhaps site w (event.Deliver false 0)
+    → Perhaps site w (event.Deliver bus.X 0)
 apply_by site w number message k pair there i role true l =
     where_true (message.era == (copy_of k pair).era) (λ era.
     where_true (message.number == (copy_of k pair).number + 1) (λ next.
@@ -225,14 +226,14 @@ apply_by site w number message k pair there i role false l =
 
 abbrev apply_as : (site : Site) (w : World) (number : ℕ) (message : ImageMessage) (k : Which) (pair : Pair)
     (role : Role) → slice_get w.processes number ≡ Some pair
-    → IsAmong message pair.checkpoints → (copy_of k pair).role ≡ role → Perhaps site w (event.Deliver false 0)
+    → IsAmong message pair.checkpoints → (copy_of k pair).role ≡ role → Perhaps site w (event.Deliver bus.X 0)
 apply_as site w number message k pair Watching there i role =
     apply_by site w number message k pair there i (ap receives role) _ refl
 apply_as site w number message k pair Blank there i role =
     apply_by site w number message k pair there i (ap receives role) _ refl
 apply_as site w number message k pair _ there i role = None
 
-abbrev apply_move : (site : Site) (w : World) (number place : ℕ) (k : Which) → Perhaps site w (event.Deliver false 0)
+abbrev apply_move : (site : Site) (w : World) (number place : ℕ) (k : Which) → Perhaps site w (event.Deliver bus.X 0)
 apply_move site w number place k =
     with_reason (slice_get w.processes number) (λ pair there.
     with_reason (slice_get pair.checkpoints place) (λ message sent.
@@ -241,7 +242,7 @@ apply_move site w number place k =
 
 abbrev tell_as : (site : Site) (w : World) (number : ℕ) (taken : TakenMessage) (k : Which) (pair : Pair) (role : Role)
     → slice_get w.processes number ≡ Some pair
-    → IsAmong taken pair.takens → (copy_of k pair).role ≡ role → Perhaps site w (event.Deliver false 0)
+    → IsAmong taken pair.takens → (copy_of k pair).role ≡ role → Perhaps site w (event.Deliver bus.X 0)
 tell_as site w number taken k pair Acting there i role =
     where_true (copy_of k pair).sent (λ sent.
     where_true (taken.era == (copy_of k pair).era) (λ era.
@@ -254,7 +255,7 @@ tell_as site w number taken k pair Acting there i role =
     }))))
 tell_as site w number taken k pair _ there i role = None
 
-abbrev tell_move : (site : Site) (w : World) (number place : ℕ) (k : Which) → Perhaps site w (event.Deliver false 0)
+abbrev tell_move : (site : Site) (w : World) (number place : ℕ) (k : Which) → Perhaps site w (event.Deliver bus.X 0)
 tell_move site w number place k =
     with_reason (slice_get w.processes number) (λ pair there.
     with_reason (slice_get pair.takens place) (λ taken sent.

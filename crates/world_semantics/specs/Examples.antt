@@ -20,6 +20,7 @@ use Rattle.checkpoint_image.specs.tal_tree.specs.declared.statement.Statement.{S
 use Rattle.checkpoint_image.specs.tal_tree.specs.declared.statement.What as what
 use Rattle.checkpoint_image.specs.tal_tree.specs.declared.site.Site.{Site}
 use Rattle.checkpoint_image.specs.tal_tree.specs.declared.site.Kind.TheVariants as kind
+use Rattle.schedule.specs.declared.bus_name.BusName.TheVariants as bus
 use Rattle.schedule.specs.declared.event.Event.{Event}
 use Rattle.schedule.specs.declared.event.Event.TheVariants as event
 use Rattle.checkpoint_image.specs.declared.receive.RequestStanding.{RequestStanding}
@@ -92,7 +93,7 @@ abbrev pub reply : ℕ → ℤ → Shown
 reply terminal word = shown.Reply terminal 1 (word ∷ [])
 
 abbrev pub delivery : Event
-delivery = event.Deliver false 0
+delivery = event.Deliver bus.X 0
 
 abbrev pub run : Event
 run = event.Run 0

@@ -1,6 +1,7 @@
 -- What each event of a schedule permits in the world, and runs.
-use Rattle.std.specs.Prelude.{◌≡◌, ◌≢◌, ℕ, Bool, true, List, [], ◌∷◌, ◌++◌, Some, false, slice_get}
+use Rattle.std.specs.Prelude.{◌≡◌, ◌≢◌, ℕ, true, List, [], ◌∷◌, ◌++◌, Some, false, slice_get}
 use Rattle.checkpoint_image.specs.tal_tree.specs.declared.site.Site.{Site}
+use Rattle.schedule.specs.declared.bus_name.BusName.{BusName}
 use Rattle.schedule.specs.declared.event.DriveEvent.{DriveEvent}
 use Rattle.schedule.specs.declared.event.Event.{Event}
 use Rattle.schedule.specs.declared.event.Event.TheVariants.{Run, Enter, Deliver, Lose, Repeat, Tick, Fail, Drive}
@@ -33,14 +34,14 @@ pub data Follows (site : Site) (w : World) : Event → List Sending → World �
   enters : {number : ℕ} {sendings : List Sending} {next : World} → Change site w (Entering number) sendings next
       → Follows site w (Enter number) sendings next
   cannot_enter : {number : ℕ} → IsIdleFor site w (Entering number) → Follows site w (Enter number) [] w
-  delivers_none : {y : Bool} {k : ℕ} → Follows site w (Deliver y k) [] w
-  delivers : {y : Bool} {k : ℕ} {sendings : List Sending} {next : World} → (node : ℕ) (message : Message)
-      → Change site w (Handing node message) sendings next → Follows site w (Deliver y k) sendings next
-  delivers_mark : {y : Bool} {k : ℕ} {sendings : List Sending} {next : World} → (node processor : ℕ)
+  delivers_none : {bus : BusName} {k : ℕ} → Follows site w (Deliver bus k) [] w
+  delivers : {bus : BusName} {k : ℕ} {sendings : List Sending} {next : World} → (node : ℕ) (message : Message)
+      → Change site w (Handing node message) sendings next → Follows site w (Deliver bus k) sendings next
+  delivers_mark : {bus : BusName} {k : ℕ} {sendings : List Sending} {next : World} → (node processor : ℕ)
       → Change site w (MarkingDown node processor) sendings next
-      → Follows site w (Deliver y k) sendings next
-  loses : {y : Bool} {k : ℕ} → Follows site w (Lose y k) [] w
-  doubles : {y : Bool} {k : ℕ} → Follows site w (Repeat y k) [] w
+      → Follows site w (Deliver bus k) sendings next
+  loses : {bus : BusName} {k : ℕ} → Follows site w (Lose bus k) [] w
+  doubles : {bus : BusName} {k : ℕ} → Follows site w (Repeat bus k) [] w
   ticks_none : {node : ℕ} → Follows site w (Tick node) [] w
   ticks : {node : ℕ} {sendings : List Sending} {next : World} → is_running w.stopped node ≡ true
       → MarksDowns site node w sendings next

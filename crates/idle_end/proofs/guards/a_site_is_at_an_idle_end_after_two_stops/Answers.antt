@@ -13,6 +13,7 @@ use Rattle.plain_semantics.specs.Machine.{next_request}
 use Rattle.whole_states.specs.Processes.{IsRegularKind}
 use Rattle.awaited_requests.specs.discipline_laws.specs.Disciplined.{IsDisciplined}
 use Rattle.awaited_requests.specs.discipline_laws.proofs.Discs.{disc-disciplined}
+use Rattle.schedule.specs.declared.bus_name.BusName.TheVariants as bus
 use Rattle.schedule.specs.declared.event.Event.TheVariants.{Run, Enter, Deliver, Tick, Fail, Reload}
 use Rattle.disc_device.specs.Sectors.{stored_after}
 use Rattle.checkpoint_image.specs.declared.message.ImageMessage.{ImageMessage}
@@ -161,7 +162,7 @@ stops-first =
     (plays_tick refl (one_mark 0 (by_mark 16 0 refl refl refl) no_mark)))
     (plays_reload (by_reload 0 refl all-marked refl (omega arith)))
 
-gets-all : HasPlayed disc_site (Fail 0 ∷ Tick 1 ∷ Tick 16 ∷ Reload 0 ∷ Run 0 ∷ Deliver false 0 ∷ Deliver false 0
+gets-all : HasPlayed disc_site (Fail 0 ∷ Tick 1 ∷ Tick 16 ∷ Reload 0 ∷ Run 0 ∷ Deliver bus.X 0 ∷ Deliver bus.X 0
     ∷ Run 0 ∷ []) backed
 unfolding int_wrap
 gets-all =
@@ -173,23 +174,23 @@ gets-all =
     (by_acknowledge Second _ refl refl (inl refl) refl refl))))
     (plays_run (by_checkpoint 0 _ refl (by_end Second refl refl (λ at. cc) refl)))
 
-stops-second : HasPlayed disc_site (Fail 0 ∷ Tick 1 ∷ Tick 16 ∷ Reload 0 ∷ Run 0 ∷ Deliver false 0
-    ∷ Deliver false 0 ∷ Run 0 ∷ Fail 1 ∷ Tick 0 ∷ Tick 16 ∷ []) over
+stops-second : HasPlayed disc_site (Fail 0 ∷ Tick 1 ∷ Tick 16 ∷ Reload 0 ∷ Run 0 ∷ Deliver bus.X 0
+    ∷ Deliver bus.X 0 ∷ Run 0 ∷ Fail 1 ∷ Tick 0 ∷ Tick 16 ∷ []) over
 stops-second =
     played_more (played_more (played_more gets-all
     (plays_fail (by_stop 1 refl refl)))
     (plays_tick refl (one_mark 1 (by_mark 0 1 refl refl refl) no_mark)))
     (plays_tick refl (one_mark 1 (by_mark 16 1 refl refl refl) no_mark))
 
-asks : HasPlayed disc_site (Fail 0 ∷ Tick 1 ∷ Tick 16 ∷ Reload 0 ∷ Run 0 ∷ Deliver false 0
-    ∷ Deliver false 0 ∷ Run 0 ∷ Fail 1 ∷ Tick 0 ∷ Tick 16 ∷ Enter 0 ∷ Deliver false 0 ∷ []) asked
+asks : HasPlayed disc_site (Fail 0 ∷ Tick 1 ∷ Tick 16 ∷ Reload 0 ∷ Run 0 ∷ Deliver bus.X 0
+    ∷ Deliver bus.X 0 ∷ Run 0 ∷ Fail 1 ∷ Tick 0 ∷ Tick 16 ∷ Enter 0 ∷ Deliver bus.X 0 ∷ []) asked
 asks =
     played_more (played_more stops-second
     (plays_enter (by_enter 0 _ _ refl refl refl refl)))
     (plays_hand _ takes_first (by_request _ First _ (inl refl) refl refl))
 
-takes-it : HasPlayed disc_site (Fail 0 ∷ Tick 1 ∷ Tick 16 ∷ Reload 0 ∷ Run 0 ∷ Deliver false 0
-    ∷ Deliver false 0 ∷ Run 0 ∷ Fail 1 ∷ Tick 0 ∷ Tick 16 ∷ Enter 0 ∷ Deliver false 0 ∷ Run 0 ∷ Run 0 ∷ []) taken
+takes-it : HasPlayed disc_site (Fail 0 ∷ Tick 1 ∷ Tick 16 ∷ Reload 0 ∷ Run 0 ∷ Deliver bus.X 0
+    ∷ Deliver bus.X 0 ∷ Run 0 ∷ Fail 1 ∷ Tick 0 ∷ Tick 16 ∷ Enter 0 ∷ Deliver bus.X 0 ∷ Run 0 ∷ Run 0 ∷ []) taken
 takes-it =
     played_more (played_more asks
     (plays_run (by_own 0 First _ refl refl (by_take refl) (takes _ refl refl) (begins refl (omega arith) refl)

@@ -1,5 +1,6 @@
-use Rattle.std.proofs.Common.{◌≡◌, inl, ℕ, zero, suc, Bool, true, List, [], Some, slice_get, refl, subst}
+use Rattle.std.proofs.Common.{◌≡◌, inl, ℕ, zero, suc, true, List, [], Some, slice_get, refl, subst}
 use Rattle.tal_tree.specs.declared.site.Site.{Site}
+use Rattle.schedule.specs.declared.bus_name.BusName.{BusName}
 use Rattle.schedule.specs.declared.event.Event.TheVariants.{Deliver}
 use Rattle.world_semantics.specs.declared.which.Which.TheVariants.{First}
 use Rattle.world_semantics.specs.Follows.{IsIdleFor}
@@ -49,12 +50,12 @@ only-letter (takes_later takes_first) same = absurd (cc)
 only-letter (takes_later (takes_later taken)) same = absurd (cc)
 
 pub returns : goal.returns
-returns c = λ y k next plays gone. of plays gone
+returns c = λ bus k next plays gone. of plays gone
   where
     Handed : World → Type 0
     Handed next = (sendings : List Sending) × Change site owing.world (Handing 0 (Asking next_request)) sendings next
 
-    of : {y : Bool} {k : ℕ} {next : Post} → PlaysEvent site owing (Deliver y k) next → next.owed ≡ []
+    of : {bus : BusName} {k : ℕ} {next : Post} → PlaysEvent site owing (Deliver bus k) next → next.owed ≡ []
         → Handed next.world
     of plays_nothing gone = absurd (cc)
     of (plays_hand {sendings = sendings} {next = w} one taken change) gone = (

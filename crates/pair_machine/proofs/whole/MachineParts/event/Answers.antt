@@ -10,7 +10,7 @@ enter-requires-clause-letters c = played-counted c.args.self.now c.requires.lett
 
 pub deliver-requires-clause-letters : goal.deliver-requires-clause-letters
 deliver-requires-clause-letters c =
-    played-counted c.args.self.now c.requires.letters (Deliver c.in-Deliver.y c.in-Deliver.k)
+    played-counted c.args.self.now c.requires.letters (Deliver c.in-Deliver.bus c.in-Deliver.k)
 
 pub tick-requires-clause-letters : goal.tick-requires-clause-letters
 tick-requires-clause-letters c = played-counted c.args.self.now c.requires.letters (Tick c.in-Tick.node)
