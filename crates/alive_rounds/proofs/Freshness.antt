@@ -6,6 +6,7 @@ use Rattle.std.proofs.lemmas.Bool.{eqb-true, eqb-false}
 use Rattle.std.proofs.lemmas.List.{take_all, length-append}
 use Rattle.gd_words.specs.Members.{IsAmong}
 use Rattle.gd_words.proofs.Among.{among-left}
+use Rattle.schedule.specs.declared.bus_name.BusName.TheVariants as bus
 use Rattle.schedule.specs.declared.event.Event.{Event}
 use Rattle.schedule.specs.declared.event.Event.TheVariants.{Run, Enter, Deliver, Tick, Fail}
 use Rattle.player.specs.declared.standing.Sizes.{Sizes}
@@ -59,11 +60,11 @@ one-ran n w goes watched s event next g no_tick q p two = record {
 -- from one place to another: what was due of bus X has come or is due, and what was sent is still there
 fresh-on : {S P : Type 0} (n : ℕ) (w : Sight S P) (goes : S → Event → S → Type 0) → IsWatched n w goes → (s : S)
     (event : Event) (next : S) (from to : Place) → goes s event next → ((k : ℕ) → k < n → event ≢ Tick k)
-    → ticked to ≡ ticked from → due to false (length (w.buses next false)) ≤ length (w.buses next false)
+    → ticked to ≡ ticked from → due to bus.X (length (w.buses next bus.X)) ≤ length (w.buses next bus.X)
     → ((q p : ℕ) → TwoRun n w next q p → IsThere (w.knows s q p)
-    → IsAmong (w.alive p q) (take (due from false (length (w.buses s false))) (w.buses s false))
+    → IsAmong (w.alive p q) (take (due from bus.X (length (w.buses s bus.X))) (w.buses s bus.X))
     → WillBeHeard w to next q p)
-    → ((x : P) → 0 < ticked to → IsAmong x (w.buses s false) → IsAmong x (w.buses next false))
+    → ((x : P) → 0 < ticked to → IsAmong x (w.buses s bus.X) → IsAmong x (w.buses next bus.X))
     → IsFresh n w from s → IsFresh n w to next
 fresh-on {S} {P} n w goes watched s event next from to g no_tick at low due_on stays h = record {
   low = low;
@@ -98,15 +99,15 @@ early-ticks (place.Ticks node) early = absurd (cc)
 fresh-early : {S P : Type 0} (n : ℕ) (w : Sight S P) (goes : S → Event → S → Type 0) → IsWatched n w goes → (s : S)
     (event : Event) (next : S) (from to : Place) → goes s event next → ((k : ℕ) → k < n → event ≢ Tick k)
     → is_early from ≡ true → ticked to ≡ 0
-    → due to false (length (w.buses next false)) ≡ length (w.buses next false)
-    → IsGrown (w.buses s false) (w.buses next false) → IsFresh n w from s → IsFresh n w to next
+    → due to bus.X (length (w.buses next bus.X)) ≡ length (w.buses next bus.X)
+    → IsGrown (w.buses s bus.X) (w.buses next bus.X) → IsFresh n w from s → IsFresh n w to next
 fresh-early n w goes watched s event next from to g no_tick early none all grown h =
     fresh-on n w goes watched s event next from to g no_tick (none ∙ sym (early-ticks from early)) (omega (arith, all))
-    (λ q p two there among. inr (subst (λ k. IsAmong (w.alive p q) (take k (w.buses next false))) (sym all)
-    (all-front (w.alive p q) (w.buses next false)
-    (grown-among (w.alive p q) (w.buses s false) (w.buses next false) grown (front-among (w.alive p q) _ _
+    (λ q p two there among. inr (subst (λ k. IsAmong (w.alive p q) (take k (w.buses next bus.X))) (sym all)
+    (all-front (w.alive p q) (w.buses next bus.X)
+    (grown-among (w.alive p q) (w.buses s bus.X) (w.buses next bus.X) grown (front-among (w.alive p q) _ _
     among)))))
-    (λ x some among. grown-among x (w.buses s false) (w.buses next false) grown among) h
+    (λ x some among. grown-among x (w.buses s bus.X) (w.buses next bus.X) grown among) h
 
 -- a processor stops
 pub fresh-stopped : {S P : Type 0} (n : ℕ) (w : Sight S P) (goes : S → Event → S → Type 0) → IsWatched n w goes
@@ -114,39 +115,39 @@ pub fresh-stopped : {S P : Type 0} (n : ℕ) (w : Sight S P) (goes : S → Event
     → IsFresh n w at s → IsFresh n w at next
 fresh-stopped {S} {P} n w goes watched has s processor next at g h =
     fresh-on n w goes watched s (Fail processor) next at at g (λ k low is. absurd (cc)) refl
-    (subst (λ l. due at false (length l) ≤ length l) (sym same) h.low)
-    (λ q p two there among. inr (subst (λ l. IsAmong (w.alive p q) (take (due at false (length l)) l)) (sym same)
+    (subst (λ l. due at bus.X (length l) ≤ length l) (sym same) h.low)
+    (λ q p two there among. inr (subst (λ l. IsAmong (w.alive p q) (take (due at bus.X (length l)) l)) (sym same)
     among))
     (λ x some among. subst (IsAmong x) (sym same) among) h
   where
-    same : w.buses next false ≡ w.buses s false
-    same = has s (Fail processor) next g false
+    same : w.buses next bus.X ≡ w.buses s bus.X
+    same = has s (Fail processor) next g bus.X
 
 -- bus X delivers its first packet
 fresh-x : {S P : Type 0} (n : ℕ) (w : Sight S P) (goes : S → Event → S → Type 0) → IsWatched n w goes
-    → HasBuses w.buses goes → (s next : S) (from : Place) (left : ℕ) → goes s (Deliver false 0) next
-    → due from false (length (w.buses s false)) ≡ suc left → ticked from ≡ 0
-    → IsFresh n w from s → IsFresh n w (place.Delivers false left) next
+    → HasBuses w.buses goes → (s next : S) (from : Place) (left : ℕ) → goes s (Deliver bus.X 0) next
+    → due from bus.X (length (w.buses s bus.X)) ≡ suc left → ticked from ≡ 0
+    → IsFresh n w from s → IsFresh n w (place.Delivers bus.X left) next
 fresh-x {S} {P} n w goes watched has s next from left g some at h =
-    fresh-on n w goes watched s (Deliver false 0) next from (place.Delivers false left) g (λ k low is. absurd (cc)) (sym
+    fresh-on n w goes watched s (Deliver bus.X 0) next from (place.Delivers bus.X left) g (λ k low is. absurd (cc)) (sym
     at)
-    (low (w.buses s false) refl)
-    (λ q p two there among. by q p two there (w.buses s false) refl
-    (subst (λ k. IsAmong (w.alive p q) (take k (w.buses s false))) some among))
+    (low (w.buses s bus.X) refl)
+    (λ q p two there among. by q p two there (w.buses s bus.X) refl
+    (subst (λ k. IsAmong (w.alive p q) (take k (w.buses s bus.X))) some among))
     (λ x none among. absurd (let bad : 0 < 0 = none in omega (arith, bad))) h
   where
-    off : (p : P) (rest : List P) → p ∷ rest ≡ w.buses s false → IsGrown rest (w.buses next false)
-    off p rest is = let grown = has s (Deliver false 0) next g false in
+    off : (p : P) (rest : List P) → p ∷ rest ≡ w.buses s bus.X → IsGrown rest (w.buses next bus.X)
+    off p rest is = let grown = has s (Deliver bus.X 0) next g bus.X in
         (grown.0, grown.1 ∙ ap (λ l. drop 1 l ++ grown.0) (sym is))
 
-    low : (on : List P) → on ≡ w.buses s false → left ≤ length (w.buses next false)
+    low : (on : List P) → on ≡ w.buses s bus.X → left ≤ length (w.buses next bus.X)
     low [] is = absurd (let most = h.low in let none = ap length is in
         let bad : suc left ≤ 0 = omega (arith, most, some, none) in omega (arith, bad))
-    low (p ∷ rest) is = let most = h.low in let long : suc (length rest) ≡ length (w.buses s false) = ap length is in
-        let more = grown-longer rest (w.buses next false) (off p rest is) in omega (arith, most, some, long, more)
+    low (p ∷ rest) is = let most = h.low in let long : suc (length rest) ≡ length (w.buses s bus.X) = ap length is in
+        let more = grown-longer rest (w.buses next bus.X) (off p rest is) in omega (arith, most, some, long, more)
 
-    by : (q p : ℕ) → TwoRun n w next q p → IsThere (w.knows s q p) → (on : List P) → on ≡ w.buses s false
-        → IsAmong (w.alive p q) (take (suc left) on) → WillBeHeard w (place.Delivers false left) next q p
+    by : (q p : ℕ) → TwoRun n w next q p → IsThere (w.knows s q p) → (on : List P) → on ≡ w.buses s bus.X
+        → IsAmong (w.alive p q) (take (suc left) on) → WillBeHeard w (place.Delivers bus.X left) next q p
     by q p two there [] is among = absurd among
     by q p two there (x ∷ rest) is (inl same) = inl (watched.hears s next p q rest g two.one
         (sym is ∙ ap (λ y. y ∷ rest) (sym same)) two.there two.here there)
@@ -156,13 +157,13 @@ fresh-x {S} {P} n w goes watched has s next from left g some at h =
 
 -- bus Y delivers its first packet, when bus X has no more to deliver
 fresh-y : {S P : Type 0} (n : ℕ) (w : Sight S P) (goes : S → Event → S → Type 0) → IsWatched n w goes → (s next : S)
-    (from : Place) (left : ℕ) → goes s (Deliver true 0) next → due from false (length (w.buses s false)) ≡ 0
-    → ticked from ≡ 0 → IsFresh n w from s → IsFresh n w (place.Delivers true left) next
+    (from : Place) (left : ℕ) → goes s (Deliver bus.Y 0) next → due from bus.X (length (w.buses s bus.X)) ≡ 0
+    → ticked from ≡ 0 → IsFresh n w from s → IsFresh n w (place.Delivers bus.Y left) next
 fresh-y n w goes watched s next from left g empty at h =
-    fresh-on n w goes watched s (Deliver true 0) next from (place.Delivers true left) g (λ k low is. absurd (cc)) (sym
+    fresh-on n w goes watched s (Deliver bus.Y 0) next from (place.Delivers bus.Y left) g (λ k low is. absurd (cc)) (sym
     at)
     (omega arith)
-    (λ q p two there among. absurd (subst (λ k. IsAmong (w.alive p q) (take k (w.buses s false))) empty among))
+    (λ q p two there among. absurd (subst (λ k. IsAmong (w.alive p q) (take k (w.buses s bus.X))) empty among))
     (λ x none among. absurd (let bad : 0 < 0 = none in omega (arith, bad))) h
 
 -- Ticks
@@ -186,21 +187,21 @@ there-speaks known there silent =
     absurd (let bad : Some false ≡ Some true = ap (option_map is_silent) (sym there.2) ∙ silent in cc)
 
 heard-now : {S P : Type 0} (w : Sight S P) (at : Place) (s : S) (q p : ℕ)
-    → due at false (length (w.buses s false)) ≡ 0 → WillBeHeard w at s q p → WasHeard (w.knows s q p)
+    → due at bus.X (length (w.buses s bus.X)) ≡ 0 → WillBeHeard w at s q p → WasHeard (w.knows s q p)
 heard-now w at s q p empty (inl heard) = heard
 heard-now w at s q p empty (inr among) =
-    absurd (subst (λ k. IsAmong (w.alive p q) (take k (w.buses s false))) empty among)
+    absurd (subst (λ k. IsAmong (w.alive p q) (take k (w.buses s bus.X))) empty among)
 
 -- what a node knows at its own tick of another one that runs
 at-tick : {S P : Type 0} (n : ℕ) (w : Sight S P) (s : S) (from : Place) (node p : ℕ) → TwoRun n w s node p
-    → due from false (length (w.buses s false)) ≡ 0 → ticked from ≡ node → IsFresh n w from s
+    → due from bus.X (length (w.buses s bus.X)) ≡ 0 → ticked from ≡ node → IsFresh n w from s
     → IsThere (after_tick_of (w.checks s node) (w.knows s node p))
 at-tick n w s from node p two empty at h = there-checked (w.checks s node) (w.knows s node p) (h.there node p two)
     (λ check. heard-now w from s node p empty (h.heard node p two (omega (arith, at)) check))
 
 -- a processor that ticks finds nobody silent that runs
 pub none-silent : {S P : Type 0} (n : ℕ) (w : Sight S P) (s : S) (from : Place) (node p : ℕ) → TwoRun n w s node p
-    → due from false (length (w.buses s false)) ≡ 0 → ticked from ≡ node → IsFresh n w from s
+    → due from bus.X (length (w.buses s bus.X)) ≡ 0 → ticked from ≡ node → IsFresh n w from s
     → option_map is_silent (after_tick_of (w.checks s node) (w.knows s node p)) ≡ Some true → ⊥
 none-silent n w s from node p two empty at h silent = there-speaks _ (at-tick n w s from node p two empty at h) silent
 
@@ -213,7 +214,7 @@ other-tick a b apart is = apart (let same : a ≡ b = cc in same)
 
 fresh-tick : {S P : Type 0} (n : ℕ) (w : Sight S P) (goes : S → Event → S → Type 0) → IsWatched n w goes
     → HasBuses w.buses goes → (s next : S) (from : Place) (node : ℕ) → goes s (Tick node) next → node < n
-    → due from false (length (w.buses s false)) ≡ 0 → ticked from ≡ node
+    → due from bus.X (length (w.buses s bus.X)) ≡ 0 → ticked from ≡ node
     → IsFresh n w from s → IsFresh n w (place.Ticks (node + 1)) next
 fresh-tick {S} {P} n w goes watched has s next from node g low empty at h = record {
   low = omega arith;
@@ -222,8 +223,8 @@ fresh-tick {S} {P} n w goes watched has s next from node g low empty at h = reco
   sent = λ q p two turn. sent q p two turn (which p node);
 }
   where
-    grown : IsGrown (w.buses s false) (w.buses next false)
-    grown = has s (Tick node) next g false
+    grown : IsGrown (w.buses s bus.X) (w.buses next bus.X)
+    grown = has s (Tick node) next g bus.X
 
     own : w.runs next node ≡ true → TicksWatch n w s next node
     own still = watched.ticks s next node g low still
@@ -260,7 +261,7 @@ fresh-tick {S} {P} n w goes watched has s next from node g low empty at h = reco
         (heard-now w from s q p empty (h.heard q p (back q p two) (omega (arith, turn, at))
         (sym (kept q two.one apart two.here).checks ∙ check)))
 
-    tells : (q : ℕ) → TwoRun n w next q node → IsAmong (w.alive node q) (w.buses next false)
+    tells : (q : ℕ) → TwoRun n w next q node → IsAmong (w.alive node q) (w.buses next bus.X)
     tells q two = let b = back q node two in
         (own two.there).sends q two.one two.apart two.here
         (h.there node q (record {
@@ -273,10 +274,10 @@ fresh-tick {S} {P} n w goes watched has s next from node g low empty at h = reco
         }))
 
     sent : (q p : ℕ) → TwoRun n w next q p → p < node + 1 → (p ≡ node) ⊎ (p ≢ node)
-        → IsAmong (w.alive p q) (w.buses next false)
-    sent q p two turn (inl same) = subst (λ k. IsAmong (w.alive k q) (w.buses next false)) (sym same)
+        → IsAmong (w.alive p q) (w.buses next bus.X)
+    sent q p two turn (inl same) = subst (λ k. IsAmong (w.alive k q) (w.buses next bus.X)) (sym same)
         (tells q (subst (λ k. TwoRun n w next q k) same two))
-    sent q p two turn (inr apart) = grown-among (w.alive p q) (w.buses s false) (w.buses next false) grown
+    sent q p two turn (inr apart) = grown-among (w.alive p q) (w.buses s bus.X) (w.buses next bus.X) grown
         (h.sent q p (back q p two) (omega (arith, turn, at, apart)))
 
 -- the tick of node 16 ends a round in which all processors have ticked
@@ -286,8 +287,8 @@ fresh-end : {S P : Type 0} (n : ℕ) (w : Sight S P) (goes : S → Event → S �
 fresh-end {S} {P} n w goes watched few has s next from g all h = record {
   low = omega arith;
   there = λ q p two. (kept q p two).there p two.there (h.there q p (back q p two));
-  heard = λ q p two turn check. inr (all-front (w.alive p q) (w.buses next false) (grown-among (w.alive p q)
-      (w.buses s false) (w.buses next false) grown
+  heard = λ q p two turn check. inr (all-front (w.alive p q) (w.buses next bus.X) (grown-among (w.alive p q)
+      (w.buses s bus.X) (w.buses next bus.X) grown
       (h.sent q p (back q p two) (let other = two.other in omega (arith, other, all)))));
   sent = λ q p two turn. absurd (let bad : p < 0 = turn in omega (arith, bad));
 }
@@ -296,8 +297,8 @@ fresh-end {S} {P} n w goes watched few has s next from g all h = record {
     no_tick k low is = absurd (let same : 16 ≡ k = cc in let bad : 16 < 16 = omega (arith, low, few, same) in omega
         (arith, bad))
 
-    grown : IsGrown (w.buses s false) (w.buses next false)
-    grown = has s (Tick 16) next g false
+    grown : IsGrown (w.buses s bus.X) (w.buses next bus.X)
+    grown = has s (Tick 16) next g bus.X
 
     back : (q p : ℕ) → TwoRun n w next q p → TwoRun n w s q p
     back = one-ran n w goes watched s (Tick 16) next g no_tick
@@ -312,10 +313,10 @@ pub fresh-turn : {S P : Type 0} (sizes : Sizes) (w : Sight S P) (goes : S → Ev
     → IsFresh sizes.processors w from s → IsFresh sizes.processors w to next
 fresh-turn sizes w goes watched few has s _ next from _ (enters terminal early low) g h =
     fresh-early sizes.processors w goes watched s (Enter terminal) next from (place.Enters (terminal + 1)) g
-    (λ k low is. absurd (cc)) early refl refl (has s (Enter terminal) next g false) h
+    (λ k low is. absurd (cc)) early refl refl (has s (Enter terminal) next g bus.X) h
 fresh-turn sizes w goes watched few has s _ next from _ (runs process early low) g h =
     fresh-early sizes.processors w goes watched s (Run process) next from (place.Runs (process + 1)) g
-    (λ k low is. absurd (cc)) early refl refl (has s (Run process) next g false) h
+    (λ k low is. absurd (cc)) early refl refl (has s (Run process) next g bus.X) h
 fresh-turn sizes w goes watched few has s _ next from _ (delivers_x left some at) g h =
     fresh-x sizes.processors w goes watched has s next from left g some at h
 fresh-turn sizes w goes watched few has s _ next from _ (delivers_y left empty some at) g h =
@@ -337,4 +338,4 @@ fresh-broken {S} {P} n w s from at h = record {
   where
     by : (q p : ℕ) → WillBeHeard w from s q p → WillBeHeard w place.Before s q p
     by q p (inl heard) = inl heard
-    by q p (inr among) = inr (all-front (w.alive p q) (w.buses s false) (front-among (w.alive p q) _ _ among))
+    by q p (inr among) = inr (all-front (w.alive p q) (w.buses s bus.X) (front-among (w.alive p q) _ _ among))

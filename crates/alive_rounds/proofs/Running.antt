@@ -4,6 +4,7 @@ use Rattle.std.proofs.Common.{if◌then◌else◌, List, [], ◌∷◌, length, 
 use Rattle.std.proofs.Common.{subst}
 use Rattle.std.proofs.Common.{arith}
 use Rattle.std.specs.List.{list_all}
+use Rattle.schedule.specs.declared.bus_name.BusName.TheVariants as bus
 use Rattle.schedule.specs.declared.event.Counts.{Counts}
 use Rattle.schedule.specs.declared.event.Event.{Event}
 use Rattle.schedule.specs.declared.event.Event.TheVariants.{Run, Enter, Deliver, Lose, Repeat, Tick, Fail, Reload}
@@ -204,10 +205,10 @@ comes-later sizes w counts goes watched has shown s next processor g _ _ (by_tur
     low) =
     let same = shown s (Fail processor) next refl g in
     by_turn kind left from to event
-    (subst (λ l. Turns sizes (length l) (length (w.buses next true)) from event to) (sym (has s (Fail processor) next g
-    false))
-    (subst (λ l. Turns sizes (length (w.buses s false)) (length l) from event to) (sym (has s (Fail processor) next g
-    true))
+    (subst (λ l. Turns sizes (length l) (length (w.buses next bus.Y)) from event to) (sym (has s (Fail processor) next g
+    bus.X))
+    (subst (λ l. Turns sizes (length (w.buses s bus.X)) (length l) from event to) (sym (has s (Fail processor) next g
+    bus.Y))
     turn)) (fresh-stopped sizes.processors w goes watched has s processor next from g h) drain
     (same-reached kind (counts s) (counts next) same.0 same.1 ∙ low)
 comes-later sizes w counts goes watched has shown s next processor g _ _ (by_stop left other h) =
@@ -241,7 +242,7 @@ runs-fresh sizes w counts goes watched few has counted shown start lines stop ca
 
 -- a processor ticks when bus X has nothing left to deliver
 tick-turn : {sizes : Sizes} {x y : ℕ} {from to : Place} {event : Event} (node : ℕ) → Turns sizes x y from event to
-    → event ≡ Tick node → node < 16 → (due from false x ≡ 0) × (ticked from ≡ node)
+    → event ≡ Tick node → node < 16 → (due from bus.X x ≡ 0) × (ticked from ≡ node)
 tick-turn node (enters terminal early low) is below = absurd (cc)
 tick-turn node (runs process early low) is below = absurd (cc)
 tick-turn node (delivers_x left some at) is below = absurd (cc)

@@ -4,6 +4,8 @@
 use Rattle.std.specs.Prelude.{◌≡◌, ◌≢◌, ◌<◌, ℕ, not, Bool, true, false, if◌then◌else◌, List, ◌∷◌, Option, Some}
 use Rattle.std.specs.Option.{option_map}
 use Rattle.gd_words.specs.Members.{IsAmong}
+use Rattle.schedule.specs.declared.bus_name.BusName.{BusName}
+use Rattle.schedule.specs.declared.bus_name.BusName.TheVariants as bus
 use Rattle.schedule.specs.declared.event.Event.{Event}
 use Rattle.schedule.specs.declared.event.Event.TheVariants.{Deliver, Tick}
 use Rattle.alive_regroup.specs.declared.neighbour.Missed.{Missed}
@@ -16,7 +18,7 @@ use Rattle.alive_regroup.specs.Watching.{neighbour_after_check, is_silent}
 -- what is seen of a machine: the packets on its buses; which nodes run; what a node knows of a processor; whether its
 -- next tick checks; and the I'm-alive packet from one node to another
 pub record Sight (S P : Type 0) : Type 0 where
-  pub buses : S → Bool → List P
+  pub buses : S → BusName → List P
   pub runs : S → ℕ → Bool
   pub knows : S → ℕ → ℕ → Option Neighbour
   pub checks : S → ℕ → Bool
@@ -50,7 +52,7 @@ pub record TicksWatch {S P : Type 0} (processors : ℕ) (w : Sight S P) (s next 
   pub there : (p : ℕ) → w.runs next p ≡ true → IsThere (after_tick_of (w.checks s node) (w.knows s node p))
       → IsThere (w.knows next node p)
   pub sends : (q : ℕ) → q < processors → q ≢ node → w.runs next q ≡ true → IsThere (w.knows s node q)
-      → IsAmong (w.alive node q) (w.buses next false)
+      → IsAmong (w.alive node q) (w.buses next bus.X)
 
 -- a node pulls the line of a processor at a tick: it is another processor, it runs, and it finds that one silent
 pub record PullsLine {S P : Type 0} (processors : ℕ) (w : Sight S P) (s : S) (node p : ℕ) : Type 0 where
@@ -64,8 +66,8 @@ pub record PullsLine {S P : Type 0} (processors : ℕ) (w : Sight S P) (s : S) (
 pub record IsWatched {S P : Type 0} (processors : ℕ) (w : Sight S P) (goes : S → Event → S → Type 0) : Type 0 where
   pub keeps : (s : S) (event : Event) (next : S) (q : ℕ) → goes s event next → q < processors → event ≢ Tick q
       → w.runs next q ≡ true → KeepsWatch w s next q
-  pub hears : (s next : S) (p q : ℕ) (rest : List P) → goes s (Deliver false 0) next → q < processors
-      → w.buses s false ≡ w.alive p q ∷ rest → w.runs next p ≡ true → w.runs next q ≡ true
+  pub hears : (s next : S) (p q : ℕ) (rest : List P) → goes s (Deliver bus.X 0) next → q < processors
+      → w.buses s bus.X ≡ w.alive p q ∷ rest → w.runs next p ≡ true → w.runs next q ≡ true
       → IsThere (w.knows s q p) → WasHeard (w.knows next q p)
   pub ticks : (s next : S) (node : ℕ) → goes s (Tick node) next → node < processors → w.runs next node ≡ true
       → TicksWatch processors w s next node

@@ -1,4 +1,5 @@
 ghost use Rattle.std.specs.Prelude.{true, false, [], ◌∷◌, ◌++◌};
+ghost use Rattle.schedule.specs.declared.bus_name.BusName.TheVariants as bus;
 ghost use Rattle.schedule.specs.declared.event.DriveChange.TheVariants.{Break};
 ghost use Rattle.schedule.specs.declared.event.Event.TheVariants.{Deliver, Drive, Enter, Fail, Lose, Reload, Repeat};
 ghost use Rattle.schedule.specs.declared.event.Event.TheVariants.{Run, Tick};
@@ -34,9 +35,9 @@ pub fn other_lines_are_not_calm()
     ensures no_round { IsCalm (before_rounds (Mute 1 0)) false → ⊥ }
     ensures entry { IsCalm (before_rounds (One (Enter 0))) false → ⊥ }
     ensures step { IsCalm (before_rounds (One (Run 0))) false → ⊥ }
-    ensures delivery { IsCalm (before_rounds (One (Deliver false 0))) false → ⊥ }
-    ensures loss { IsCalm (before_rounds (One (Lose false 0))) false → ⊥ }
-    ensures repeated { IsCalm (before_rounds (One (Repeat true 0))) false → ⊥ }
+    ensures delivery { IsCalm (before_rounds (One (Deliver bus.X 0))) false → ⊥ }
+    ensures loss { IsCalm (before_rounds (One (Lose bus.X 0))) false → ⊥ }
+    ensures repeated { IsCalm (before_rounds (One (Repeat bus.Y 0))) false → ⊥ }
     ensures tick { IsCalm (before_rounds (One (Tick 0))) false → ⊥ }
     ensures many { IsCalm (before_rounds (Many (Run 0) 3)) false → ⊥ }
     ensures no_event { IsCalm (before_rounds (Many (Tick 0) 0)) false → ⊥ }

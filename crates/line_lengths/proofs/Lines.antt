@@ -79,7 +79,7 @@ module _ (sizes : Sizes) (room : Room) (x y : ℕ) (few_x : x ≤ room.x) (few_y
           (one-round left (most_in_round sizes room) some) (first-turn sizes room y few_y x few_x))
       by (place.Enters terminal) = later (place.Enters terminal) (λ is. absurd (cc))
       by (place.Runs process) = later (place.Runs process) (λ is. absurd (cc))
-      by (place.Delivers y packets) = later (place.Delivers y packets) (λ is. absurd (cc))
+      by (place.Delivers bus packets) = later (place.Delivers bus packets) (λ is. absurd (cc))
       by (place.Ticks node) = later (place.Ticks node) (λ is. absurd (cc))
   proposed-takes (standing.Mixed left at draws) = by at
     where
@@ -99,8 +99,8 @@ module _ (sizes : Sizes) (room : Room) (x y : ℕ) (few_x : x ≤ room.x) (few_y
           (one-round left (most_in_round sizes room) some) (first-mixed sizes room y few_y x few_x draws))
       by (mixed.Enters terminal) = later (mixed.Enters terminal) (λ is. absurd (cc))
       by (mixed.Runs next more) = later (mixed.Runs next more) (λ is. absurd (cc))
-      by (mixed.Delivers y packets) = later (mixed.Delivers y packets) (λ is. absurd (cc))
-      by (mixed.Repeated y k packets) = later (mixed.Repeated y k packets) (λ is. absurd (cc))
+      by (mixed.Delivers bus packets) = later (mixed.Delivers bus packets) (λ is. absurd (cc))
+      by (mixed.Repeated bus k packets) = later (mixed.Repeated bus k packets) (λ is. absurd (cc))
       by (mixed.Ticks node) = later (mixed.Ticks node) (λ is. absurd (cc))
 
 -- the next event of a line takes one of those that are left of it

@@ -2,6 +2,8 @@
 use Rattle.std.proofs.Common.{◌≡◌, ◌≤◌, ◌<◌, ℕ, zero, suc, ◌+◌, ◌-◌, ◌*◌, ◌/◌, ◌%◌, ◌==◌, Bool, true, false}
 use Rattle.std.proofs.Common.{if◌then◌else◌, nat_lt, refl, arith, mod-lt}
 use Rattle.std.proofs.lemmas.Bool.{ltb-true}
+use Rattle.schedule.specs.declared.bus_name.BusName.{BusName}
+use Rattle.schedule.specs.declared.bus_name.BusName.TheVariants as bus
 use Rattle.player.specs.declared.standing.Sizes.{Sizes}
 use Rattle.player.specs.declared.standing.Place.{Place}
 use Rattle.player.specs.declared.standing.Place.TheVariants as place
@@ -19,8 +21,8 @@ left_at sizes room place.Before = 0
 left_at sizes room (place.Enters terminal) =
     (sizes.terminals - terminal) + sizes.processes + room.x + room.y + sizes.processors + 1
 left_at sizes room (place.Runs process) = (sizes.processes - process) + room.x + room.y + sizes.processors + 1
-left_at sizes room (place.Delivers false left) = left + room.y + sizes.processors + 1
-left_at sizes room (place.Delivers true left) = left + sizes.processors + 1
+left_at sizes room (place.Delivers bus.X left) = left + room.y + sizes.processors + 1
+left_at sizes room (place.Delivers bus.Y left) = left + sizes.processors + 1
 left_at sizes room (place.Ticks node) = (sizes.processors - node) + 1
 
 -- and of a mixed one
@@ -30,10 +32,10 @@ left_at_mixed sizes room (mixed.Enters terminal) =
     (sizes.terminals - terminal) + 3 * sizes.processes + 2 * room.x + 2 * room.y + sizes.processors + 1
 left_at_mixed sizes room (mixed.Runs next left) =
     left + 3 * (sizes.processes - next) + 2 * room.x + 2 * room.y + sizes.processors + 1
-left_at_mixed sizes room (mixed.Delivers false left) = 2 * left + 2 * room.y + sizes.processors + 1
-left_at_mixed sizes room (mixed.Delivers true left) = 2 * left + sizes.processors + 1
-left_at_mixed sizes room (mixed.Repeated false k left) = 2 * left + 2 * room.y + sizes.processors + 2
-left_at_mixed sizes room (mixed.Repeated true k left) = 2 * left + sizes.processors + 2
+left_at_mixed sizes room (mixed.Delivers bus.X left) = 2 * left + 2 * room.y + sizes.processors + 1
+left_at_mixed sizes room (mixed.Delivers bus.Y left) = 2 * left + sizes.processors + 1
+left_at_mixed sizes room (mixed.Repeated bus.X k left) = 2 * left + 2 * room.y + sizes.processors + 2
+left_at_mixed sizes room (mixed.Repeated bus.Y k left) = 2 * left + sizes.processors + 2
 left_at_mixed sizes room (mixed.Ticks node) = (sizes.processors - node) + 1
 
 same : (n : ℕ) → n ≤ n
@@ -97,8 +99,8 @@ module _ (sizes : Sizes) (room : Room) where
       later-turn place.Before later = absurd (later refl)
       later-turn (place.Enters terminal) later = enters terminal _ (same _)
       later-turn (place.Runs process) later = runs process _ (same _)
-      later-turn (place.Delivers false left) later = delivers-x left _ (same _)
-      later-turn (place.Delivers true left) later = delivers-y left _ (same _)
+      later-turn (place.Delivers bus.X left) later = delivers-x left _ (same _)
+      later-turn (place.Delivers bus.Y left) later = delivers-y left _ (same _)
       later-turn (place.Ticks node) later = ticks node _ (same _)
 
   -- Mixed rounds
@@ -119,30 +121,30 @@ module _ (sizes : Sizes) (room : Room) where
       (λ is. omega (arith, most))
 
   -- what is left behind the packets of a bus
-  abbrev behind : Bool → ℕ
-  behind false = 2 * room.y + sizes.processors + 1
-  behind true = sizes.processors + 1
+  abbrev behind : BusName → ℕ
+  behind bus.X = 2 * room.y + sizes.processors + 1
+  behind bus.Y = sizes.processors + 1
 
-  handled : (y : Bool) (k choice left draws before : ℕ) → 2 * (left + 1) + behind y ≤ before
-      → TakesMixed before (m.handled y k choice left draws)
-  handled false k choice left draws before most =
+  handled : (bus : BusName) (k choice left draws before : ℕ) → 2 * (left + 1) + behind bus ≤ before
+      → TakesMixed before (m.handled bus k choice left draws)
+  handled bus.X k choice left draws before most =
       either-mixed (choice == 0) before _ _ (λ is. omega (arith, most))
       (λ is. either-mixed (choice == 1) before _ _ (λ is. omega (arith, most)) (λ is. omega (arith, most)))
-  handled true k choice left draws before most =
+  handled bus.Y k choice left draws before most =
       either-mixed (choice == 0) before _ _ (λ is. omega (arith, most))
       (λ is. either-mixed (choice == 1) before _ _ (λ is. omega (arith, most)) (λ is. omega (arith, most)))
 
-  packet : (y : Bool) (left draws before : ℕ) → 0 < left → 2 * left + behind y ≤ before
-      → TakesMixed before (m.drawn_packet y left draws)
-  packet y left draws before some most =
-      handled y (m.word draws / 8 % left) (m.word draws % 8) (left - 1) (m.drawn draws) before
+  packet : (bus : BusName) (left draws before : ℕ) → 0 < left → 2 * left + behind bus ≤ before
+      → TakesMixed before (m.drawn_packet bus left draws)
+  packet bus left draws before some most =
+      handled bus (m.word draws / 8 % left) (m.word draws % 8) (left - 1) (m.drawn draws) before
       (omega (arith, some, most))
 
   delivers-y-mixed : (left draws before : ℕ) → 2 * left + sizes.processors + 1 ≤ before
       → TakesMixed before (m.delivers_y sizes left draws)
   delivers-y-mixed left draws before most =
       either-mixed (nat_lt 0 left) before _ _
-      (λ is. packet true left draws before (ltb-true 0 left is) (omega (arith, most)))
+      (λ is. packet bus.Y left draws before (ltb-true 0 left is) (omega (arith, most)))
       (λ is. ticks-mixed 0 draws before (omega (arith, most)))
 
   module _ (y : ℕ) (few_y : y ≤ room.y) where
@@ -150,7 +152,7 @@ module _ (sizes : Sizes) (room : Room) where
         → TakesMixed before (m.delivers_x sizes y left draws)
     delivers-x-mixed left draws before most =
         either-mixed (nat_lt 0 left) before _ _
-        (λ is. packet false left draws before (ltb-true 0 left is) (omega (arith, most)))
+        (λ is. packet bus.X left draws before (ltb-true 0 left is) (omega (arith, most)))
         (λ is. delivers-y-mixed y draws before (omega (arith, most, few_y)))
 
     module _ (x : ℕ) (few_x : x ≤ room.x) where
@@ -196,8 +198,8 @@ module _ (sizes : Sizes) (room : Room) where
       later-mixed mixed.Before draws later = absurd (later refl)
       later-mixed (mixed.Enters terminal) draws later = enters-mixed terminal draws _ (same _)
       later-mixed (mixed.Runs next left) draws later = runs-mixed next left draws _ (same _)
-      later-mixed (mixed.Delivers false left) draws later = delivers-x-mixed left draws _ (same _)
-      later-mixed (mixed.Delivers true left) draws later = delivers-y-mixed left draws _ (same _)
-      later-mixed (mixed.Repeated false k left) draws later = omega arith
-      later-mixed (mixed.Repeated true k left) draws later = omega arith
+      later-mixed (mixed.Delivers bus.X left) draws later = delivers-x-mixed left draws _ (same _)
+      later-mixed (mixed.Delivers bus.Y left) draws later = delivers-y-mixed left draws _ (same _)
+      later-mixed (mixed.Repeated bus.X k left) draws later = omega arith
+      later-mixed (mixed.Repeated bus.Y k left) draws later = omega arith
       later-mixed (mixed.Ticks node) draws later = ticks-mixed node draws _ (same _)

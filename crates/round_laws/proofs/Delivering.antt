@@ -1,9 +1,11 @@
 -- Why a round delivers what was on the buses as it began.
-use Rattle.std.proofs.Common.{◌≡◌, ℕ, suc, ◌∙◌, Bool, true, false, List, [], ◌∷◌, ◌++◌, length, slice_get, refl}
+use Rattle.std.proofs.Common.{◌≡◌, ℕ, suc, ◌∙◌, false, List, [], ◌∷◌, ◌++◌, length, slice_get, refl}
 use Rattle.std.proofs.Common.{ap, sym, subst, arith}
 use Rattle.std.specs.List.{remove}
 use Rattle.std.specs.Option.{option_to_list}
 use Rattle.std.proofs.lemmas.List.{append_assoc, append-nil}
+use Rattle.schedule.specs.declared.bus_name.BusName.TheVariants as bus
+use Rattle.schedule.specs.declared.bus_name.BusName.{BusName}
 use Rattle.schedule.specs.declared.event.Event.{Event}
 use Rattle.schedule.specs.declared.event.Event.TheVariants.{Tick, Fail}
 use Rattle.player.specs.declared.standing.Sizes.{Sizes}
@@ -70,37 +72,37 @@ comes {P} start came packets after count left some g d = by d.first d.are d.size
     }
 
 -- a turn of a round that goes on, seen on one bus
-turned : {P : Type 0} (bus : Bool) (sizes : Sizes) (on : Bool → List P) (from to : Place) (event : Event)
+turned : {P : Type 0} (name : BusName) (sizes : Sizes) (on : BusName → List P) (from to : Place) (event : Event)
     (start came after : List P)
-    → Turns sizes (length (on false)) (length (on true)) from event to → is_before to ≡ false
-    → Leaves bus event (on bus) after → IsDue start came (due from bus (length (on bus))) (on bus)
-    → IsDue start (came ++ delivered_of bus event (on bus)) (due to bus (length after)) after
-turned bus sizes on from _ _ start came after (enters terminal early low) more leaves d =
-    with-none start came _ after (all-due start came (on bus) after _ leaves d)
-turned bus sizes on from _ _ start came after (runs process early low) more leaves d =
-    with-none start came _ after (all-due start came (on bus) after _ leaves d)
-turned false sizes on from _ _ start came after (delivers_x left some at) more leaves d =
-    comes start came (on false) after _ left some leaves d
-turned true sizes on from _ _ start came after (delivers_x left some at) more leaves d =
-    with-none start came _ after (all-due start came (on true) after _ leaves d)
-turned false sizes on from _ _ start came after (delivers_y left empty some at) more leaves d =
+    → Turns sizes (length (on bus.X)) (length (on bus.Y)) from event to → is_before to ≡ false
+    → Leaves name event (on name) after → IsDue start came (due from name (length (on name))) (on name)
+    → IsDue start (came ++ delivered_of name event (on name)) (due to name (length after)) after
+turned name sizes on from _ _ start came after (enters terminal early low) more leaves d =
+    with-none start came _ after (all-due start came (on name) after _ leaves d)
+turned name sizes on from _ _ start came after (runs process early low) more leaves d =
+    with-none start came _ after (all-due start came (on name) after _ leaves d)
+turned bus.X sizes on from _ _ start came after (delivers_x left some at) more leaves d =
+    comes start came (on bus.X) after _ left some leaves d
+turned bus.Y sizes on from _ _ start came after (delivers_x left some at) more leaves d =
+    with-none start came _ after (all-due start came (on bus.Y) after _ leaves d)
+turned bus.X sizes on from _ _ start came after (delivers_y left empty some at) more leaves d =
     with-none start came _ after
-    (recounted start came after _ 0 empty (as-due start came (on false) after _ leaves d))
-turned true sizes on from _ _ start came after (delivers_y left empty some at) more leaves d =
-    comes start came (on true) after _ left some leaves d
-turned false sizes on from _ _ start came after (ticks node low all at) more leaves d =
+    (recounted start came after _ 0 empty (as-due start came (on bus.X) after _ leaves d))
+turned bus.Y sizes on from _ _ start came after (delivers_y left empty some at) more leaves d =
+    comes start came (on bus.Y) after _ left some leaves d
+turned bus.X sizes on from _ _ start came after (ticks node low all at) more leaves d =
     with-none start came _ after
-    (recounted start came after _ 0 all.0 (as-due start came (on false) after _ leaves d))
-turned true sizes on from _ _ start came after (ticks node low all at) more leaves d =
+    (recounted start came after _ 0 all.0 (as-due start came (on bus.X) after _ leaves d))
+turned bus.Y sizes on from _ _ start came after (ticks node low all at) more leaves d =
     with-none start came _ after
-    (recounted start came after _ 0 all.1 (as-due start came (on true) after _ leaves d))
-turned bus sizes on from _ _ start came after (ends all past) more leaves d = absurd (cc)
+    (recounted start came after _ 0 all.1 (as-due start came (on bus.Y) after _ leaves d))
+turned name sizes on from _ _ start came after (ends all past) more leaves d = absurd (cc)
 
 -- in the midst of a round
-pub still-due : {S P : Type 0} (sizes : Sizes) (buses : S → Bool → List P) (goes : S → Event → S → Type 0)
-    → HasBuses buses goes → (start : S) (came : Bool → List P) (place : Place) (s : S)
+pub still-due : {S P : Type 0} (sizes : Sizes) (buses : S → BusName → List P) (goes : S → Event → S → Type 0)
+    → HasBuses buses goes → (start : S) (came : BusName → List P) (place : Place) (s : S)
     → InRound sizes buses goes start came place s
-    → (bus : Bool) → IsDue (buses start bus) (came bus) (due place bus (length (buses s bus))) (buses s bus)
+    → (bus : BusName) → IsDue (buses start bus) (came bus) (due place bus (length (buses s bus))) (buses s bus)
 still-due sizes buses goes has start _ _ _ begins bus = record {
   first = buses start bus;
   behind = [];
@@ -131,14 +133,15 @@ pub none-due : {sizes : Sizes} {x y : ℕ} {from : Place} → Turns sizes x y fr
     → AllCame x y from
 none-due (ends all past) = all
 
+none-left : {P : Type 0} (on : BusName → List P) (from : Place)
+    → AllCame (length (on bus.X)) (length (on bus.Y)) from → (name : BusName) → due from name (length (on name)) ≡ 0
+none-left on from all bus.X = all.0
+none-left on from all bus.Y = all.1
+
 -- a whole round delivers what was there
-pub all-delivered : {S P : Type 0} (sizes : Sizes) (buses : S → Bool → List P) (goes : S → Event → S → Type 0)
-    → HasBuses buses goes → (start next : S) (r : IsWholeRound sizes buses goes start next) → (bus : Bool)
+pub all-delivered : {S P : Type 0} (sizes : Sizes) (buses : S → BusName → List P) (goes : S → Event → S → Type 0)
+    → HasBuses buses goes → (start next : S) (r : IsWholeRound sizes buses goes start next) → (bus : BusName)
     → IsGrown (buses start bus) (r.came bus)
 all-delivered sizes buses goes has start next r bus =
-    all-came (buses start bus) (r.came bus) (buses r.last bus) _ (by bus)
+    all-came (buses start bus) (r.came bus) (buses r.last bus) _ (none-left (buses r.last) r.from (none-due r.turn) bus)
     (still-due sizes buses goes has start r.came r.from r.last r.made bus)
-  where
-    by : (bus : Bool) → due r.from bus (length (buses r.last bus)) ≡ 0
-    by false = (none-due r.turn).0
-    by true = (none-due r.turn).1

@@ -1,7 +1,9 @@
 -- Why a stretch from the beginning of a round to the end of a later one of its line is made of whole rounds.
-use Rattle.std.proofs.Common.{◌≡◌, ◌≤◌, ◌<◌, ◌⊎◌, inl, inr, ℕ, zero, suc, ◌+◌, ◌∙◌, Bool, true, false, refl, List, []}
+use Rattle.std.proofs.Common.{◌≡◌, ◌≤◌, ◌<◌, ◌⊎◌, inl, inr, ℕ, zero, suc, ◌+◌, ◌∙◌, true, false, refl, List, []}
 use Rattle.std.proofs.Common.{◌∷◌, length}
 use Rattle.std.proofs.Common.{Option, Some, None, option_map, ap, sym, subst, arith}
+use Rattle.schedule.specs.declared.bus_name.BusName.{BusName}
+use Rattle.schedule.specs.declared.bus_name.BusName.TheVariants as bus
 use Rattle.schedule.specs.declared.event.Counts.{Counts}
 use Rattle.schedule.specs.declared.event.Event.{Event}
 use Rattle.schedule.specs.declared.event.Event.TheVariants.{Fail}
@@ -27,15 +29,15 @@ use Rattle.round_laws.proofs.Plans.{line-plans}
 
 -- where a stretch stands that began with a round of a line: between two rounds of it; in one, with the state in which
 -- that began; in one whose next event a stop holds back; or behind the line
-data Stage {S P : Type 0} (sizes : Sizes) (buses : S → Bool → List P) (goes : S → Event → S → Type 0) (kind : Rule)
+data Stage {S P : Type 0} (sizes : Sizes) (buses : S → BusName → List P) (goes : S → Event → S → Type 0) (kind : Rule)
     (all : ℕ) (rest : List Line) (start s : S) : LinePlace → List Line → Option Event → Type 0 where
   between : (left made : ℕ) → left + made ≡ all → AreRounds sizes buses goes start made s
       → Stage sizes buses goes kind all rest start s (standing.Rounds kind left place.Before) rest None
-  within : (left made : ℕ) (first : S) (came : Bool → List P) (at : Place) → is_before at ≡ false
+  within : (left made : ℕ) (first : S) (came : BusName → List P) (at : Place) → is_before at ≡ false
       → left + 1 + made ≡ all → AreRounds sizes buses goes start made first
       → InRound sizes buses goes first came at s
       → Stage sizes buses goes kind all rest start s (standing.Rounds kind left at) rest None
-  held_up : (left made : ℕ) (first : S) (came : Bool → List P) (from to : Place) (event : Event)
+  held_up : (left made : ℕ) (first : S) (came : BusName → List P) (from to : Place) (event : Event)
       → left + 1 + made ≡ all → AreRounds sizes buses goes start made first
       → InRound sizes buses goes first came from s → TurnsIn sizes buses s from event to
       → Stage sizes buses goes kind all rest start s (standing.Rounds kind left to) rest (Some event)
@@ -43,8 +45,8 @@ data Stage {S P : Type 0} (sizes : Sizes) (buses : S → Bool → List P) (goes 
       → Stage sizes buses goes kind all rest start s now lines held
 
 -- a turn is played
-turned : {S P : Type 0} (sizes : Sizes) (buses : S → Bool → List P) (goes : S → Event → S → Type 0) (kind : Rule)
-    (all : ℕ) (rest : List Line) (start first s next : S) (left made : ℕ) (came : Bool → List P) (from to : Place)
+turned : {S P : Type 0} (sizes : Sizes) (buses : S → BusName → List P) (goes : S → Event → S → Type 0) (kind : Rule)
+    (all : ℕ) (rest : List Line) (start first s next : S) (left made : ℕ) (came : BusName → List P) (from to : Place)
     (event : Event) → left + 1 + made ≡ all → AreRounds sizes buses goes start made first
     → InRound sizes buses goes first came from s → TurnsIn sizes buses s from event to → goes s event next
     → Stage sizes buses goes kind all rest start next (standing.Rounds kind left to) rest None
@@ -74,23 +76,25 @@ turned {S} {P} sizes buses goes kind all rest start first s next left made came 
         }))
 
 -- what a plan leads to
-abbrev Onward : {S P : Type 0} → Sizes → (S → Bool → List P) → (S → Event → S → Type 0) → Rule → ℕ → List Line → S → S
+abbrev Onward : {S P : Type 0} → Sizes → (S → BusName → List P) → (S → Event → S → Type 0) → Rule → ℕ → List Line
+    → S → S
     → Plan → Type 0
 Onward {S} {P} sizes buses goes kind all rest start s plan = (next : S) → goes s plan.event next
     → Stage sizes buses goes kind all rest start next plan.agenda.standing plan.agenda.lines plan.agenda.held_back
 
-pub as-turn : {S P : Type 0} (sizes : Sizes) (buses : S → Bool → List P) (counts : S → Counts)
+pub as-turn : {S P : Type 0} (sizes : Sizes) (buses : S → BusName → List P) (counts : S → Counts)
     → CountsBuses buses counts → (s : S) (from : Place) (event : Event) (to : Place)
     → Turns sizes (counts s).x (counts s).y from event to
     → TurnsIn sizes buses s from event to
 as-turn sizes buses counts counted s from event to turn =
-    subst (λ x. Turns sizes x (length (buses s true)) from event to) (counted s).0
+    subst (λ x. Turns sizes x (length (buses s bus.Y)) from event to) (counted s).0
     (subst (λ y. Turns sizes (counts s).x y from event to) (counted s).1 turn)
 
 -- what comes of a round of the line
-in-line : {S P : Type 0} (sizes : Sizes) (buses : S → Bool → List P) (counts : S → Counts)
+in-line : {S P : Type 0} (sizes : Sizes) (buses : S → BusName → List P) (counts : S → Counts)
     (goes : S → Event → S → Type 0) → HasBuses buses goes → CountsBuses buses counts
-    → (kind : Rule) (all : ℕ) (rest : List Line) (start first s : S) (left made : ℕ) (came : Bool → List P) (at : Place)
+    → (kind : Rule) (all : ℕ) (rest : List Line) (start first s : S) (left made : ℕ) (came : BusName → List P)
+    (at : Place)
     → left + under_way at + made ≡ all → AreRounds sizes buses goes start made first
     → InRound sizes buses goes first came at s → is_drain kind ≡ true → (before : ℕ) (stop : Option ProcessorStop)
     → IfPlan (Onward sizes buses goes kind all rest start s) (next_plan sizes before (counts s)
@@ -115,14 +119,14 @@ in-line {S} {P} sizes buses counts goes has counted kind all rest start first s 
         → Onward sizes buses goes kind all rest start s (stopped_by (Some processor) plan)
     stopped processor _ (its_turn after to event stop turn more) next g =
         held_up after made first came at to event (omega (arith, count, more)) rounds (stops processor round g)
-        (subst (λ l. Turns sizes (length l) (length (buses next true)) at event to)
-        (sym (has s (Fail processor) next g false))
-        (subst (λ l. Turns sizes (length (buses s false)) (length l) at event to)
-        (sym (has s (Fail processor) next g true)) (as-turn sizes buses counts counted s at event to turn)))
+        (subst (λ l. Turns sizes (length l) (length (buses next bus.Y)) at event to)
+        (sym (has s (Fail processor) next g bus.X))
+        (subst (λ l. Turns sizes (length (buses s bus.X)) (length l) at event to)
+        (sym (has s (Fail processor) next g bus.Y)) (as-turn sizes buses counts counted s at event to turn)))
     stopped processor plan (past_it low) next g = behind low
 
 -- and behind the line
-past-line : {S P : Type 0} (sizes : Sizes) (buses : S → Bool → List P) (counts : S → Counts)
+past-line : {S P : Type 0} (sizes : Sizes) (buses : S → BusName → List P) (counts : S → Counts)
     (goes : S → Event → S → Type 0) (kind : Rule) (all : ℕ) (rest : List Line) (start s : S) (now : LinePlace)
     (lines : List Line) → length lines < length rest → (before : ℕ) (stop : Option ProcessorStop) (held : Option Event)
     → IfPlan (Onward sizes buses goes kind all rest start s) (next_plan sizes before (counts s)
@@ -146,7 +150,7 @@ under (place.Delivers bus left) more = refl
 under (place.Ticks node) more = refl
 
 -- one event more
-stage-on : {S P : Type 0} (sizes : Sizes) (buses : S → Bool → List P) (counts : S → Counts)
+stage-on : {S P : Type 0} (sizes : Sizes) (buses : S → BusName → List P) (counts : S → Counts)
     (goes : S → Event → S → Type 0) → HasBuses buses goes → CountsBuses buses counts
     → (kind : Rule) (all : ℕ) (rest : List Line) (start s : S) → is_drain kind ≡ true → (before : ℕ) (now : LinePlace)
     (lines : List Line) (stop : Option ProcessorStop) (held : Option Event)
@@ -178,7 +182,7 @@ next-planned sizes counts stop there rest now _ (later {line = line} {lines = li
     ∙ ap (planned_by sizes counts stop (line ∷ lines)) (sym none)
 
 -- the stretch is still at its beginning, or has a stage
-stretch-stage : {S P : Type 0} (sizes : Sizes) (buses : S → Bool → List P) (counts : S → Counts)
+stretch-stage : {S P : Type 0} (sizes : Sizes) (buses : S → BusName → List P) (counts : S → Counts)
     (goes : S → Event → S → Type 0) → HasBuses buses goes → CountsBuses buses counts
     → (kind : Rule) (all : ℕ) (rest : List Line) (before : ℕ) (agenda : Agenda) (start : S) → is_drain kind ≡ true
     → BeginsRound sizes (counts start) agenda kind all rest → (now : ℕ) (there : Agenda) (s : S)
@@ -214,7 +218,7 @@ stretch-stage {S} {P} sizes buses counts goes has counted kind all rest before a
         there.held_back stage) is next g
 
 -- where a stage is the end of a round, so many whole rounds were made
-stage-ends : {S P : Type 0} (sizes : Sizes) (buses : S → Bool → List P) (goes : S → Event → S → Type 0) (kind : Rule)
+stage-ends : {S P : Type 0} (sizes : Sizes) (buses : S → BusName → List P) (goes : S → Event → S → Type 0) (kind : Rule)
     (all : ℕ) (rest : List Line) (start s : S) (left k : ℕ) (now : LinePlace) (lines : List Line) (held : Option Event)
     → Stage sizes buses goes kind all rest start s now lines held → now ≡ standing.Rounds kind left place.Before
     → lines ≡ rest → held ≡ None → left + k ≡ all → AreRounds sizes buses goes start k s
@@ -243,7 +247,7 @@ next-line sizes counts there rest now _ (later {line = line} {lines = lines} non
     let less : length rest < suc (length lines) = omega (arith, most) in
     (inr less, let low : length rest ≤ suc (length lines) = omega (arith, most) in low)
 
-pub stretch-rounds : {S P : Type 0} (sizes : Sizes) (buses : S → Bool → List P) (counts : S → Counts)
+pub stretch-rounds : {S P : Type 0} (sizes : Sizes) (buses : S → BusName → List P) (counts : S → Counts)
     (goes : S → Event → S → Type 0) → HasBuses buses goes → CountsBuses buses counts
     → (kind : Rule) → is_drain kind ≡ true → (left k : ℕ) (rest : List Line) (before now : ℕ) (agenda there : Agenda)
     (start s : S) → BeginsRound sizes (counts start) agenda kind (left + suc k) rest

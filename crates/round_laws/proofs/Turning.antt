@@ -1,6 +1,7 @@
 -- Why the next event of a round is a turn of it.
 use Rattle.std.proofs.Common.{◌≡◌, ◌<◌, ℕ, ◌+◌, ◌-◌, nat_lt, Bool, true, false, if◌then◌else◌, refl, arith}
 use Rattle.std.proofs.lemmas.Bool.{ltb-true, ltb-false}
+use Rattle.schedule.specs.declared.bus_name.BusName.TheVariants as bus
 use Rattle.player.specs.declared.standing.Sizes.{Sizes}
 use Rattle.player.specs.declared.standing.Place.{Place}
 use Rattle.player.specs.declared.standing.Place.TheVariants as place
@@ -26,13 +27,13 @@ of-ticks : (sizes : Sizes) (x y : ℕ) (from : Place) (node : ℕ) → AllCame x
 of-ticks sizes x y from node came at = part sizes x y from node sizes.processors _ _
     (λ low. ticks node low came at) (λ past. ends came (omega (arith, past, at)))
 
-of-y : (sizes : Sizes) (x y : ℕ) (from : Place) (left : ℕ) → due from false x ≡ 0 → due from true y ≡ left
+of-y : (sizes : Sizes) (x y : ℕ) (from : Place) (left : ℕ) → due from bus.X x ≡ 0 → due from bus.Y y ≡ left
     → ticked from ≡ 0 → IsTurn sizes x y from (player.delivers_y sizes left)
 of-y sizes x y from left empty some at = part sizes x y from 0 left _ _
     (λ low. delivers_y (left - 1) empty (omega (arith, low, some)) at)
     (λ past. of-ticks sizes x y from 0 (empty, omega (arith, past, some)) at)
 
-of-x : (sizes : Sizes) (x y : ℕ) (from : Place) (left : ℕ) → due from false x ≡ left → due from true y ≡ y
+of-x : (sizes : Sizes) (x y : ℕ) (from : Place) (left : ℕ) → due from bus.X x ≡ left → due from bus.Y y ≡ y
     → ticked from ≡ 0 → IsTurn sizes x y from (player.delivers_x sizes y left)
 of-x sizes x y from left some all at = part sizes x y from 0 left _ _
     (λ low. delivers_x (left - 1) (omega (arith, low, some)) at)
@@ -41,8 +42,8 @@ of-x sizes x y from left some all at = part sizes x y from 0 left _ _
 -- before anything was delivered
 record IsEarly (x y : ℕ) (from : Place) : Type 0 where
   early : is_early from ≡ true
-  all_x : due from false x ≡ x
-  all_y : due from true y ≡ y
+  all_x : due from bus.X x ≡ x
+  all_y : due from bus.Y y ≡ y
   none_ticked : ticked from ≡ 0
 
 of-runs : (sizes : Sizes) (x y : ℕ) (from : Place) (process : ℕ) → IsEarly x y from
@@ -63,6 +64,6 @@ turn-is sizes x y (place.Enters terminal) = of-enters sizes x y (place.Enters te
     (record { early = refl; all_x = refl; all_y = refl; none_ticked = refl })
 turn-is sizes x y (place.Runs process) = of-runs sizes x y (place.Runs process) process
     (record { early = refl; all_x = refl; all_y = refl; none_ticked = refl })
-turn-is sizes x y (place.Delivers false left) = of-x sizes x y (place.Delivers false left) left refl refl refl
-turn-is sizes x y (place.Delivers true left) = of-y sizes x y (place.Delivers true left) left refl refl refl
+turn-is sizes x y (place.Delivers bus.X left) = of-x sizes x y (place.Delivers bus.X left) left refl refl refl
+turn-is sizes x y (place.Delivers bus.Y left) = of-y sizes x y (place.Delivers bus.Y left) left refl refl refl
 turn-is sizes x y (place.Ticks node) = of-ticks sizes x y (place.Ticks node) node (refl, refl) refl

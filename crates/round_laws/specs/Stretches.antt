@@ -1,5 +1,7 @@
 -- Stretches of what is played, from a moment to a later one, on whatever machine; and the rounds of a line in them.
 use Rattle.std.specs.Prelude.{◌≡◌, ℕ, ◌+◌, Bool, true, false, List, ◌∷◌, length, Some, None}
+use Rattle.schedule.specs.declared.bus_name.BusName.{BusName}
+use Rattle.schedule.specs.declared.bus_name.BusName.TheVariants as bus
 use Rattle.schedule.specs.declared.event.Event.{Event}
 use Rattle.schedule.specs.declared.event.Counts.{Counts}
 use Rattle.schedule.specs.declared.line.Line.{Line}
@@ -51,6 +53,6 @@ pub record EndsRound (agenda : Agenda) (rule : Rule) (left : ℕ) (rest : List L
   pub lines : agenda.lines ≡ rest
 
 -- what a machine counts are the packets on its buses
-abbrev pub CountsBuses : {S P : Type 0} → (S → Bool → List P) → (S → Counts) → Type 0
+abbrev pub CountsBuses : {S P : Type 0} → (S → BusName → List P) → (S → Counts) → Type 0
 CountsBuses {S} {P} buses counts =
-    (s : S) → ((counts s).x ≡ length (buses s false)) × ((counts s).y ≡ length (buses s true))
+    (s : S) → ((counts s).x ≡ length (buses s bus.X)) × ((counts s).y ≡ length (buses s bus.Y))

@@ -1,6 +1,8 @@
 -- The turns of a round, told by what is left of it: how many packets it still delivers from each bus, and how many
 -- processors have ticked in it. Our own rule.
 use Rattle.std.specs.Prelude.{◌≡◌, ◌≤◌, ◌<◌, ℕ, suc, ◌+◌, Bool, true, false}
+use Rattle.schedule.specs.declared.bus_name.BusName.{BusName}
+use Rattle.schedule.specs.declared.bus_name.BusName.TheVariants as bus
 use Rattle.schedule.specs.declared.event.Event.{Event}
 use Rattle.schedule.specs.declared.event.Event.TheVariants.{Run, Enter, Deliver, Tick}
 use Rattle.player.specs.declared.standing.Sizes.{Sizes}
@@ -18,14 +20,14 @@ is_early (place.Ticks node) = false
 
 -- bus X has its turn, or bus Y: what each of them still delivers of the packets that are on it. All of them before its
 -- turn, and none after it
-abbrev pub due_in : Bool → ℕ → Bool → ℕ → ℕ
-due_in false left false count = left
-due_in false left true count = count
-due_in true left false count = 0
-due_in true left true count = left
+abbrev pub due_in : BusName → ℕ → BusName → ℕ → ℕ
+due_in bus.X left bus.X count = left
+due_in bus.X left bus.Y count = count
+due_in bus.Y left bus.X count = 0
+due_in bus.Y left bus.Y count = left
 
 -- how many of so many packets on a bus the round still delivers, where it stands at a place
-abbrev pub due : Place → Bool → ℕ → ℕ
+abbrev pub due : Place → BusName → ℕ → ℕ
 due place.Before bus count = count
 due (place.Enters terminal) bus count = count
 due (place.Runs process) bus count = count
@@ -42,7 +44,7 @@ ticked (place.Ticks node) = node
 
 -- nothing is due any more
 abbrev pub AllCame : ℕ → ℕ → Place → Type 0
-AllCame x y from = (due from false x ≡ 0) × (due from true y ≡ 0)
+AllCame x y from = (due from bus.X x ≡ 0) × (due from bus.Y y ≡ 0)
 
 -- with x packets on bus X and y on bus Y a round goes on from a place, by an event, to a place. Terminals enter and
 -- processes run before anything is delivered; bus X delivers its first packet before bus Y does; and then each
@@ -53,10 +55,10 @@ pub data Turns (sizes : Sizes) (x y : ℕ) (from : Place) : Event → Place → 
       → Turns sizes x y from (Enter terminal) (place.Enters (terminal + 1))
   runs : (process : ℕ) → is_early from ≡ true → process < sizes.processes
       → Turns sizes x y from (Run process) (place.Runs (process + 1))
-  delivers_x : (left : ℕ) → due from false x ≡ suc left → ticked from ≡ 0
-      → Turns sizes x y from (Deliver false 0) (place.Delivers false left)
-  delivers_y : (left : ℕ) → due from false x ≡ 0 → due from true y ≡ suc left → ticked from ≡ 0
-      → Turns sizes x y from (Deliver true 0) (place.Delivers true left)
+  delivers_x : (left : ℕ) → due from bus.X x ≡ suc left → ticked from ≡ 0
+      → Turns sizes x y from (Deliver bus.X 0) (place.Delivers bus.X left)
+  delivers_y : (left : ℕ) → due from bus.X x ≡ 0 → due from bus.Y y ≡ suc left → ticked from ≡ 0
+      → Turns sizes x y from (Deliver bus.Y 0) (place.Delivers bus.Y left)
   ticks : (node : ℕ) → node < sizes.processors → AllCame x y from → ticked from ≡ node
       → Turns sizes x y from (Tick node) (place.Ticks (node + 1))
   ends : AllCame x y from → sizes.processors ≤ ticked from → Turns sizes x y from (Tick TERMINAL_NODE) place.Before

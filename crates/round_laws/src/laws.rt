@@ -1,4 +1,5 @@
-ghost use Rattle.std.specs.Prelude.{◌≡◌, ℕ, suc, ◌+◌, Bool, true, false, List, length};
+ghost use Rattle.std.specs.Prelude.{◌≡◌, ℕ, suc, ◌+◌, true, false, List, length};
+ghost use Rattle.schedule.specs.declared.bus_name.BusName.{BusName};
 ghost use Rattle.schedule.specs.declared.event.Counts.{Counts};
 ghost use Rattle.schedule.specs.declared.line.Line.{Line};
 ghost use Rattle.player.specs.declared.standing.Sizes.{Sizes};
@@ -22,10 +23,10 @@ pub fn a_turn_is_of_six_kinds()
 /// what was on it. Of a round that breaks off, what came and what is still due begins with it.
 pub fn a_whole_round_delivers_all()
     ensures whole { (sizes : Sizes) (start next : Buses) → (r : IsWholeRound sizes themselves BusesGo start next)
-        → (bus : Bool) → IsGrown (start bus) (r.came bus) }
-    ensures part { (sizes : Sizes) (start s : Buses) (came : Bool → List ℕ) (place : Place)
+        → (bus : BusName) → IsGrown (start bus) (r.came bus) }
+    ensures part { (sizes : Sizes) (start s : Buses) (came : BusName → List ℕ) (place : Place)
         → InRound sizes themselves BusesGo start came place s
-        → (bus : Bool) → IsDue (start bus) (came bus) (due place bus (length (s bus))) (s bus) }
+        → (bus : BusName) → IsDue (start bus) (came bus) (due place bus (length (s bus))) (s bus) }
 {}
 
 /// From the beginning of a round of a `drain` or `until` line to the end of a later one, whole rounds are made. They

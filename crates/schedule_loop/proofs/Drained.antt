@@ -4,6 +4,8 @@ use Rattle.std.proofs.Common.{Some, None, Result, Ok, Err, IfOk, refl, ap, ap₂
 use Rattle.std.specs.Bool.{OnTrue}
 use Rattle.std.proofs.lemmas.Bool.{le-ltb, lt-ltb}
 use Rattle.std.specs.Option.{IfSome, option_map}
+use Rattle.schedule.specs.declared.bus_name.BusName.{BusName}
+use Rattle.schedule.specs.declared.bus_name.BusName.TheVariants as bus
 use Rattle.schedule.specs.declared.event.Event.{Event}
 use Rattle.schedule.specs.declared.event.Event.TheVariants as event
 use Rattle.schedule.specs.declared.line.Line.{Line}
@@ -99,7 +101,7 @@ due-in : {Wires : Type 0} (rules : Rules Wires) (rest : ℕ) (before : Drain) (s
 due-in rules rest before s place.Before is = absurd (cc)
 due-in rules rest before s (place.Enters terminal) is = refl
 due-in rules rest before s (place.Runs process) is = refl
-due-in rules rest before s (place.Delivers y left) is = refl
+due-in rules rest before s (place.Delivers bus left) is = refl
 due-in rules rest before s (place.Ticks node) is = refl
 
 pub due-then : {Wires : Type 0} (rules : Rules Wires) (rest : ℕ) (before after : Drain) (s : State Wires)
@@ -142,13 +144,14 @@ runs-one rules rest drain s n due some =
     else delivers_x drain.sizes (counted rules drain s).y (counted rules drain s).x)
     (lt-ltb n drain.sizes.processes some))
 
-pub delivers-one : {Wires : Type 0} (rules : Rules Wires) (rest : ℕ) (drain : Drain) (s : State Wires) (y : Bool)
-    (left : ℕ) → IsDueAt rules rest drain s (place.Delivers y (left + 1))
-    → Takes rules rest drain s (turn (event.Deliver y 0) (place.Delivers y left))
-delivers-one rules rest drain s y left due =
-    by-turn rules rest drain s (place.Delivers y (left + 1)) (turn (event.Deliver y 0) (place.Delivers y left)) due
-    (delivers drain.sizes (counted rules drain s).x (counted rules drain s).y y (left + 1)
-    (lt-ltb 0 (left + 1) (omega arith)) ∙ ap (λ (n : ℕ). turn (event.Deliver y 0) (place.Delivers y n)) less)
+pub delivers-one : {Wires : Type 0} (rules : Rules Wires) (rest : ℕ) (drain : Drain) (s : State Wires) (bus : BusName)
+    (left : ℕ) → IsDueAt rules rest drain s (place.Delivers bus (left + 1))
+    → Takes rules rest drain s (turn (event.Deliver bus 0) (place.Delivers bus left))
+delivers-one rules rest drain s bus left due =
+    by-turn rules rest drain s (place.Delivers bus (left + 1))
+    (turn (event.Deliver bus 0) (place.Delivers bus left)) due
+    (delivers drain.sizes (counted rules drain s).x (counted rules drain s).y bus (left + 1)
+    (lt-ltb 0 (left + 1) (omega arith)) ∙ ap (λ (n : ℕ). turn (event.Deliver bus 0) (place.Delivers bus n)) less)
   where
     less : left + 1 - 1 ≡ left
     less = omega arith
@@ -174,22 +177,22 @@ enters-over rules rest drain s n due none =
 
 pub runs-over : {Wires : Type 0} (rules : Rules Wires) (rest : ℕ) (drain : Drain) (s : State Wires) (n : ℕ)
     → IsDueAt rules rest drain s (place.Runs n) → drain.sizes.processes ≤ n
-    → IsDueAt rules rest drain s (place.Delivers false (counted rules drain s).x)
+    → IsDueAt rules rest drain s (place.Delivers bus.X (counted rules drain s).x)
 runs-over rules rest drain s n due none =
     by-turn rules rest drain s (place.Runs n)
     (next_turn drain.sizes (counted rules drain s).x (counted rules drain s).y
-    (place.Delivers false (counted rules drain s).x)) due
+    (place.Delivers bus.X (counted rules drain s).x)) due
     (ap (λ (b : Bool). if b then turn (event.Run n) (place.Runs (n + 1))
     else delivers_x drain.sizes (counted rules drain s).y (counted rules drain s).x)
     (le-ltb n drain.sizes.processes none))
 
 pub x-over : {Wires : Type 0} (rules : Rules Wires) (rest : ℕ) (drain : Drain) (s : State Wires)
-    → IsDueAt rules rest drain s (place.Delivers false 0)
-    → IsDueAt rules rest drain s (place.Delivers true (counted rules drain s).y)
+    → IsDueAt rules rest drain s (place.Delivers bus.X 0)
+    → IsDueAt rules rest drain s (place.Delivers bus.Y (counted rules drain s).y)
 x-over rules rest drain s due = due
 
 pub y-over : {Wires : Type 0} (rules : Rules Wires) (rest : ℕ) (drain : Drain) (s : State Wires)
-    → IsDueAt rules rest drain s (place.Delivers true 0) → IsDueAt rules rest drain s (place.Ticks 0)
+    → IsDueAt rules rest drain s (place.Delivers bus.Y 0) → IsDueAt rules rest drain s (place.Ticks 0)
 y-over rules rest drain s due = due
 
 pub ticks-over : {Wires : Type 0} (rules : Rules Wires) (rest : ℕ) (drain : Drain) (s : State Wires) (n : ℕ)
@@ -235,7 +238,7 @@ before-rounds (standing.Rounds rule.Drain many place.Before) left is =
     ap (λ (n : ℕ). standing.Rounds rule.Drain n place.Before) same
 before-rounds (standing.Rounds rule.Drain many (place.Enters terminal)) left is = absurd (cc)
 before-rounds (standing.Rounds rule.Drain many (place.Runs process)) left is = absurd (cc)
-before-rounds (standing.Rounds rule.Drain many (place.Delivers y packets)) left is = absurd (cc)
+before-rounds (standing.Rounds rule.Drain many (place.Delivers bus packets)) left is = absurd (cc)
 before-rounds (standing.Rounds rule.Drain many (place.Ticks node)) left is = absurd (cc)
 before-rounds (standing.Mixed many place draws) left is = absurd (cc)
 

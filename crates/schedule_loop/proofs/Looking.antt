@@ -70,14 +70,14 @@ loses_any (Some one) = loses one
 module _ (told seen : Counts) (unseen : told.alive ≡ false) where
   kept : (one found : Event) → loses one ≡ false → Some one ≡ Some (event_when_spared told found)
       → Some one ≡ Some (event_when_spared seen found)
-  kept one (event.Lose y k) none is =
-      let same : loses one ≡ loses (event_when_spared told (event.Lose y k)) =
+  kept one (event.Lose bus k) none is =
+      let same : loses one ≡ loses (event_when_spared told (event.Lose bus k)) =
       ap (λ (found : Option Event). loses_any found) is in
-      let lost : loses (event_when_spared told (event.Lose y k)) ≡ true =
-      ap (λ (alive : Bool). loses (if alive then event.Deliver y k else event.Lose y k)) unseen in
+      let lost : loses (event_when_spared told (event.Lose bus k)) ≡ true =
+      ap (λ (alive : Bool). loses (if alive then event.Deliver bus k else event.Lose bus k)) unseen in
       absurd (cc)
-  kept one (event.Deliver y k) none is = is
-  kept one (event.Repeat y k) none is = is
+  kept one (event.Deliver bus k) none is = is
+  kept one (event.Repeat bus k) none is = is
   kept one (event.Run process) none is = is
   kept one (event.Enter terminal) none is = is
   kept one (event.Tick node) none is = is
@@ -106,3 +106,40 @@ kept-mixed sizes (standing.Mixed left place draws) counts idle one mixes none is
         → Some one ≡ event_of (option_map (decided_move (standing.Mixed left place draws) seen) found)
     by None same = absurd (cc)
     by (Some move) same = kept told seen refl one move.event none same
+
+-- and an event that it would lose is, with the kind of its packet looked at, the next one
+lost : (counts : Counts) (idle : Bool) (one found : Event) → loses one ≡ true
+    → Some one ≡ Some (event_when_spared (record counts { alive = false; sender = 0; idle = false }) found)
+    → Some (event_when_spared (record counts { idle = false }) one)
+    ≡ Some (event_when_spared (record counts { idle = idle }) found)
+lost counts idle one (event.Lose bus k) loss is =
+    ap (option_map (event_when_spared (record counts { idle = false }))) is
+lost counts idle one (event.Deliver bus k) loss is = let none : loses one ≡ false = ap loses_any is in absurd (cc)
+lost counts idle one (event.Repeat bus k) loss is = let none : loses one ≡ false = ap loses_any is in absurd (cc)
+lost counts idle one (event.Run process) loss is = let none : loses one ≡ false = ap loses_any is in absurd (cc)
+lost counts idle one (event.Enter terminal) loss is = let none : loses one ≡ false = ap loses_any is in absurd (cc)
+lost counts idle one (event.Tick node) loss is = let none : loses one ≡ false = ap loses_any is in absurd (cc)
+lost counts idle one (event.Fail processor) loss is = let none : loses one ≡ false = ap loses_any is in absurd (cc)
+lost counts idle one (event.Reload processor) loss is = let none : loses one ≡ false = ap loses_any is in absurd (cc)
+lost counts idle one (event.Drive turn) loss is = let none : loses one ≡ false = ap loses_any is in absurd (cc)
+
+pub lost-mixed : (sizes : Sizes) (at : LinePlace) (counts : Counts) (idle : Bool) (one : Event)
+    → is_mixed at ≡ true → loses one ≡ true
+    → Some one ≡ event_of (next_event sizes at (record counts { alive = false; sender = 0; idle = false }))
+    → Some (event_when_spared (record counts { idle = false }) one)
+    ≡ event_of (next_event sizes at (record counts { idle = idle }))
+lost-mixed sizes standing.Ended counts idle one mixes loss is = absurd (cc)
+lost-mixed sizes (standing.Event event left) counts idle one mixes loss is = absurd (cc)
+lost-mixed sizes (standing.Rounds rule left place) counts idle one mixes loss is = absurd (cc)
+lost-mixed sizes (standing.Mixed left place draws) counts idle one mixes loss is =
+    by (proposed sizes counts.x counts.y (standing.Mixed left place draws)) is
+  where
+    told : Counts
+    told = record counts { alive = false; sender = 0; idle = false }
+
+    by : (found : Option Move)
+        → Some one ≡ event_of (option_map (decided_move (standing.Mixed left place draws) told) found)
+        → Some (event_when_spared (record counts { idle = false }) one)
+        ≡ event_of (option_map (decided_move (standing.Mixed left place draws) (record counts { idle = idle })) found)
+    by None same = absurd (cc)
+    by (Some move) same = lost counts idle one move.event loss same

@@ -14,5 +14,5 @@ asks_packet _ = false
 
 -- whether an event loses a packet
 abbrev pub loses : Event → Bool
-loses (event.Lose y k) = true
+loses (event.Lose bus k) = true
 loses _ = false

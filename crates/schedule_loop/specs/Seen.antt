@@ -1,6 +1,7 @@
 -- What the parts of this crate's code show.
 use Rattle.std.specs.Prelude.{◌≡◌, ℕ, Bool, true, false, List, [], ◌∷◌, Option, Some, None}
 use Rattle.std.specs.Option.{option_map}
+use Rattle.schedule.specs.declared.bus_name.BusName.{BusName}
 use Rattle.schedule.specs.declared.event.Event.{Event}
 use Rattle.schedule.specs.declared.line.Line.{Line}
 use Rattle.player.specs.Lines.{begun, bus_to_drain, with_packets_left}
@@ -27,7 +28,7 @@ IsBegun (line ∷ rest) before began after =
     (began ≡ true) × (after ≡ record before { agenda = record before.agenda { standing = begun line; lines = rest } })
 
 -- with no event held back, the bus whose packets a drain delivers next is this one, with so many of them left
-abbrev pub IsDraining : Agenda → Option (Bool × ℕ) → Type 0
+abbrev pub IsDraining : Agenda → Option (BusName × ℕ) → Type 0
 IsDraining agenda None = Unit {0}
 IsDraining agenda (Some packets) = (agenda.held_back ≡ None) × (bus_to_drain agenda.standing ≡ Some packets)
 

@@ -15,7 +15,7 @@ use crate::drain::Drain;
 use crate::machine::ScheduleMachine;
 use machine_states::NoMemory;
 use player::{Place, Player, ProcessorStop, Sizes, spared};
-use schedule::{Counts, Event, Line};
+use schedule::{BusName, Counts, Event, Line};
 use std::marker::Model;
 
 /// Where a schedule stands that is played: its line, those after it, the stop that is still to come, and the event that
@@ -95,8 +95,8 @@ impl<'a> Schedule<'a> {
     {
         match self.draining() {
             None => before,
-            Some((y, packets)) => {
-                let left = self.left_behind(y, packets, before, machine);
+            Some((bus, packets)) => {
+                let left = self.left_behind(bus, packets, before, machine);
                 self.player.leave(left);
                 before + (packets - left)
             }
@@ -106,12 +106,12 @@ impl<'a> Schedule<'a> {
     /// How many packets are left of those that a drain delivers next, after those that can be delivered at once.
     fn left_behind<M: ScheduleMachine>(
         &self,
-        y: bool,
+        bus: BusName,
         packets: u32,
         before: u32,
         machine: &mut M,
     ) -> u32
-        requires { IsDraining self.now.agenda (Some (y, packets)) }
+        requires { IsDraining self.now.agenda (Some (bus, packets)) }
         ensures plays { (course : Course M.Wires) → IsPlaying M.rules course self.now (M.state machine.old) before
             → IsPlaying M.rules course (with_left result self.now) (M.state machine.new)
             (before + (packets - result)) }
@@ -122,7 +122,7 @@ impl<'a> Schedule<'a> {
         let kept = packets.saturating_sub(self.free_after(before));
         let mut left = packets;
         while kept < left {
-            if !machine.deliver_at_once(y) {
+            if !machine.deliver_at_once(bus) {
                 return left;
             }
             left -= 1;
@@ -196,9 +196,8 @@ impl<'a> Schedule<'a> {
         }
     }
 
-    /// The bus whose packets a drain delivers next, whether bus Y, and how many are left of them, where no event was
-    /// held back.
-    fn draining(&self) -> Option<(bool, u32)>
+    /// The bus whose packets a drain delivers next, and how many are left of them, where no event was held back.
+    fn draining(&self) -> Option<(BusName, u32)>
         ensures { IsDraining self.now.agenda result }
     {
         match self.held_back {

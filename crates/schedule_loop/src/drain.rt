@@ -1,5 +1,6 @@
 ghost use Rattle.std.specs.Prelude.{◌≡◌, ◌<◌, ◌+◌, false, true, IfOk};
 ghost use Rattle.std.specs.Bool.{OnTrue};
+ghost use Rattle.schedule.specs.declared.bus_name.BusName.TheVariants as bus;
 ghost use Rattle.schedule.specs.declared.event.Event.TheVariants as events;
 ghost use Rattle.player.specs.gd_words.specs.declared.limits.TheConstants.{TERMINAL_NODE};
 ghost use Rattle.player.specs.Rounds.{turn};
@@ -10,7 +11,7 @@ use crate::machine::ScheduleMachine;
 use crate::running::tried;
 use machine_states::NoMemory;
 use player::{Place, Sizes, TERMINAL_NODE};
-use schedule::Event;
+use schedule::{BusName, Event};
 
 /// Where a drain stands whose rounds are played at once.
 #[derive(Clone, Copy)]
@@ -110,7 +111,7 @@ impl Drain {
             (M.state machine.new)) }
         ensures whole { IfOk result (λ went. M.is_broken machine.new ≡ false) }
         ensures due { IfOk result (λ went. OnTrue went (IsDueAt M.rules rest self.new (M.state machine.new)
-            (place.Delivers false (counted M.rules self.new (M.state machine.new)).x))) }
+            (place.Delivers bus.X (counted M.rules self.new (M.state machine.new)).x))) }
     {
         for process in 0..self.sizes.processes {
             if !self.play(rest, machine, Event::Run(process), Place::Runs(process + 1))? {
@@ -130,15 +131,15 @@ impl Drain {
         requires can { IsDrained M.rules M.is_ready self.old (M.state machine.old) }
         requires whole { M.is_broken machine.old ≡ false }
         requires due { IsDueAt M.rules rest self.old (M.state machine.old)
-            (place.Delivers false (counted M.rules self.old (M.state machine.old)).x) }
+            (place.Delivers bus.X (counted M.rules self.old (M.state machine.old)).x) }
         ensures drains { IfOk result (λ went. Drains M.rules self.old self.new (M.state machine.old)
             (M.state machine.new)) }
         ensures whole { IfOk result (λ went. M.is_broken machine.new ≡ false) }
         ensures due { IfOk result (λ went. OnTrue went (IsDueAt M.rules rest self.new (M.state machine.new)
-            (place.Delivers false 0))) }
+            (place.Delivers bus.X 0))) }
     {
         let counts = machine.tally(false);
-        self.deliver(rest, machine, false, counts.x)
+        self.deliver(rest, machine, BusName::X, counts.x)
     }
 
     /// Bus Y delivers the packets that are on it, and whether that was done is answered.
@@ -150,15 +151,15 @@ impl Drain {
     ) -> Result<bool, NoMemory>
         requires can { IsDrained M.rules M.is_ready self.old (M.state machine.old) }
         requires whole { M.is_broken machine.old ≡ false }
-        requires due { IsDueAt M.rules rest self.old (M.state machine.old) (place.Delivers false 0) }
+        requires due { IsDueAt M.rules rest self.old (M.state machine.old) (place.Delivers bus.X 0) }
         ensures drains { IfOk result (λ went. Drains M.rules self.old self.new (M.state machine.old)
             (M.state machine.new)) }
         ensures whole { IfOk result (λ went. M.is_broken machine.new ≡ false) }
         ensures due { IfOk result (λ went. OnTrue went (IsDueAt M.rules rest self.new (M.state machine.new)
-            (place.Delivers true 0))) }
+            (place.Delivers bus.Y 0))) }
     {
         let counts = machine.tally(false);
-        self.deliver(rest, machine, true, counts.y)
+        self.deliver(rest, machine, BusName::Y, counts.y)
     }
 
     /// A bus delivers so many packets, and whether that was done is answered.
@@ -167,22 +168,22 @@ impl Drain {
         &mut self,
         rest: u32,
         machine: &mut M,
-        y: bool,
+        bus: BusName,
         packets: u32,
     ) -> Result<bool, NoMemory>
         requires can { IsDrained M.rules M.is_ready self.old (M.state machine.old) }
         requires whole { M.is_broken machine.old ≡ false }
-        requires due { IsDueAt M.rules rest self.old (M.state machine.old) (place.Delivers y packets) }
+        requires due { IsDueAt M.rules rest self.old (M.state machine.old) (place.Delivers bus packets) }
         ensures drains { IfOk result (λ went. Drains M.rules self.old self.new (M.state machine.old)
             (M.state machine.new)) }
         ensures whole { IfOk result (λ went. M.is_broken machine.new ≡ false) }
         ensures due { IfOk result (λ went. OnTrue went (IsDueAt M.rules rest self.new (M.state machine.new)
-            (place.Delivers y 0))) }
+            (place.Delivers bus 0))) }
     {
         let mut left = packets;
         while 0 < left {
             left -= 1;
-            if !self.deliver_one(rest, machine, y, left)? {
+            if !self.deliver_one(rest, machine, bus, left)? {
                 return Ok(false);
             }
         }
@@ -195,27 +196,27 @@ impl Drain {
         &mut self,
         rest: u32,
         machine: &mut M,
-        y: bool,
+        bus: BusName,
         left: u32,
     ) -> Result<bool, NoMemory>
         requires can { IsDrained M.rules M.is_ready self.old (M.state machine.old) }
         requires whole { M.is_broken machine.old ≡ false }
-        requires due { IsDueAt M.rules rest self.old (M.state machine.old) (place.Delivers y (left + 1)) }
+        requires due { IsDueAt M.rules rest self.old (M.state machine.old) (place.Delivers bus (left + 1)) }
         ensures drains { IfOk result (λ went. Drains M.rules self.old self.new (M.state machine.old)
             (M.state machine.new)) }
         ensures whole { IfOk result (λ went. M.is_broken machine.new ≡ false) }
         ensures due { IfOk result (λ went. OnTrue went (IsDueAt M.rules rest self.new (M.state machine.new)
-            (place.Delivers y left))) }
+            (place.Delivers bus left))) }
     {
-        let place = Place::Delivers { y, left };
+        let place = Place::Delivers { bus, left };
         if self.until <= self.played {
             return Ok(false);
         }
-        if machine.deliver_at_once(y) {
+        if machine.deliver_at_once(bus) {
             self.stand(rest, place);
             return Ok(true);
         }
-        self.play(rest, machine, Event::Deliver { y, k: 0 }, place)
+        self.play(rest, machine, Event::Deliver { bus, k: 0 }, place)
     }
 
     /// The processors tick, and whether that was done is answered.
@@ -223,7 +224,7 @@ impl Drain {
     fn tick<M: ScheduleMachine>(&mut self, rest: u32, machine: &mut M) -> Result<bool, NoMemory>
         requires can { IsDrained M.rules M.is_ready self.old (M.state machine.old) }
         requires whole { M.is_broken machine.old ≡ false }
-        requires due { IsDueAt M.rules rest self.old (M.state machine.old) (place.Delivers true 0) }
+        requires due { IsDueAt M.rules rest self.old (M.state machine.old) (place.Delivers bus.Y 0) }
         ensures drains { IfOk result (λ went. Drains M.rules self.old self.new (M.state machine.old)
             (M.state machine.new)) }
         ensures whole { IfOk result (λ went. M.is_broken machine.new ≡ false) }

@@ -8,7 +8,7 @@ ghost use Rattle.schedule_loop.specs.Rules.{Rules};
 
 use machine_states::{Effect, NoMemory};
 use player::Player;
-use schedule::{Counts, Event};
+use schedule::{BusName, Counts, Event};
 
 /// A machine on which a schedule can be played: it plays one event, tells what the next event is chosen by, and is
 /// closed at the end of its run. Once an allocation was refused to it, it may be broken.
@@ -33,10 +33,10 @@ pub trait ScheduleMachine: Drop {
             (state self.new)) }
         ensures whole { IfOk result (λ effect. is_broken self.new ≡ false) };
 
-    /// Delivers the first packet of bus X or, where `y` says so, of bus Y, if that can be done at once, as it can with
-    /// a packet that only tells that its sender is alive; and answers whether it was done.
-    fn deliver_at_once(&mut self, y: bool) -> bool
-        ensures done { OnTrue result (Settles (rules.play (state self.old) (events.Deliver y 0)) (state self.old)
+    /// Delivers the first packet of a bus, if that can be done at once, as it can with a packet that only tells that
+    /// its sender is alive; and answers whether it was done.
+    fn deliver_at_once(&mut self, bus: BusName) -> bool
+        ensures done { OnTrue result (Settles (rules.play (state self.old) (events.Deliver bus 0)) (state self.old)
             effects.Done (state self.new)) }
         ensures same { OnFalse result (state self.new ≡ state self.old) }
         ensures whole { is_broken self.new ≡ is_broken self.old };

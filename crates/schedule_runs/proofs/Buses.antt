@@ -139,9 +139,9 @@ reload-few processor s (Some done) few = few
 play-few : (s : MachineState) (event : Event) → IsFew s.wires.bus → IsFewPlayed (play s event)
 play-few s (Run number) few = made-few s (run_done s.site number s.world) few
 play-few s (Enter number) few = made-few s (enter_done s.site number s.world) few
-play-few s (Deliver y k) few = deliver-few k s (packet_at s y k) few
-play-few s (Lose y k) few = lose-few k s (packet_at s y k) few
-play-few s (Repeat y k) few = repeat-few s (packet_at s y k) few
+play-few s (Deliver bus k) few = deliver-few k s (packet_at s bus k) few
+play-few s (Lose bus k) few = lose-few k s (packet_at s bus k) few
+play-few s (Repeat bus k) few = repeat-few s (packet_at s bus k) few
 play-few s (Tick node) few = tick-few node s few
 play-few s (Fail processor) few = fail-few processor s (slice_get s.world.stopped processor) few
 play-few s (Reload processor) few = reload-few processor s (reload_done s.site processor s.world) few

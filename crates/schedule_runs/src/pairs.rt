@@ -10,7 +10,7 @@ use logs::Shared;
 use machine_states::Effect;
 use pair_machine::PairMachine;
 use player::Player;
-use schedule::{Counts, Event};
+use schedule::{BusName, Counts, Event};
 use schedule_loop::ScheduleMachine;
 use std::alloc::Global;
 use tal_tree::Site;
@@ -63,7 +63,7 @@ impl ScheduleMachine for PlayedPairs {
         self.machine.event(event)
     }
 
-    fn deliver_at_once(&mut self, y: bool) -> bool {
+    fn deliver_at_once(&mut self, bus: BusName) -> bool {
         false
     }
 

@@ -58,30 +58,30 @@ IsPaidMove most (Some move) = stops_in move.event 1 + stops_left move.standing �
 
 muted-stops : (node : ℕ) (counts : Counts) (event : Event)
     → stops_in (event_when_muted node counts event) 1 ≡ stops_in event 1
-muted-stops node counts (event.Deliver y k) = by (counts.alive && (counts.sender == node))
+muted-stops node counts (event.Deliver bus k) = by (counts.alive && (counts.sender == node))
   where
-    by : (test : Bool) → stops_in (if test then event.Lose y k else event.Deliver y k) 1 ≡ 0
+    by : (test : Bool) → stops_in (if test then event.Lose bus k else event.Deliver bus k) 1 ≡ 0
     by true = refl
     by false = refl
 muted-stops node counts (event.Run place) = refl
 muted-stops node counts (event.Enter place) = refl
-muted-stops node counts (event.Lose y k) = refl
-muted-stops node counts (event.Repeat y k) = refl
+muted-stops node counts (event.Lose bus k) = refl
+muted-stops node counts (event.Repeat bus k) = refl
 muted-stops node counts (event.Tick node_told) = refl
 muted-stops node counts (event.Fail processor) = refl
 muted-stops node counts (event.Reload processor) = refl
 muted-stops node counts (event.Drive turn) = refl
 
 spared-stops : (counts : Counts) (event : Event) → stops_in (event_when_spared counts event) 1 ≡ stops_in event 1
-spared-stops counts (event.Lose y k) = by counts.alive
+spared-stops counts (event.Lose bus k) = by counts.alive
   where
-    by : (test : Bool) → stops_in (if test then event.Deliver y k else event.Lose y k) 1 ≡ 0
+    by : (test : Bool) → stops_in (if test then event.Deliver bus k else event.Lose bus k) 1 ≡ 0
     by true = refl
     by false = refl
 spared-stops counts (event.Run place) = refl
 spared-stops counts (event.Enter place) = refl
-spared-stops counts (event.Deliver y k) = refl
-spared-stops counts (event.Repeat y k) = refl
+spared-stops counts (event.Deliver bus k) = refl
+spared-stops counts (event.Repeat bus k) = refl
 spared-stops counts (event.Tick node) = refl
 spared-stops counts (event.Fail processor) = refl
 spared-stops counts (event.Reload processor) = refl
@@ -100,9 +100,9 @@ one-less : (event : Event) (left : ℕ) → 1 ≤ left → stops_in event 1 + st
 one-less (event.Fail processor) left some = omega arith
 one-less (event.Run place) left some = omega arith
 one-less (event.Enter place) left some = omega arith
-one-less (event.Deliver y k) left some = omega arith
-one-less (event.Lose y k) left some = omega arith
-one-less (event.Repeat y k) left some = omega arith
+one-less (event.Deliver bus k) left some = omega arith
+one-less (event.Lose bus k) left some = omega arith
+one-less (event.Repeat bus k) left some = omega arith
 one-less (event.Tick node) left some = omega arith
 one-less (event.Reload processor) left some = omega arith
 one-less (event.Drive turn) left some = omega arith

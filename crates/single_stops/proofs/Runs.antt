@@ -40,9 +40,9 @@ stop-or-calm : (event : Event) → (stops_in event 1 ≡ 0) ⊎ (stops_in event 
 stop-or-calm (event.Fail processor) = inr refl
 stop-or-calm (event.Run place) = inl refl
 stop-or-calm (event.Enter place) = inl refl
-stop-or-calm (event.Deliver y k) = inl refl
-stop-or-calm (event.Lose y k) = inl refl
-stop-or-calm (event.Repeat y k) = inl refl
+stop-or-calm (event.Deliver bus k) = inl refl
+stop-or-calm (event.Lose bus k) = inl refl
+stop-or-calm (event.Repeat bus k) = inl refl
 stop-or-calm (event.Tick node) = inl refl
 stop-or-calm (event.Reload processor) = inl refl
 stop-or-calm (event.Drive turn) = inl refl

@@ -1,6 +1,8 @@
 -- No event of a round stops a processor.
 use Rattle.std.proofs.Common.{◌≡◌, ℕ, zero, suc, ◌+◌, ◌-◌, ◌%◌, ◌/◌, ◌==◌, Bool, true, false, if◌then◌else◌, refl}
 use Rattle.std.specs.Prelude.{nat_lt}
+use Rattle.schedule.specs.declared.bus_name.BusName.{BusName}
+use Rattle.schedule.specs.declared.bus_name.BusName.TheVariants as bus
 use Rattle.player.specs.declared.standing.Sizes.{Sizes}
 use Rattle.player.specs.declared.standing.Place.{Place}
 use Rattle.player.specs.declared.standing.Place.TheVariants as place
@@ -39,8 +41,8 @@ pub turn-calm : (sizes : Sizes) (x y : ℕ) (at : Place) → stops_in (r.next_tu
 turn-calm sizes x y place.Before = enters sizes x y 0
 turn-calm sizes x y (place.Enters terminal) = enters sizes x y terminal
 turn-calm sizes x y (place.Runs process) = runs sizes x y process
-turn-calm sizes x y (place.Delivers false left) = delivers-x sizes y left
-turn-calm sizes x y (place.Delivers true left) = delivers-y sizes left
+turn-calm sizes x y (place.Delivers bus.X left) = delivers-x sizes y left
+turn-calm sizes x y (place.Delivers bus.Y left) = delivers-y sizes left
 turn-calm sizes x y (place.Ticks node) = ticks sizes node
 
 -- The same of mixed rounds
@@ -56,17 +58,17 @@ either-mixed false one other calm calm_other = calm_other
 ticks-mixed : (sizes : Sizes) (node draws : ℕ) → IsCalmMixed (m.ticks sizes node draws)
 ticks-mixed sizes node draws = either-mixed (nat_lt node sizes.processors) _ _ refl refl
 
-handled : (y : Bool) (k choice left draws : ℕ) → IsCalmMixed (m.handled y k choice left draws)
-handled y k choice left draws = either-mixed (choice == 0) _ _ refl (either-mixed (choice == 1) _ _ refl refl)
+handled : (bus : BusName) (k choice left draws : ℕ) → IsCalmMixed (m.handled bus k choice left draws)
+handled bus k choice left draws = either-mixed (choice == 0) _ _ refl (either-mixed (choice == 1) _ _ refl refl)
 
 delivers-y-mixed : (sizes : Sizes) (left draws : ℕ) → IsCalmMixed (m.delivers_y sizes left draws)
 delivers-y-mixed sizes left draws =
-    either-mixed (nat_lt 0 left) _ _ (handled true (m.word draws / 8 % left) (m.word draws % 8) (left - 1)
+    either-mixed (nat_lt 0 left) _ _ (handled bus.Y (m.word draws / 8 % left) (m.word draws % 8) (left - 1)
     (m.drawn draws)) (ticks-mixed sizes 0 draws)
 
 delivers-x-mixed : (sizes : Sizes) (y left draws : ℕ) → IsCalmMixed (m.delivers_x sizes y left draws)
 delivers-x-mixed sizes y left draws =
-    either-mixed (nat_lt 0 left) _ _ (handled false (m.word draws / 8 % left) (m.word draws % 8) (left - 1)
+    either-mixed (nat_lt 0 left) _ _ (handled bus.X (m.word draws / 8 % left) (m.word draws % 8) (left - 1)
     (m.drawn draws)) (delivers-y-mixed sizes y draws)
 
 drawn-runs : (sizes : Sizes) (x y more process draws : ℕ) → IsCalmMixed (m.drawn_runs sizes x y more process draws)
@@ -84,7 +86,7 @@ mixed-calm sizes x y (mixed.Enters terminal) draws =
     either-mixed (nat_lt terminal sizes.terminals) _ _ refl (runs-from sizes x y 0 draws)
 mixed-calm sizes x y (mixed.Runs next left) draws =
     either-mixed (nat_lt 0 left) _ _ refl (runs-from sizes x y next draws)
-mixed-calm sizes x y (mixed.Delivers false left) draws = delivers-x-mixed sizes y left draws
-mixed-calm sizes x y (mixed.Delivers true left) draws = delivers-y-mixed sizes left draws
+mixed-calm sizes x y (mixed.Delivers bus.X left) draws = delivers-x-mixed sizes y left draws
+mixed-calm sizes x y (mixed.Delivers bus.Y left) draws = delivers-y-mixed sizes left draws
 mixed-calm sizes x y (mixed.Repeated bus k left) draws = refl
 mixed-calm sizes x y (mixed.Ticks node) draws = ticks-mixed sizes node draws

@@ -11,7 +11,7 @@ loop-left-init g c =
           (with_left c.args.packets c.args.self.now) (g.M.ScheduleMachine.state c.args.machine.now) n) none
           (subst (λ (all : Scheduled). IsPlaying g.M.ScheduleMachine.rules course all
           (g.M.ScheduleMachine.state c.args.machine.now) c.args.before)
-          (sym (at-first c.args.self.now c.args.y c.args.packets c.requires)) playing),
+          (sym (at-first c.args.self.now c.args.bus c.args.packets c.requires)) playing),
       omega arith,
       omega (arith, c.saturating_sub-kept.ensures),
       refl,
@@ -26,7 +26,7 @@ loop-left-preserved g c =
           (g.M.ScheduleMachine.state c.args.machine.now) c.args.before (c.loop-left.left - 1)
           (g.M.ScheduleMachine.state c.deliver_at_once.new.self) n) next
           (one-more g.M.ScheduleMachine.rules c.args.self.now (g.M.ScheduleMachine.state c.args.machine.now)
-          c.args.before c.args.y c.args.packets c.loop-left.left (g.M.ScheduleMachine.state c.loop-left.machine)
+          c.args.before c.args.bus c.args.packets c.loop-left.left (g.M.ScheduleMachine.state c.loop-left.machine)
           (g.M.ScheduleMachine.state c.deliver_at_once.new.self) played c.requires
           (omega (arith, c.loop-left-test.true))
           (c.free_after.ensures.free (c.args.packets - c.loop-left.left)

@@ -22,7 +22,7 @@ deliver_one-requires-clause-due g c =
     let more : c.loop-left.left ≡ c.loop-left.left - 1 + 1 = omega (arith, c.loop-left-test.true) in
     subst (λ (n : ℕ). IsDueAt g.M.ScheduleMachine.rules c.args.rest c.loop-left.self (g.M.ScheduleMachine.state
     c.loop-left.machine)
-    (place.Delivers c.args.y n)) more c.loop-left.invariant.1
+    (place.Delivers c.args.bus n)) more c.loop-left.invariant.1
 
 pub loop-left-preserved : goal.loop-left-preserved
 loop-left-preserved g c = (
@@ -40,4 +40,4 @@ returns-clause-due g c =
     let none : c.loop-left.left ≡ 0 = omega (arith, c.loop-left-test.false) in
     subst (λ (n : ℕ). IsDueAt g.M.ScheduleMachine.rules c.args.rest c.loop-left.self (g.M.ScheduleMachine.state
     c.loop-left.machine)
-    (place.Delivers c.args.y n)) none c.loop-left.invariant.1
+    (place.Delivers c.args.bus n)) none c.loop-left.invariant.1

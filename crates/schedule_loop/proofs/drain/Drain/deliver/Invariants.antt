@@ -7,7 +7,8 @@ abbrev pub invariant-loop-left : goal.invariant-loop-left
 invariant-loop-left g l =
     Drains g.M.ScheduleMachine.rules l.initial.self l.self (g.M.ScheduleMachine.state l.initial.machine)
     (g.M.ScheduleMachine.state l.machine)
-    × IsDueAt g.M.ScheduleMachine.rules l.rest l.self (g.M.ScheduleMachine.state l.machine) (place.Delivers l.y l.left)
+    × IsDueAt g.M.ScheduleMachine.rules l.rest l.self (g.M.ScheduleMachine.state l.machine)
+    (place.Delivers l.bus l.left)
     × (g.M.ScheduleMachine.is_broken l.machine ≡ false)
 
 abbrev pub decreases-loop-left : goal.decreases-loop-left

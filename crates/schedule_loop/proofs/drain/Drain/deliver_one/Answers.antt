@@ -12,11 +12,12 @@ pub returns-then-deliver_at_once-clause-drains : goal.returns-then-deliver_at_on
 returns-then-deliver_at_once-clause-drains g c =
     plays-one g.M.ScheduleMachine.rules c.args.rest c.args.self.now c.stand.new.self (g.M.ScheduleMachine.state
     c.args.machine.now)
-    (g.M.ScheduleMachine.state c.deliver_at_once.new.self) (Deliver c.args.y 0) (place.Delivers c.args.y c.args.left)
+    (g.M.ScheduleMachine.state c.deliver_at_once.new.self) (Deliver c.args.bus 0)
+    (place.Delivers c.args.bus c.args.left)
     (delivers-one g.M.ScheduleMachine.rules c.args.rest c.args.self.now (g.M.ScheduleMachine.state c.args.machine.now)
-    c.args.y c.args.left
+    c.args.bus c.args.left
     c.requires.due) (omega (arith, c.if-self.false))
-    (inl (makes (g.M.ScheduleMachine.rules.play (g.M.ScheduleMachine.state c.args.machine.now) (Deliver c.args.y 0))
+    (inl (makes (g.M.ScheduleMachine.rules.play (g.M.ScheduleMachine.state c.args.machine.now) (Deliver c.args.bus 0))
     (g.M.ScheduleMachine.state c.args.machine.now)
     (g.M.ScheduleMachine.state c.deliver_at_once.new.self) c.if-deliver_at_once.ensures.done)) c.stand.ensures
 
@@ -24,7 +25,7 @@ pub returns-then-deliver_at_once-clause-due : goal.returns-then-deliver_at_once-
 returns-then-deliver_at_once-clause-due g c =
     due-then g.M.ScheduleMachine.rules c.args.rest c.args.self.now c.stand.new.self (g.M.ScheduleMachine.state
     c.deliver_at_once.new.self)
-    (place.Delivers c.args.y c.args.left) refl c.stand.ensures
+    (place.Delivers c.args.bus c.args.left) refl c.stand.ensures
 
 pub play-requires-clause-can : goal.play-requires-clause-can
 play-requires-clause-can g c =
@@ -35,9 +36,9 @@ play-requires-clause-can g c =
 pub play-requires-clause-takes : goal.play-requires-clause-takes
 play-requires-clause-takes g c =
     subst (λ (s : State _). Takes g.M.ScheduleMachine.rules c.args.rest c.args.self.now s
-    (turn (Deliver c.args.y 0) (place.Delivers c.args.y c.args.left))) (sym c.if-deliver_at_once.ensures.same)
+    (turn (Deliver c.args.bus 0) (place.Delivers c.args.bus c.args.left))) (sym c.if-deliver_at_once.ensures.same)
     (delivers-one g.M.ScheduleMachine.rules c.args.rest c.args.self.now (g.M.ScheduleMachine.state c.args.machine.now)
-    c.args.y c.args.left
+    c.args.bus c.args.left
     c.requires.due)
 
 pub returns-clause-drains : goal.returns-clause-drains
@@ -55,4 +56,4 @@ pub returns-clause-due : goal.returns-clause-due
 returns-clause-due g c =
     told-due g.M.ScheduleMachine.rules c.args.rest c.args.self.now c.play.new.self (g.M.ScheduleMachine.state
     c.play.new.machine)
-    (place.Delivers c.args.y c.args.left) c.play.result refl c.play.ensures.stands
+    (place.Delivers c.args.bus c.args.left) c.play.result refl c.play.ensures.stands

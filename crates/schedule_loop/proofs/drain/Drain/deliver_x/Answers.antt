@@ -1,4 +1,5 @@
-use Rattle.std.proofs.Common.{◌≡◌, ℕ, false, ap, subst, sym}
+use Rattle.std.proofs.Common.{◌≡◌, ℕ, ap, subst, sym}
+use Rattle.schedule.specs.declared.bus_name.BusName.TheVariants as bus
 use Rattle.schedule.specs.declared.event.Counts.{Counts}
 use Rattle.player.specs.declared.standing.Place.TheVariants as place
 use Rattle.schedule_loop.specs.Drained.{IsDueAt, counted, standing_of}
@@ -12,4 +13,4 @@ deliver-requires-clause-due g c =
     (c.tally-counts.ensures (record { sizes = c.args.self.now.sizes; standing = standing_of c.args.self.now })) in
     subst (λ (n : ℕ). IsDueAt g.M.ScheduleMachine.rules c.args.rest c.args.self.now (g.M.ScheduleMachine.state
     c.args.machine.now)
-    (place.Delivers false n)) (sym told) c.requires.due
+    (place.Delivers bus.X n)) (sym told) c.requires.due
