@@ -25,7 +25,7 @@ use Rattle.world_semantics.specs.World.{is_running}
 use Rattle.world_semantics.specs.Running.{Done}
 use Rattle.computed_changes.specs.Stopped.{stop_done}
 use Rattle.machine_states.specs.States.{Harm}
-use Rattle.packet_words.specs.declared.bus_name.BusName.{BusName}
+use Rattle.schedule.specs.declared.bus_name.BusName.{BusName}
 use Rattle.packet_wires.specs.Wires.{on_bus, packets_over}
 use Rattle.packet_wires.specs.Play.{IsClear, Packeted, underway, fail_acted, out_of, packeted_at_boot}
 use Rattle.packet_wires.specs.Play.{sent_by, stop_acted}
@@ -171,9 +171,9 @@ stop-clear : (s : Packeted) (event : Event) → ((name : BusName) → length (on
     → is_stop event ≡ true → IsClear s event
 stop-clear s (Run number) few stops name = absurd (cc)
 stop-clear s (Enter number) few stops name = absurd (cc)
-stop-clear s (Deliver y k) few stops name = absurd (cc)
-stop-clear s (Lose y k) few stops name = absurd (cc)
-stop-clear s (Repeat y k) few stops name = absurd (cc)
+stop-clear s (Deliver bus k) few stops name = absurd (cc)
+stop-clear s (Lose bus k) few stops name = absurd (cc)
+stop-clear s (Repeat bus k) few stops name = absurd (cc)
 stop-clear s (Tick node) few stops name = absurd (cc)
 stop-clear s (Reload processor) few stops name = absurd (cc)
 stop-clear s (Drive event) few stops name = absurd (cc)

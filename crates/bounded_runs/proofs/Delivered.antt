@@ -1,8 +1,9 @@
 -- A whole drain round of what a schedule plays delivers all that was on the buses as it began.
-use Rattle.std.proofs.Common.{◌≡◌, ◌≤◌, ℕ, zero, suc, ◌+◌, ◌∙◌, inl, inr, Bool, List, [], ◌∷◌, ◌++◌, length}
+use Rattle.std.proofs.Common.{◌≡◌, ◌≤◌, ℕ, zero, suc, ◌+◌, ◌∙◌, inl, inr, List, [], ◌∷◌, ◌++◌, length}
 use Rattle.std.proofs.Common.{Option, refl, ap, sym, subst, arith}
 use Rattle.std.proofs.lemmas.List.{append_assoc, append-nil, append_cancel_left}
 use Rattle.tal_tree.specs.declared.site.Site.{Site}
+use Rattle.schedule.specs.declared.bus_name.BusName.{BusName}
 use Rattle.schedule.specs.declared.event.Counts.{Counts}
 use Rattle.schedule.specs.declared.event.Event.{Event}
 use Rattle.schedule.specs.declared.line.Line.{Line}
@@ -38,7 +39,7 @@ unfolding after_all
 after-more s [] event = refl
 after-more s (one ∷ rest) event = after-more (state_after s (play s one)) rest event
 
-delivered-more : (bus : Bool) (s : Packeted) (events : List Event) (event : Event)
+delivered-more : (bus : BusName) (s : Packeted) (events : List Event) (event : Event)
     → delivered_by bus s (events ++ event ∷ [])
     ≡ delivered_by bus s events ++ delivered_of bus event (buses_of (after_all s events) bus)
 unfolding after_all
@@ -59,13 +60,13 @@ state-is s event next (inr skipped) = ap (state_after s) skipped.0 ∙ sym skipp
 
 record Logged : Type 0 where
   state : Packeted
-  log : Bool → List Packet
+  log : BusName → List Packet
 
 abbrev Logs : Logged → Event → Logged → Type 0
 Logs one event other = IsPlay one.state event other.state
-    × ((bus : Bool) → other.log bus ≡ one.log bus ++ delivered_of bus event (buses_of one.state bus))
+    × ((bus : BusName) → other.log bus ≡ one.log bus ++ delivered_of bus event (buses_of one.state bus))
 
-abbrev logged_buses : Logged → Bool → List Packet
+abbrev logged_buses : Logged → BusName → List Packet
 logged_buses one = buses_of one.state
 
 abbrev logged_counts : Logged → Counts
@@ -103,8 +104,8 @@ module _ (sizes : Sizes) (before : ℕ) (agenda : Agenda) (s : Packeted) where
 
 -- What a round delivered is what was logged
 
-came-logged : (sizes : Sizes) (start : Logged) (came : Bool → List Packet) (at : Place) (s : Logged)
-    → InRound sizes logged_buses Logs start came at s → (bus : Bool) → s.log bus ≡ start.log bus ++ came bus
+came-logged : (sizes : Sizes) (start : Logged) (came : BusName → List Packet) (at : Place) (s : Logged)
+    → InRound sizes logged_buses Logs start came at s → (bus : BusName) → s.log bus ≡ start.log bus ++ came bus
 came-logged sizes start _ _ _ begins bus = sym (append-nil (start.log bus))
 came-logged sizes start _ _ _ (goes_on {came = came} {from = from} {s = s} event to round turn more g) bus =
     g.1 bus
@@ -118,7 +119,7 @@ one-round : (sizes : Sizes) (start next : Logged) → AreRounds sizes logged_bus
     → IsWholeRound sizes logged_buses Logs start next
 one-round sizes start next (one_more no_round whole) = whole
 
-round-logged : (sizes : Sizes) (start next : Logged) → IsWholeRound sizes logged_buses Logs start next → (bus : Bool)
+round-logged : (sizes : Sizes) (start next : Logged) → IsWholeRound sizes logged_buses Logs start next → (bus : BusName)
     → start.log bus ≡ [] → IsGrown (buses_of start.state bus) (next.log bus)
 round-logged sizes start next whole bus empty =
     let grown = all-delivered sizes logged_buses Logs
@@ -141,7 +142,7 @@ module _ (site : Site) (lines : List Line) (stop : Option ProcessorStop) (first 
       (let all : length last.events ≤ length last.events = omega arith in all)
 
   pub round-delivers : AreDrainRounds site lines stop 1 first last → (between : List Event)
-      → last.events ≡ first.events ++ between → (bus : Bool)
+      → last.events ≡ first.events ++ between → (bus : BusName)
       → IsGrown (buses_of first.state bus) (delivered_by bus first.state between)
   round-delivers rounds between joined bus =
       let c = stretch rounds.later in

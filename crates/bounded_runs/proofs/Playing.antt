@@ -6,7 +6,7 @@ use Rattle.machine_states.specs.States.{Played, Makes, Skips}
 use Rattle.packet_lengths.specs.node_copies.specs.ShownCounts.{replies_in, writes_in}
 use Rattle.packet_wires.specs.Play.{Packeted, count_on, play}
 use Rattle.packet_wires.specs.Wires.{Wires}
-use Rattle.packet_words.specs.declared.bus_name.BusName.TheVariants as bus
+use Rattle.schedule.specs.declared.bus_name.BusName.TheVariants as bus
 use Rattle.round_laws.specs.Stretches.{CountsBuses}
 use Rattle.calm_runs.specs.packet_rounds.specs.Played.{buses_of}
 use Rattle.calm_runs.specs.Sights.{CountsOfShown}

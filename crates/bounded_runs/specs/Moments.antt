@@ -1,6 +1,7 @@
 -- What a schedule plays over packets: its moments, the drain rounds between them, and what these deliver.
-use Rattle.std.specs.Prelude.{◌≡◌, ◌≤◌, ◌<◌, ℕ, ◌+◌, Bool, true, false, List, [], ◌∷◌, ◌++◌, length, Option, Some}
+use Rattle.std.specs.Prelude.{◌≡◌, ◌≤◌, ◌<◌, ℕ, ◌+◌, true, false, List, [], ◌∷◌, ◌++◌, length, Option, Some}
 use Rattle.tal_tree.specs.declared.site.Site.{Site}
+use Rattle.schedule.specs.declared.bus_name.BusName.{BusName}
 use Rattle.schedule.specs.declared.event.Counts.{Counts}
 use Rattle.schedule.specs.declared.event.Event.{Event}
 use Rattle.schedule.specs.declared.line.Line.{Line}
@@ -9,7 +10,7 @@ use Rattle.player.specs.declared.stop.ProcessorStop.{ProcessorStop}
 use Rattle.agendas.specs.Agendas.{Agenda, Plan}
 use Rattle.machine_states.specs.States.{Played, Makes, Skips, Would}
 use Rattle.packet_lengths.specs.node_copies.specs.ShownCounts.{replies_in, writes_in}
-use Rattle.packet_words.specs.declared.bus_name.BusName.TheVariants as bus
+use Rattle.schedule.specs.declared.bus_name.BusName.TheVariants as bus
 use Rattle.packet_words.specs.declared.packet.Packet.{Packet}
 use Rattle.packet_wires.specs.Idle.{is_idle}
 use Rattle.packet_wires.specs.Play.{IsClear, Packeted, count_on, play}
@@ -81,7 +82,7 @@ state_after s Skips = s
 state_after s (Would harm) = s
 
 -- the packets that events deliver of a bus, in their order
-abbrev pub delivered_by : Bool → Packeted → List Event → List Packet
+abbrev pub delivered_by : BusName → Packeted → List Event → List Packet
 delivered_by bus s [] = []
 delivered_by bus s (event ∷ rest) =
     delivered_of bus event (buses_of s bus) ++ delivered_by bus (state_after s (play s event)) rest

@@ -1,8 +1,9 @@
 //! Bounded delivery, and that no running processor is stopped, in runs over packets.
-ghost use Rattle.std.specs.Prelude.{◌≡◌, ◌≤◌, ◌<◌, ◌++◌, ℕ, Bool, true, false, List, Option, Some, length};
+ghost use Rattle.std.specs.Prelude.{◌≡◌, ◌≤◌, ◌<◌, ◌++◌, ℕ, true, false, List, Option, Some, length};
 ghost use Rattle.std.specs.Option.{is_some};
 ghost use Rattle.packet_words.specs.gd_words.specs.declared.limits.TheConstants.{MOST_PROCESSORS};
 ghost use Rattle.tal_tree.specs.declared.site.Site.{Site};
+ghost use Rattle.schedule.specs.declared.bus_name.BusName.{BusName};
 ghost use Rattle.schedule.specs.declared.event.Event.{Event};
 ghost use Rattle.schedule.specs.declared.line.Line.{Line};
 ghost use Rattle.player.specs.declared.stop.ProcessorStop.{ProcessorStop};
@@ -46,7 +47,7 @@ pub fn six_clear_rounds_of_a_run_end_a_piece()
 pub fn a_drain_round_of_a_run_delivers_all()
     ensures { (site : Site) (lines : List Line) (stop : Option ProcessorStop) (first last : Moment site lines stop)
         → AreDrainRounds site lines stop 1 first last → (between : List Event)
-        → last.events ≡ first.events ++ between → (bus : Bool)
+        → last.events ≡ first.events ++ between → (bus : BusName)
         → IsGrown (buses_of first.state bus) (delivered_by bus first.state between) }
 {}
 

@@ -11,7 +11,7 @@ use Rattle.computed_changes.specs.Entered.{enter_done}
 use Rattle.computed_changes.specs.Stopped.{stop_if}
 use Rattle.single_stops.specs.message_wires_laws.proofs.Stopping.{StopsNone, run-none, enter-none}
 use Rattle.machine_states.specs.States.{Played, Makes, Skips, Would}
-use Rattle.packet_wires.specs.Wires.{Midst, bus_named}
+use Rattle.packet_wires.specs.Wires.{Midst}
 use Rattle.packet_wires.specs.Play.{Packeted, Underway, acted, underway, comes_in, deliver_acted, fail_acted}
 use Rattle.packet_wires.specs.Play.{lose_acted}
 use Rattle.packet_wires.specs.Play.{made_by, packet_at, received, repeat_acted, stop_acted}
@@ -22,9 +22,9 @@ use Rattle.calm_runs.proofs.Watching.{StateKeeps, state-none, any-keeps, receive
 abbrev pub is_quiet : Event → Bool
 is_quiet (Run number) = true
 is_quiet (Enter terminal) = true
-is_quiet (Deliver y k) = true
-is_quiet (Lose y k) = true
-is_quiet (Repeat y k) = true
+is_quiet (Deliver bus k) = true
+is_quiet (Lose bus k) = true
+is_quiet (Repeat bus k) = true
 is_quiet (Tick node) = false
 is_quiet (Fail processor) = false
 is_quiet (Reload processor) = false
@@ -43,28 +43,28 @@ pub quiet-keeps : (s : Packeted) (event : Event) → is_quiet event ≡ true →
 quiet-keeps s (Run number) quiet = made-keeps s (run_done s.site number s.world) (run-none s.site s.world number)
 quiet-keeps s (Enter terminal) quiet =
     made-keeps s (enter_done s.site terminal s.world) (enter-none s.site s.world terminal)
-quiet-keeps s (Deliver y k) quiet = by (packet_at s (bus_named y) k)
+quiet-keeps s (Deliver bus k) quiet = by (packet_at s bus k)
   where
     to : (packet : Packet) (runs : Bool)
-        → StateKeeps (underway s) (if runs then received (bus_named y) packet (underway s) else underway s)
-    to packet true = received-keeps (bus_named y) packet (underway s)
+        → StateKeeps (underway s) (if runs then received bus packet (underway s) else underway s)
+    to packet true = received-keeps bus packet (underway s)
     to packet false = state-none (underway s)
 
-    by : (packet : Option Packet) → KeepsIf s (deliver_acted (bus_named y) (underway s) packet)
+    by : (packet : Option Packet) → KeepsIf s (deliver_acted bus (underway s) packet)
     by None = tt
     by (Some packet) = to packet (comes_in packet (underway s))
-quiet-keeps s (Lose y k) quiet = by (packet_at s (bus_named y) k)
+quiet-keeps s (Lose bus k) quiet = by (packet_at s bus k)
   where
     by : (packet : Option Packet) → KeepsIf s (lose_acted (underway s) packet)
     by None = tt
     by (Some packet) = state-none (underway s)
-quiet-keeps s (Repeat y k) quiet = by (packet_at s (bus_named y) k)
+quiet-keeps s (Repeat bus k) quiet = by (packet_at s bus k)
   where
-    by : (packet : Option Packet) → KeepsIf s (repeat_acted (bus_named y) (underway s) packet)
+    by : (packet : Option Packet) → KeepsIf s (repeat_acted bus (underway s) packet)
     by None = tt
     by (Some packet) = record {
       stopped = refl;
-      keep = still-keeps s.world.stopped (underway s).wires _ (over-still (bus_named y) packet (underway s).wires);
+      keep = still-keeps s.world.stopped (underway s).wires _ (over-still bus packet (underway s).wires);
     }
 quiet-keeps s (Tick node) quiet = absurd (cc)
 quiet-keeps s (Fail processor) quiet = absurd (cc)

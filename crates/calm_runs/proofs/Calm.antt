@@ -93,9 +93,9 @@ play-shown s (Reload processor) next shows (inl made) = reload-shown s processor
 play-shown s (Drive event) next shows (inl made) = ap (λ (w : World). w.shown) (drive-keeps s next event made)
 play-shown s (Run number) next shows (inl made) = absurd (cc)
 play-shown s (Enter number) next shows (inl made) = absurd (cc)
-play-shown s (Deliver y k) next shows (inl made) = absurd (cc)
-play-shown s (Lose y k) next shows (inl made) = absurd (cc)
-play-shown s (Repeat y k) next shows (inl made) = absurd (cc)
+play-shown s (Deliver bus k) next shows (inl made) = absurd (cc)
+play-shown s (Lose bus k) next shows (inl made) = absurd (cc)
+play-shown s (Repeat bus k) next shows (inl made) = absurd (cc)
 
 counts-shown : (site : Site) (counts : Packeted → Counts) → CountsOfShown counts → CountsShown (SoundPlay site) counts
 counts-shown site counts shown s event next shows g = shown next s (play-shown s event next shows g.1.1)
@@ -121,9 +121,9 @@ module _ (site : Site) (few : site.processors ≤ 16) (counts : Packeted → Cou
       by : (event : Event) → plan.event ≡ event → ReloadsNone event
       by (Run number) is = tt
       by (Enter number) is = tt
-      by (Deliver y k) is = tt
-      by (Lose y k) is = tt
-      by (Repeat y k) is = tt
+      by (Deliver bus k) is = tt
+      by (Lose bus k) is = tt
+      by (Repeat bus k) is = tt
       by (Tick node) is = tt
       by (Fail processor) is = tt
       by (Reload processor) is =
@@ -177,9 +177,9 @@ module _ (site : Site) (few : site.processors ≤ 16) (counts : Packeted → Cou
       by : (event : Event) → plan.event ≡ event → is_running next.world.stopped p ≡ true
       by (Run number) is = quiet (Run number) is refl
       by (Enter number) is = quiet (Enter number) is refl
-      by (Deliver y k) is = quiet (Deliver y k) is refl
-      by (Lose y k) is = quiet (Lose y k) is refl
-      by (Repeat y k) is = quiet (Repeat y k) is refl
+      by (Deliver bus k) is = quiet (Deliver bus k) is refl
+      by (Lose bus k) is = quiet (Lose bus k) is refl
+      by (Repeat bus k) is = quiet (Repeat bus k) is refl
       by (Fail processor) is = absurd (let bad : true ≡ false = ap is_stop (sym is) ∙ no_stop in cc)
       by (Reload processor) is =
           absurd (no-reload (sizes_of site) packets_seen counts counted (length events) agenda s
@@ -227,9 +227,9 @@ module _ (site : Site) (few : site.processors ≤ 16) (counts : Packeted → Cou
       → ((is_stop event ≡ true) × (stops_in event 1 ≡ 1)) ⊎ ((is_stop event ≡ false) × (stops_in event 1 ≡ 0))
   stop-or-not (Run number) = inr (refl, refl)
   stop-or-not (Enter number) = inr (refl, refl)
-  stop-or-not (Deliver y k) = inr (refl, refl)
-  stop-or-not (Lose y k) = inr (refl, refl)
-  stop-or-not (Repeat y k) = inr (refl, refl)
+  stop-or-not (Deliver bus k) = inr (refl, refl)
+  stop-or-not (Lose bus k) = inr (refl, refl)
+  stop-or-not (Repeat bus k) = inr (refl, refl)
   stop-or-not (Tick node) = inr (refl, refl)
   stop-or-not (Fail processor) = inl (refl, refl)
   stop-or-not (Reload processor) = inr (refl, refl)
@@ -332,9 +332,9 @@ module _ (site : Site) (few : site.processors ≤ 16) (counts : Packeted → Cou
       by : (event : Event) → plan.event ≡ event → ⊥
       by (Run number) is = quiet (Run number) is refl
       by (Enter number) is = quiet (Enter number) is refl
-      by (Deliver y k) is = quiet (Deliver y k) is refl
-      by (Lose y k) is = quiet (Lose y k) is refl
-      by (Repeat y k) is = quiet (Repeat y k) is refl
+      by (Deliver bus k) is = quiet (Deliver bus k) is refl
+      by (Lose bus k) is = quiet (Lose bus k) is refl
+      by (Repeat bus k) is = quiet (Repeat bus k) is refl
       by (Tick node) is = ticking node is
       by (Fail processor) is = stopping processor is
       by (Reload processor) is =
@@ -348,9 +348,9 @@ line-stops : (line : Line) → is_calm_line line ≡ true → stops_of line ≡ 
 line-stops (One (Fail processor)) calm = refl
 line-stops (One (Run number)) calm = refl
 line-stops (One (Enter number)) calm = refl
-line-stops (One (Deliver y k)) calm = refl
-line-stops (One (Lose y k)) calm = refl
-line-stops (One (Repeat y k)) calm = refl
+line-stops (One (Deliver bus k)) calm = refl
+line-stops (One (Lose bus k)) calm = refl
+line-stops (One (Repeat bus k)) calm = refl
 line-stops (One (Tick node)) calm = refl
 line-stops (One (Reload processor)) calm = refl
 line-stops (One (Drive event)) calm = refl

@@ -10,10 +10,11 @@ use Rattle.std.specs.List.{filter}
 use Rattle.gd_words.specs.Members.{IsAmong}
 use Rattle.gd_words.proofs.Among.{among-right}
 use Rattle.tal_tree.specs.declared.site.Site.{Site}
+use Rattle.schedule.specs.Buses.{is_bus}
 use Rattle.schedule.specs.declared.event.Event.{Event}
 use Rattle.schedule.specs.declared.event.Event.TheVariants.{Run, Enter, Deliver, Lose, Repeat, Tick, Fail, Reload}
 use Rattle.schedule.specs.declared.event.Event.TheVariants.{Drive}
-use Rattle.packet_words.specs.declared.bus_name.BusName.TheVariants as bus
+use Rattle.schedule.specs.declared.bus_name.BusName.TheVariants as bus
 use Rattle.packet_words.specs.declared.packet.Incarnation.{Incarnation}
 use Rattle.packet_words.specs.declared.packet.Packet.{Packet}
 use Rattle.packet_words.specs.declared.packet.PacketKind.TheVariants as kind
@@ -28,7 +29,7 @@ use Rattle.channel_laws.specs.Rounds.{Passes, nothing, by_push, by_packet, by_dr
 use Rattle.channel_laws.specs.Rounds.{by_mark}
 use Rattle.machine_states.specs.States.{Played, Makes, Skips, Would}
 use Rattle.packet_wires.specs.Nodes.{Node, all_nodes, end_at, never_reloaded, node_at_boot, nodes_at_boot, numbers}
-use Rattle.packet_wires.specs.Wires.{Wires, Midst, Outgoing, packets_over, is_bus}
+use Rattle.packet_wires.specs.Wires.{Wires, Midst, Outgoing, packets_over}
 use Rattle.packet_wires.specs.Play.{Packeted, Underway, IsClear, acted, underway, comes_in, deliver_acted, ended}
 use Rattle.packet_wires.specs.Play.{is_current_at, line_of, out_of, over, packeted_at_boot, play, received, taken_off}
 use Rattle.packet_wires.specs.Play.{tick_acted}
@@ -158,11 +159,12 @@ module _ (s : Packeted) (q : ℕ) where
       only-if _ (play s (Run number)) next (quiet-kept (Run number) refl) made
   event-keeps (Enter number) next none made apart =
       only-if _ (play s (Enter number)) next (quiet-kept (Enter number) refl) made
-  event-keeps (Deliver y k) next none made apart =
-      only-if _ (play s (Deliver y k)) next (quiet-kept (Deliver y k) refl) made
-  event-keeps (Lose y k) next none made apart = only-if _ (play s (Lose y k)) next (quiet-kept (Lose y k) refl) made
-  event-keeps (Repeat y k) next none made apart =
-      only-if _ (play s (Repeat y k)) next (quiet-kept (Repeat y k) refl) made
+  event-keeps (Deliver bus k) next none made apart =
+      only-if _ (play s (Deliver bus k)) next (quiet-kept (Deliver bus k) refl) made
+  event-keeps (Lose bus k) next none made apart = only-if _ (play s (Lose bus k)) next (quiet-kept (Lose bus k) refl)
+      made
+  event-keeps (Repeat bus k) next none made apart =
+      only-if _ (play s (Repeat bus k)) next (quiet-kept (Repeat bus k) refl) made
   event-keeps (Fail processor) next none made apart =
       only-if _ (play s (Fail processor)) next (fail-kept processor) made
   event-keeps (Reload processor) next none made apart = absurd none
@@ -178,9 +180,9 @@ module _ (s : Packeted) (q : ℕ) where
       ≡ option_map (λ (w : Watching). w.me) (watch_at s.wires.nodes q)
   event-me (Run number) next none made = (event-keeps (Run number) next tt made (λ is. cc)).me
   event-me (Enter number) next none made = (event-keeps (Enter number) next tt made (λ is. cc)).me
-  event-me (Deliver y k) next none made = (event-keeps (Deliver y k) next tt made (λ is. cc)).me
-  event-me (Lose y k) next none made = (event-keeps (Lose y k) next tt made (λ is. cc)).me
-  event-me (Repeat y k) next none made = (event-keeps (Repeat y k) next tt made (λ is. cc)).me
+  event-me (Deliver bus k) next none made = (event-keeps (Deliver bus k) next tt made (λ is. cc)).me
+  event-me (Lose bus k) next none made = (event-keeps (Lose bus k) next tt made (λ is. cc)).me
+  event-me (Repeat bus k) next none made = (event-keeps (Repeat bus k) next tt made (λ is. cc)).me
   event-me (Fail processor) next none made = (event-keeps (Fail processor) next tt made (λ is. cc)).me
   event-me (Reload processor) next none made = absurd none
   event-me (Drive event) next none made = (event-keeps (Drive event) next tt made (λ is. cc)).me
@@ -349,31 +351,31 @@ alive-current site few s p q sound on_p on_q runs =
         ∙ (sound.is.tied.whole.named q p).incarnation ∙ sound.never q p on_q on_p
 
 hears-alive : (site : Site) → site.processors ≤ 16 → (s next : Packeted) (p q : ℕ) (rest : List Packet)
-    → IsSound site s → IsPlay s (Deliver false 0) next
+    → IsSound site s → IsPlay s (Deliver bus.X 0) next
     → s.wires.x ≡ alive_packet p q ∷ rest → is_running next.world.stopped p ≡ true
     → is_running next.world.stopped q ≡ true → IsThere (known_of (watch_at s.wires.nodes q) p)
     → WasHeard (known_of (watch_at next.wires.nodes q) p)
 hears-alive site few s next p q rest sound g front on_p on_q there = of g
   where
     ran_p : is_running s.world.stopped p ≡ true
-    ran_p = ran-before s (Deliver false 0) next tt g p on_p
+    ran_p = ran-before s (Deliver bus.X 0) next tt g p on_p
 
     ran_q : is_running s.world.stopped q ≡ true
-    ran_q = ran-before s (Deliver false 0) next tt g q on_q
+    ran_q = ran-before s (Deliver bus.X 0) next tt g q on_q
 
     comes : comes_in (alive_packet p q) (underway s) ≡ true
     comes = both_true ran_q
         (alive-current site few s p q sound (in-site s.world.stopped site.processors p sound.size ran_p)
         (in-site s.world.stopped site.processors q sound.size ran_q) ran_q)
 
-    heard : HeardIf p q (play s (Deliver false 0))
-    heard = subst (λ o. HeardIf p q (ended (taken_off (Deliver false 0) s.wires) (deliver_acted bus.X (underway s) o)))
+    heard : HeardIf p q (play s (Deliver bus.X 0))
+    heard = subst (λ o. HeardIf p q (ended (taken_off (Deliver bus.X 0) s.wires) (deliver_acted bus.X (underway s) o)))
         (sym (ap (λ l. slice_get l 0) front))
-        (subst (λ b. HeardIf p q (ended (taken_off (Deliver false 0) s.wires)
+        (subst (λ b. HeardIf p q (ended (taken_off (Deliver bus.X 0) s.wires)
         (Makes (if b then received bus.X (alive_packet p q) (underway s) else underway s))))
         (sym comes) (alive-heard bus.X p q (underway s) ran_p there))
 
-    of : IsPlay s (Deliver false 0) next → WasHeard (known_of (watch_at next.wires.nodes q) p)
+    of : IsPlay s (Deliver bus.X 0) next → WasHeard (known_of (watch_at next.wires.nodes q) p)
     of (inl made) = subst (HeardIf p q) made heard
     of (inr skips) = absurd (subst (HeardIf p q) skips.0 heard)
 

@@ -4,7 +4,7 @@ use Rattle.std.proofs.Common.{slice_get, refl, ap, sym, subst, ◌∙◌}
 use Rattle.schedule.specs.declared.event.Event.{Event}
 use Rattle.schedule.specs.declared.event.Event.TheVariants.{Run, Enter, Deliver, Lose, Repeat, Tick, Fail, Reload}
 use Rattle.schedule.specs.declared.event.Event.TheVariants.{Drive}
-use Rattle.packet_words.specs.declared.bus_name.BusName.{BusName}
+use Rattle.schedule.specs.declared.bus_name.BusName.{BusName}
 use Rattle.packet_words.specs.declared.packet.Packet.{Packet}
 use Rattle.world_semantics.specs.Messages.{Checkpointing}
 use Rattle.world_semantics.specs.Running.{Done, run_done}
@@ -28,7 +28,7 @@ use Rattle.packet_wires.specs.Play.{deliver_acted}
 use Rattle.packet_wires.specs.Play.{ended, handed, handed_any, handed_words, line_of, lose_acted, made_by, marked_by}
 use Rattle.packet_wires.specs.Play.{marks, packet_at, play, pulled, pulled_running, pulls, pulls_its}
 use Rattle.packet_wires.specs.Play.{received, reload_acted, repeat_acted, taken_off, tick_acted}
-use Rattle.packet_wires.specs.Wires.{Midst, midst_after_arrival, bus_named, midst_after_tick}
+use Rattle.packet_wires.specs.Wires.{Midst, midst_after_arrival, midst_after_tick}
 use Rattle.packet_rounds.specs.packets_laws.proofs.Going.{marks-stay}
 
 -- a processor that ran has stopped
@@ -137,15 +137,15 @@ acted-whole s (Run number) calm = made-whole (underway s) (run_done s.site numbe
     (run-whole s.site s.world number)
 acted-whole s (Enter number) calm = made-whole (underway s) (enter_done s.site number s.world)
     (enter-whole s.site s.world number)
-acted-whole s (Deliver y k) calm = deliver-whole (bus_named y) (underway s) (packet_at s (bus_named y) k)
-acted-whole s (Lose y k) calm = by (packet_at s (bus_named y) k)
+acted-whole s (Deliver bus k) calm = deliver-whole bus (underway s) (packet_at s bus k)
+acted-whole s (Lose bus k) calm = by (packet_at s bus k)
   where
     by : (packet : Option Packet) → WholeIf (underway s) (lose_acted (underway s) packet)
     by None = tt
     by (Some packet) = λ whole. inl whole
-acted-whole s (Repeat y k) calm = by (packet_at s (bus_named y) k)
+acted-whole s (Repeat bus k) calm = by (packet_at s bus k)
   where
-    by : (packet : Option Packet) → WholeIf (underway s) (repeat_acted (bus_named y) (underway s) packet)
+    by : (packet : Option Packet) → WholeIf (underway s) (repeat_acted bus (underway s) packet)
     by None = tt
     by (Some packet) = λ whole. inl whole
 acted-whole s (Tick node) calm = tick-whole node (underway s)

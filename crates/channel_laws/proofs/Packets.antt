@@ -4,7 +4,7 @@ use Rattle.std.proofs.Common.{length-drop, take, drop, refl, sym, subst, ap, ◌
 use Rattle.std.proofs.lemmas.List.{append_assoc, length-take, length-take-le}
 use Rattle.std.proofs.lemmas.Bool.{leb-false, le-leb, lt-ltb, eq-eqb}
 use Rattle.std.specs.Prelude.{◌==◌, ◌||◌, nat_lt, nat_le, Some, if◌then◌else◌}
-use Rattle.packet_words.specs.declared.bus_name.BusName.{BusName}
+use Rattle.schedule.specs.declared.bus_name.BusName.{BusName}
 use Rattle.packet_words.specs.declared.piece.Piece.{Piece}
 use Rattle.packet_words.specs.Pieces.{words_with_piece, piece_at}
 use Rattle.packet_words.specs.declared.packet.PacketKind.{PacketKind}

@@ -3,12 +3,13 @@ use Rattle.std.proofs.Common.{◌≡◌, ℕ, List, [], ◌∷◌, ◌++◌, map
 use Rattle.std.proofs.lemmas.List.{map-append}
 use Rattle.std.proofs.lemmas.List.Elements.{filter-append}
 use Rattle.std.specs.List.{filter}
-use Rattle.packet_words.specs.declared.bus_name.BusName.{BusName}
-use Rattle.packet_words.specs.declared.bus_name.BusName.TheVariants as bus
+use Rattle.schedule.specs.Buses.{is_bus}
+use Rattle.schedule.specs.declared.bus_name.BusName.{BusName}
+use Rattle.schedule.specs.declared.bus_name.BusName.TheVariants as bus
 use Rattle.packet_words.specs.declared.packet.Packet.{Packet}
 use Rattle.packet_wires.specs.bus_model.specs.Packets.{sent}
 use Rattle.packet_wires.specs.Nodes.{Node}
-use Rattle.packet_wires.specs.Wires.{Wires, Midst, Outgoing, all_put, for_each, is_bus, nothing_sent, packets_over}
+use Rattle.packet_wires.specs.Wires.{Wires, Midst, Outgoing, all_put, for_each, nothing_sent, packets_over}
 use Rattle.packet_wires.specs.Wires.{with_sent}
 use Rattle.event_parts.specs.Parts.{OnlyAdds, carried_out}
 use Rattle.event_parts.proofs.Adds.{adds-for-each}

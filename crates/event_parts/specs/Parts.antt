@@ -1,7 +1,7 @@
 -- Parts of an event on wires. That packets are sent as the event goes on, and not all at its end, is our own.
 use Rattle.std.specs.Prelude.{◌≡◌, ℕ, ℤ, Bool, false, ◌++◌, List, Option, Some, None, slice_get}
 use Rattle.std.specs.Option.{option_and_then, option_map}
-use Rattle.packet_words.specs.declared.bus_name.BusName.{BusName}
+use Rattle.schedule.specs.declared.bus_name.BusName.{BusName}
 use Rattle.packet_words.specs.declared.packet.Packet.{Packet}
 use Rattle.alive_regroup.specs.Watching.{Watching}
 use Rattle.packet_wires.specs.Nodes.{Node, end_at}

@@ -2,7 +2,7 @@
 ghost use Rattle.std.specs.Prelude.{◌≡◌, ℕ, ℤ, Bool, true, List, Some, None, slice_get};
 ghost use Rattle.std.specs.Option.{option_and_then, option_map};
 ghost use Rattle.schedule.specs.declared.event.Event.TheVariants.{Deliver, Reload, Repeat, Tick};
-ghost use Rattle.packet_words.specs.declared.bus_name.BusName.{BusName};
+ghost use Rattle.schedule.specs.declared.bus_name.BusName.{BusName};
 ghost use Rattle.packet_words.specs.declared.packet.Packet.{Packet};
 ghost use Rattle.alive_regroup.specs.Watching.{Watching, after_tick};
 ghost use Rattle.packet_wires.specs.machine_states.specs.States.{Makes};
@@ -14,7 +14,7 @@ ghost use Rattle.packet_wires.specs.message_layout.specs.Messages.{NodeMessage};
 ghost use Rattle.packet_wires.specs.Lines.{line_pulled};
 ghost use Rattle.packet_wires.specs.Nodes.{end_at};
 ghost use Rattle.packet_wires.specs.Play.{Packeted, underway, is_current_at, over, packet_at, play};
-ghost use Rattle.packet_wires.specs.Wires.{Midst, Wires, all_posted, midst_after_arrival, at_end, bus_named, cut_off};
+ghost use Rattle.packet_wires.specs.Wires.{Midst, Wires, all_posted, midst_after_arrival, at_end, cut_off};
 ghost use Rattle.packet_wires.specs.Wires.{declares};
 ghost use Rattle.packet_wires.specs.Wires.{goes_over, learns, loaded_again, nothing_sent, push_at, sends};
 ghost use Rattle.packet_wires.specs.Wires.{midst_after_tick};
@@ -32,14 +32,14 @@ pub fn a_part_may_be_an_event()
 /// What an event makes of the wires where no message is whole with its packet, and where no line is pulled, and what a
 /// reload makes of them: the part that is named.
 pub fn events_of_packets_are_parts()
-    ensures delivers { (s : Packeted) (y : Bool) (k : ℕ) (packet : Packet) → packet_at s (bus_named y) k ≡ Some packet
+    ensures delivers { (s : Packeted) (bus : BusName) (k : ℕ) (packet : Packet) → packet_at s bus k ≡ Some packet
         → is_running s.world.stopped packet.receiver ≡ true
         → is_current_at packet (end_at s.wires.nodes packet.receiver packet.sender) ≡ true
         → completed_by (Some packet) s.wires.nodes ≡ None
-        → play s (Deliver y k) ≡ Makes (record s
-        { wires = wires_after_delivery (bus_named y) k (Some packet) s.wires }) }
-    ensures repeats { (s : Packeted) (y : Bool) (k : ℕ) (packet : Packet) → packet_at s (bus_named y) k ≡ Some packet
-        → play s (Repeat y k) ≡ Makes (record s { wires = wires_after_repeat (bus_named y) (Some packet) s.wires }) }
+        → play s (Deliver bus k) ≡ Makes (record s
+        { wires = wires_after_delivery bus k (Some packet) s.wires }) }
+    ensures repeats { (s : Packeted) (bus : BusName) (k : ℕ) (packet : Packet) → packet_at s bus k ≡ Some packet
+        → play s (Repeat bus k) ≡ Makes (record s { wires = wires_after_repeat bus (Some packet) s.wires }) }
     ensures ticks { (s : Packeted) (node : ℕ) → is_running s.world.stopped node ≡ true
         → option_and_then (line_pulled node) (slice_get
         (midst_after_tick s.site.processors node (nothing_sent s.wires.nodes)).nodes node) ≡ None

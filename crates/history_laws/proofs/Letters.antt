@@ -181,9 +181,9 @@ played-present s (Enter terminal) =
     made-alike made_by present_played any-done s (enter_done s.site terminal s.world)
     (enter_done s.site terminal (present s.world))
     (enter-present s.site terminal s.world)
-played-present s (Deliver y k) = delivered-by k s (packet_at s y k)
-played-present s (Lose y k) = lost-by k s (packet_at s y k)
-played-present s (Repeat y k) = repeated-by s (packet_at s y k)
+played-present s (Deliver bus k) = delivered-by k s (packet_at s bus k)
+played-present s (Lose bus k) = lost-by k s (packet_at s bus k)
+played-present s (Repeat bus k) = repeated-by s (packet_at s bus k)
 played-present s (Tick node) = ticked-by node s
 played-present s (Fail processor) = failed-by processor s (slice_get s.world.stopped processor)
 played-present s (Reload processor) =

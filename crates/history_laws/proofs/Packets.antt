@@ -5,7 +5,7 @@ use Rattle.checkpoint_image.specs.tal_tree.specs.declared.site.Site.{Site}
 use Rattle.schedule.specs.declared.event.Event.{Event}
 use Rattle.schedule.specs.declared.event.Event.TheVariants.{Deliver, Drive, Enter, Fail, Lose, Reload, Repeat, Run}
 use Rattle.schedule.specs.declared.event.Event.TheVariants.{Tick}
-use Rattle.packet_words.specs.declared.bus_name.BusName.{BusName}
+use Rattle.schedule.specs.declared.bus_name.BusName.{BusName}
 use Rattle.packet_words.specs.declared.packet.Packet.{Packet}
 use Rattle.schedule_loop.specs.world_semantics.specs.Messages.{Sending}
 use Rattle.schedule_loop.specs.world_semantics.specs.Running.{Done, run_done}
@@ -30,7 +30,7 @@ use Rattle.packet_runs.specs.packet_wires.specs.Play.{pulled, pulled_running, pu
 use Rattle.packet_runs.specs.packet_wires.specs.Play.{repeat_acted, sent_by, stop_acted, taken_off, tick_acted}
 use Rattle.packet_runs.specs.packet_wires.specs.Play.{underway}
 use Rattle.packet_runs.specs.packet_wires.specs.Sights.{end_of, state_after}
-use Rattle.packet_runs.specs.packet_wires.specs.Wires.{Midst, Wires, all_posted, bus_named, cut_off, goes_over}
+use Rattle.packet_runs.specs.packet_wires.specs.Wires.{Midst, Wires, all_posted, cut_off, goes_over}
 use Rattle.packet_runs.specs.packet_wires.specs.Wires.{loaded_again, midst_after_arrival, midst_after_tick}
 use Rattle.history_laws.specs.Present.{present, present_played, present_state}
 use Rattle.history_laws.proofs.Presents.{state-twice, world-twice}
@@ -240,9 +240,9 @@ acted-by s (Enter terminal) =
     made-alike made_by present_played any-done (underway s) (enter_done s.site terminal s.world)
     (enter_done s.site terminal (present s.world))
     (enter-present s.site terminal s.world)
-acted-by s (Deliver y k) = delivered-by (bus_named y) (underway s) (packet_at s (bus_named y) k)
-acted-by s (Lose y k) = lost-by (underway s) (packet_at s (bus_named y) k)
-acted-by s (Repeat y k) = repeated-by (bus_named y) (underway s) (packet_at s (bus_named y) k)
+acted-by s (Deliver bus k) = delivered-by bus (underway s) (packet_at s bus k)
+acted-by s (Lose bus k) = lost-by (underway s) (packet_at s bus k)
+acted-by s (Repeat bus k) = repeated-by bus (underway s) (packet_at s bus k)
 acted-by s (Tick node) = ticked-by node (underway s)
 acted-by s (Fail processor) = failed-by processor (underway s) (slice_get s.world.stopped processor)
 acted-by s (Reload processor) =

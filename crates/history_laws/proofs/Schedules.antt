@@ -10,6 +10,8 @@ use Rattle.player.specs.declared.player.Player.{Player}
 use Rattle.player.specs.declared.standing.Sizes.{Sizes}
 use Rattle.player.specs.declared.stop.ProcessorStop.{ProcessorStop}
 use Rattle.schedule.specs.declared.event.Counts.{Counts}
+use Rattle.schedule.specs.declared.bus_name.BusName.{BusName}
+use Rattle.schedule.specs.declared.bus_name.BusName.TheVariants as bus
 use Rattle.schedule.specs.declared.event.Event.{Event}
 use Rattle.schedule.specs.declared.line.Line.{Line}
 use Rattle.schedule_loop.specs.Ends.{Course, IsRunOn, Plays, RunsOutBy, RunsToHarmBy, planned_in}
@@ -24,7 +26,7 @@ use Rattle.packet_runs.specs.Runs.{counts_of, is_alive, packet_meant, packet_rul
 use Rattle.packet_runs.specs.node_copies.specs.ShownCounts.{replies_in, writes_in}
 use Rattle.packet_runs.specs.packet_wires.specs.Idle.{is_idle}
 use Rattle.packet_runs.specs.packet_wires.specs.Play.{Packeted, count_on, play}
-use Rattle.packet_runs.specs.packet_wires.specs.Wires.{Wires, bus_named}
+use Rattle.packet_runs.specs.packet_wires.specs.Wires.{Wires}
 use Rattle.packet_runs.specs.site_machine.specs.Seen.{closed_state}
 use Rattle.packet_runs.specs.world_copies.specs.Closed.{closed_world}
 use Rattle.history_laws.specs.Present.{present, present_pair, present_played, present_state}
@@ -34,7 +36,7 @@ use Rattle.history_laws.proofs.Worlds.{each-present}
 
 -- What is counted
 
-meant-present : (s : Packeted) (place : Option (Bool × ℕ))
+meant-present : (s : Packeted) (place : Option (BusName × ℕ))
     → packet_meant s place ≡ packet_meant (present_state s) place
 meant-present s None = refl
 meant-present s (Some place) = refl
@@ -42,8 +44,8 @@ meant-present s (Some place) = refl
 -- what is counted in a state where this is the packet that the next event concerns, and it is idle or not
 abbrev counted : Packeted → Option Packet → Bool → Counts
 counted s found idle = record {
-  x = count_on s (bus_named false);
-  y = count_on s (bus_named true);
+  x = count_on s bus.X;
+  y = count_on s bus.Y;
   alive = is_alive found;
   sender = sender_of found;
   idle = idle;
@@ -54,8 +56,7 @@ counted s found idle = record {
 pub counts-present : (s : Packeted) (player : Player) → counts_of s player ≡ counts_of (present_state s) player
 counts-present s player =
     ap₂ (λ (found : Option Packet) (idle : Bool). counted s found idle)
-    (meant-present s
-    (packet_aimed_at player.sizes (count_on s (bus_named false)) (count_on s (bus_named true)) player.standing))
+    (meant-present s (packet_aimed_at player.sizes (count_on s bus.X) (count_on s bus.Y) player.standing))
     (idle-present s)
 
 -- The close

@@ -7,14 +7,14 @@ use Rattle.std.specs.Prelude.{◌∷◌, ◌++◌, length, Option, Some, None, i
 use Rattle.std.specs.Option.{option_map}
 use Rattle.packet_words.specs.gd_words.specs.Ranges.{HasNext}
 use Rattle.packet_words.specs.gd_words.specs.declared.limits.TheConstants.{MOST_RELOADS}
-use Rattle.packet_words.specs.declared.bus_name.BusName.{BusName}
-use Rattle.packet_words.specs.declared.bus_name.BusName.TheVariants as bus
+use Rattle.schedule.specs.declared.bus_name.BusName.{BusName}
+use Rattle.schedule.specs.declared.bus_name.BusName.TheVariants as bus
 use Rattle.packet_words.specs.declared.piece.Piece.{Piece}
 use Rattle.packet_words.specs.declared.packet.Packet.{Packet}
 use Rattle.packet_words.specs.declared.packet.Incarnation.{Incarnation}
 use Rattle.packet_words.specs.declared.packet.PacketKind.{PacketKind}
 use Rattle.packet_words.specs.declared.packet.PacketKind.TheVariants as kind
-use Rattle.packet_words.specs.Buses.{other_bus}
+use Rattle.schedule.specs.Buses.{other_bus}
 use Rattle.packet_words.specs.Pieces.{piece_at, words_with_piece, message_with_piece}
 use Rattle.link_control.specs.declared.channel.Resent.{Resent}
 

@@ -3,8 +3,8 @@ use Rattle.std.specs.Option.{option_and_then}
 use Rattle.std.proofs.Common.{◌≡◌, ℕ, zero, suc, [], ◌∷◌, List, Option, Some, None, Bool, true, false, if◌then◌else◌}
 use Rattle.std.proofs.Common.{slice_get, slice_set, refl, ap, ap₂, sym, subst, ◌∙◌}
 use Rattle.event_parts.specs.packet_wires.specs.world_semantics.proofs.Lists.{some-same}
-use Rattle.packet_words.specs.declared.bus_name.BusName.{BusName}
-use Rattle.packet_words.specs.declared.bus_name.BusName.TheVariants as bus
+use Rattle.schedule.specs.declared.bus_name.BusName.{BusName}
+use Rattle.schedule.specs.declared.bus_name.BusName.TheVariants as bus
 use Rattle.packet_words.specs.declared.packet.Packet.{Packet}
 use Rattle.packet_words.specs.declared.packet.PacketKind.TheVariants as kind
 use Rattle.link_control.specs.Ends.{End, alive_of, packet_of}

@@ -3,7 +3,7 @@ use Rattle.std.specs.Option.{option_and_then, option_map}
 use Rattle.std.proofs.Common.{◌≡◌, ℕ, zero, suc, ◌+◌, ◌-◌, ◌≤◌, ◌<◌, arith, ◌&&◌, not, Bool, true, false, if◌then◌else◌}
 use Rattle.std.proofs.Common.{List, Option}
 use Rattle.std.proofs.Common.{Some, None, slice_get, slice_set, refl, ap, ap₂, sym, ◌∙◌}
-use Rattle.packet_words.specs.Buses.{other_bus}
+use Rattle.schedule.specs.Buses.{other_bus}
 use Rattle.link_control.specs.declared.channel.Resent.{Resent}
 use Rattle.link_control.specs.Ends.{End, after_tick, is_empty, is_idle, packet_outstanding, sent_by_tick, after_tick_of}
 use Rattle.event_parts.specs.packet_wires.specs.Idle.{holds_nothing}

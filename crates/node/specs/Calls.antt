@@ -1,8 +1,8 @@
 -- What a call makes of a node and of wires, and what it tells. Our own rule, as what happens at nodes is.
 use Rattle.std.specs.Prelude.{ℕ, slice_get, slice_set, Option, Some, None}
 use Rattle.std.specs.Option.{option_and_then}
-use Rattle.packet_words.specs.declared.bus_name.BusName.{BusName}
-use Rattle.packet_words.specs.declared.bus_name.BusName.TheVariants as bus
+use Rattle.schedule.specs.declared.bus_name.BusName.{BusName}
+use Rattle.schedule.specs.declared.bus_name.BusName.TheVariants as bus
 use Rattle.packet_words.specs.declared.packet.Packet.{Packet}
 use Rattle.packet_words.specs.declared.packet.PacketKind.{PacketKind}
 use Rattle.packet_words.specs.declared.packet.PacketKind.TheVariants as kind

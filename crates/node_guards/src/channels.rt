@@ -1,6 +1,6 @@
 ghost use Rattle.std.specs.Prelude.{◌≡◌, true, false, Some, None};
 ghost use Rattle.std.specs.Option.{option_map};
-ghost use Rattle.packet_words.specs.declared.bus_name.BusName.TheVariants.{X, Y};
+ghost use Rattle.schedule.specs.declared.bus_name.BusName.TheVariants.{X, Y};
 ghost use Rattle.packet_words.specs.declared.packet.PacketKind.TheVariants as kind;
 ghost use Rattle.link_control.specs.Ends.{after_down, after_packet, after_push, after_tick, alive_of, handed_by_packet};
 ghost use Rattle.link_control.specs.Ends.{end_after_reload, is_current, is_empty, new_end, sent_by_packet};

@@ -1,5 +1,5 @@
 ghost use Rattle.std.specs.Prelude.{◌≡◌, [], ◌∷◌, Some, None};
-ghost use Rattle.packet_words.specs.declared.bus_name.BusName.TheVariants.{X, Y};
+ghost use Rattle.schedule.specs.declared.bus_name.BusName.TheVariants.{X, Y};
 ghost use Rattle.message_layout.specs.Messages.{Declaring};
 ghost use Rattle.packet_wires.specs.Nodes.{nodes_at_boot};
 ghost use Rattle.packet_wires.specs.Wires.{at_end, sends};

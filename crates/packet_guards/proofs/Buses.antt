@@ -1,11 +1,11 @@
 -- What is on the buses, computed.
-use Rattle.std.proofs.Common.{◌≡◌, true, false, [], ◌∷◌, Some, None, refl}
+use Rattle.std.proofs.Common.{◌≡◌, [], ◌∷◌, Some, None, refl}
 use Rattle.std.specs.Int.{int_wrap}
 use denote.Hole.Carrier.{shown, out}
 use Rattle.tal_tree.specs.declared.statement.What.{out-What}
 use Rattle.tal_tree.specs.declared.statement.What.TheBlock.{shown-the_row-Statement-0}
 use Rattle.schedule.specs.declared.event.Event.TheVariants as event
-use Rattle.packet_words.specs.declared.bus_name.BusName.TheVariants.{X, Y}
+use Rattle.schedule.specs.declared.bus_name.BusName.TheVariants.{X, Y}
 use Rattle.packet_words.specs.declared.packet.PacketKind.TheVariants as kind
 use Rattle.machine_states.specs.States.{Skips}
 use Rattle.packet_wires.specs.Play.{count_on, kind_at, play, sender_at}
@@ -13,32 +13,32 @@ use Rattle.packet_wires.specs.Sights.{acknowledged, alive, end_of, last, piece, 
 use Rattle.packet_wires.specs.Examples.{adder_at_boot}
 use Rattle.packet_guards.specs.States.{after_three, first_piece_again, laden, stray, ticks, told}
 
-pub events-name-positions-deliver : (end_of laden (event.Deliver false 1 ∷ [])).wires.x ≡ stray 5 ∷ stray 7 ∷ []
+pub events-name-positions-deliver : (end_of laden (event.Deliver X 1 ∷ [])).wires.x ≡ stray 5 ∷ stray 7 ∷ []
 unfolding out-What shown-the_row-Statement-0 shown out int_wrap
 events-name-positions-deliver = refl
 
-pub events-name-positions-lose : (end_of laden (event.Lose false 1 ∷ [])).wires.x ≡ stray 5 ∷ stray 7 ∷ []
+pub events-name-positions-lose : (end_of laden (event.Lose X 1 ∷ [])).wires.x ≡ stray 5 ∷ stray 7 ∷ []
 unfolding out-What shown-the_row-Statement-0 shown out int_wrap
 events-name-positions-lose = refl
 
-pub events-name-positions-repeat : (end_of laden (event.Repeat false 1 ∷ [])).wires.x
+pub events-name-positions-repeat : (end_of laden (event.Repeat X 1 ∷ [])).wires.x
     ≡ stray 5 ∷ stray 6 ∷ stray 7 ∷ stray 6 ∷ []
 unfolding out-What shown-the_row-Statement-0 shown out int_wrap
 events-name-positions-repeat = refl
 
-pub events-name-positions-other-bus : (end_of laden (event.Lose true 0 ∷ [])).wires.y ≡ []
+pub events-name-positions-other-bus : (end_of laden (event.Lose Y 0 ∷ [])).wires.y ≡ []
 unfolding out-What shown-the_row-Statement-0 shown out int_wrap
 events-name-positions-other-bus = refl
 
-pub events-name-positions-past : play laden (event.Deliver false 3) ≡ Skips
+pub events-name-positions-past : play laden (event.Deliver X 3) ≡ Skips
 unfolding out-What shown-the_row-Statement-0 shown out int_wrap
 events-name-positions-past = refl
 
-pub events-name-positions-past-lose : play laden (event.Lose true 1) ≡ Skips
+pub events-name-positions-past-lose : play laden (event.Lose Y 1) ≡ Skips
 unfolding out-What shown-the_row-Statement-0 shown out int_wrap
 events-name-positions-past-lose = refl
 
-pub events-name-positions-past-repeat : play laden (event.Repeat true 1) ≡ Skips
+pub events-name-positions-past-repeat : play laden (event.Repeat Y 1) ≡ Skips
 unfolding out-What shown-the_row-Statement-0 shown out int_wrap
 events-name-positions-past-repeat = refl
 
@@ -83,13 +83,13 @@ pub a-tick-sends-in-order-terminals : seen (end_of adder_at_boot (ticks 16 4)) �
 unfolding out-What shown-the_row-Statement-0 shown out int_wrap
 a-tick-sends-in-order-terminals = refl
 
-pub answers-take-their-bus-acknowledgement : (seen (end_of first_piece_again (event.Deliver true 2 ∷ []))).y
+pub answers-take-their-bus-acknowledgement : (seen (end_of first_piece_again (event.Deliver Y 2 ∷ []))).y
     ≡ alive 0 1 ∷ alive 0 1 ∷ acknowledged 1 0 1 ∷ []
 unfolding out-What shown-the_row-Statement-0 shown out int_wrap
 answers-take-their-bus-acknowledgement = refl
 
 pub answers-take-their-bus-next : (seen
-    (end_of first_piece_again (event.Deliver true 2 ∷ event.Deliver true 2 ∷ []))).x
+    (end_of first_piece_again (event.Deliver Y 2 ∷ event.Deliver Y 2 ∷ []))).x
     ≡ alive 0 1 ∷ alive 0 1 ∷ piece 0 1 2 ∷ []
 unfolding out-What shown-the_row-Statement-0 shown out int_wrap
 answers-take-their-bus-next = refl

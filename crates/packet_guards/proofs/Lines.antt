@@ -4,6 +4,7 @@ use Rattle.std.specs.Int.{int_wrap}
 use denote.Hole.Carrier.{shown, out}
 use Rattle.tal_tree.specs.declared.statement.What.{out-What}
 use Rattle.tal_tree.specs.declared.statement.What.TheBlock.{shown-the_row-Statement-0}
+use Rattle.schedule.specs.declared.bus_name.BusName.TheVariants as bus
 use Rattle.schedule.specs.declared.event.Event.TheVariants as event
 use Rattle.machine_states.specs.States.{Skips, Would, SecondStop}
 use Rattle.packet_wires.specs.Play.{play}
@@ -21,12 +22,12 @@ unfolding out-What shown-the_row-Statement-0 shown out int_wrap
 two-checks-make-silent-four = refl
 
 pub two-checks-make-silent-heard : (end_of (end_of laden (ticks 0 3))
-    (event.Deliver true 0 ∷ event.Tick 0 ∷ [])).world.downs ≡ []
+    (event.Deliver bus.Y 0 ∷ event.Tick 0 ∷ [])).world.downs ≡ []
 unfolding out-What shown-the_row-Statement-0 shown out int_wrap
 two-checks-make-silent-heard = refl
 
 pub two-checks-make-silent-unheard : (end_of (end_of laden (ticks 0 3))
-    (event.Lose true 0 ∷ event.Tick 0 ∷ [])).world.downs ≡ record { node = 0; down = 1 } ∷ []
+    (event.Lose bus.Y 0 ∷ event.Tick 0 ∷ [])).world.downs ≡ record { node = 0; down = 1 } ∷ []
 unfolding out-What shown-the_row-Statement-0 shown out int_wrap
 two-checks-make-silent-unheard = refl
 

@@ -1,9 +1,10 @@
 -- What marks and stops leave, computed.
-use Rattle.std.proofs.Common.{◌≡◌, true, false, [], ◌∷◌, refl}
+use Rattle.std.proofs.Common.{◌≡◌, true, [], ◌∷◌, refl}
 use Rattle.std.specs.Int.{int_wrap}
 use denote.Hole.Carrier.{shown, out}
 use Rattle.tal_tree.specs.declared.statement.What.{out-What}
 use Rattle.tal_tree.specs.declared.statement.What.TheBlock.{shown-the_row-Statement-0}
+use Rattle.schedule.specs.declared.bus_name.BusName.TheVariants as bus
 use Rattle.schedule.specs.declared.event.Event.TheVariants as event
 use Rattle.machine_states.specs.States.{Skips}
 use Rattle.message_layout.specs.Messages.{Declaring}
@@ -18,7 +19,7 @@ pub a-mark-closes-the-channel-thrown : holds_nothing (end_at taken_over.wires.no
 unfolding out-What shown-the_row-Statement-0 shown out int_wrap
 a-mark-closes-the-channel-thrown = refl
 
-pub a-mark-closes-the-channel-dropped : (seen (end_of taken_over (event.Deliver false 0 ∷ []))).x
+pub a-mark-closes-the-channel-dropped : (seen (end_of taken_over (event.Deliver bus.X 0 ∷ []))).x
     ≡ alive 1 0 ∷ alive 1 0 ∷ alive 1 0 ∷ alive 1 0 ∷ last 1 0 1 ∷ last 1 16 1 ∷ []
 unfolding out-What shown-the_row-Statement-0 shown out int_wrap
 a-mark-closes-the-channel-dropped = refl
@@ -32,7 +33,7 @@ pub who-has-stopped-does-nothing-ticks : play one_gone (event.Tick 0) ≡ Skips
 unfolding out-What shown-the_row-Statement-0 shown out int_wrap
 who-has-stopped-does-nothing-ticks = refl
 
-pub who-has-stopped-does-nothing-drops : (end_of one_gone (event.Enter 0 ∷ event.Deliver false 0 ∷ [])).wires.x ≡ []
+pub who-has-stopped-does-nothing-drops : (end_of one_gone (event.Enter 0 ∷ event.Deliver bus.X 0 ∷ [])).wires.x ≡ []
 unfolding out-What shown-the_row-Statement-0 shown out int_wrap
 who-has-stopped-does-nothing-drops = refl
 

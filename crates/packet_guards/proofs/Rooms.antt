@@ -1,7 +1,7 @@
 -- The room of a bus.
 use Rattle.std.proofs.Common.{◌≡◌, ◌≤◌, ◌+◌, List, [], ◌∷◌, ◌++◌, length, refl, ap, ◌∙◌, arith, length-append}
-use Rattle.packet_words.specs.declared.bus_name.BusName.{BusName}
-use Rattle.packet_words.specs.declared.bus_name.BusName.TheVariants.{X, Y}
+use Rattle.schedule.specs.declared.bus_name.BusName.{BusName}
+use Rattle.schedule.specs.declared.bus_name.BusName.TheVariants.{X, Y}
 use Rattle.packet_words.specs.declared.packet.Packet.{Packet}
 use Rattle.bus_model.specs.Packets.{sent}
 use Rattle.packet_wires.proofs.Rooms.{sent-there, sent-full, all-there, all-full}

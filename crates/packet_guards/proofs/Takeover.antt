@@ -2,7 +2,7 @@
 use Rattle.std.proofs.Common.{◌≡◌, [], ◌∷◌, refl}
 use Rattle.std.specs.Int.{int_wrap}
 use denote.Hole.Carrier.{shown, out}
-use Rattle.packet_words.specs.declared.bus_name.BusName.TheVariants.{X, Y}
+use Rattle.schedule.specs.declared.bus_name.BusName.TheVariants.{X, Y}
 use Rattle.tal_tree.specs.declared.statement.What.{out-What}
 use Rattle.tal_tree.specs.declared.statement.What.TheBlock.{shown-the_row-Statement-0}
 use Rattle.schedule.specs.declared.event.Event.TheVariants as event

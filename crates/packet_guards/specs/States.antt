@@ -1,9 +1,10 @@
 -- States of the machine over packets at which its rules are seen.
 use Rattle.std.specs.Prelude.{ℕ, ℤ, Bool, true, false, List, [], ◌∷◌, map, Option}
 use Rattle.std.specs.Option.{option_map, unwrap_or}
+use Rattle.schedule.specs.declared.bus_name.BusName.TheVariants as bus
 use Rattle.schedule.specs.declared.event.Event.{Event}
 use Rattle.schedule.specs.declared.event.Event.TheVariants as event
-use Rattle.packet_words.specs.declared.bus_name.BusName.{BusName}
+use Rattle.schedule.specs.declared.bus_name.BusName.{BusName}
 use Rattle.packet_words.specs.declared.packet.Incarnation.{Incarnation}
 use Rattle.packet_words.specs.declared.packet.Packet.{Packet}
 use Rattle.packet_words.specs.declared.packet.PacketKind.{PacketKind}
@@ -54,7 +55,7 @@ ticks node many = times many (event.Tick node ∷ [])
 
 -- the first piece of the checkpoint is lost, and its sender ticks twice
 abbrev pub first_piece_again : Packeted
-first_piece_again = end_of (end_of adder_at_boot up_to_checkpoint) (event.Lose false 0 ∷ ticks 0 2)
+first_piece_again = end_of (end_of adder_at_boot up_to_checkpoint) (event.Lose bus.X 0 ∷ ticks 0 2)
 
 -- processor 0 has stopped
 abbrev pub one_gone : Packeted
@@ -86,7 +87,7 @@ none_stopped = record three_at_boot { wires = two_lost }
 
 -- the node of the terminals was told that processor 0 is down
 abbrev pub told : Packeted
-told = end_of taken_over (event.Deliver false 6 ∷ [])
+told = end_of taken_over (event.Deliver bus.X 6 ∷ [])
 
 -- the incarnations that an end bears, and how many pieces it has numbered and kept, and whether the other node is down
 -- there

@@ -3,8 +3,8 @@ ghost use Rattle.std.specs.Prelude.{◌≡◌, ◌≤◌, ◌+◌, ℕ, pos, tru
 ghost use Rattle.std.specs.Prelude.{None};
 ghost use Rattle.schedule.specs.declared.event.DriveChange.TheVariants.{Break};
 ghost use Rattle.schedule.specs.declared.event.Event.TheVariants as event;
-ghost use Rattle.packet_words.specs.declared.bus_name.BusName.{BusName};
-ghost use Rattle.packet_words.specs.declared.bus_name.BusName.TheVariants.{X, Y};
+ghost use Rattle.schedule.specs.declared.bus_name.BusName.{BusName};
+ghost use Rattle.schedule.specs.declared.bus_name.BusName.TheVariants.{X, Y};
 ghost use Rattle.packet_words.specs.declared.packet.Packet.{Packet};
 ghost use Rattle.packet_words.specs.declared.packet.PacketKind.TheVariants as kind;
 ghost use Rattle.machine_states.specs.States.{Makes, Skips, Would, SecondStop};
@@ -33,13 +33,13 @@ ghost use Rattle.packet_guards.specs.States.{one_gone, outgoing, queued, second_
 /// An event names a packet by its position on its bus from 0, and takes that one alone; a repeat puts it at the end.
 /// Past the last position nothing is done.
 pub fn events_name_positions()
-    ensures deliver { (end_of laden (event.Deliver false 1 ∷ [])).wires.x ≡ stray 5 ∷ stray 7 ∷ [] }
-    ensures lose { (end_of laden (event.Lose false 1 ∷ [])).wires.x ≡ stray 5 ∷ stray 7 ∷ [] }
-    ensures repeat { (end_of laden (event.Repeat false 1 ∷ [])).wires.x ≡ stray 5 ∷ stray 6 ∷ stray 7 ∷ stray 6 ∷ [] }
-    ensures other_bus { (end_of laden (event.Lose true 0 ∷ [])).wires.y ≡ [] }
-    ensures past { play laden (event.Deliver false 3) ≡ Skips }
-    ensures past_lose { play laden (event.Lose true 1) ≡ Skips }
-    ensures past_repeat { play laden (event.Repeat true 1) ≡ Skips }
+    ensures deliver { (end_of laden (event.Deliver X 1 ∷ [])).wires.x ≡ stray 5 ∷ stray 7 ∷ [] }
+    ensures lose { (end_of laden (event.Lose X 1 ∷ [])).wires.x ≡ stray 5 ∷ stray 7 ∷ [] }
+    ensures repeat { (end_of laden (event.Repeat X 1 ∷ [])).wires.x ≡ stray 5 ∷ stray 6 ∷ stray 7 ∷ stray 6 ∷ [] }
+    ensures other_bus { (end_of laden (event.Lose Y 0 ∷ [])).wires.y ≡ [] }
+    ensures past { play laden (event.Deliver X 3) ≡ Skips }
+    ensures past_lose { play laden (event.Lose Y 1) ≡ Skips }
+    ensures past_repeat { play laden (event.Repeat Y 1) ≡ Skips }
 {}
 
 /// An event of a drive touches no packet and no node: how the drives stand changes, and nothing else. A program has
@@ -96,9 +96,9 @@ pub fn a_tick_sends_in_order()
 
 /// An acknowledgement goes by the bus on which its piece came, and the piece that it lets go takes bus X.
 pub fn answers_take_their_bus()
-    ensures acknowledgement { (seen (end_of first_piece_again (event.Deliver true 2 ∷ []))).y
+    ensures acknowledgement { (seen (end_of first_piece_again (event.Deliver Y 2 ∷ []))).y
         ≡ alive 0 1 ∷ alive 0 1 ∷ acknowledged 1 0 1 ∷ [] }
-    ensures next { (seen (end_of first_piece_again (event.Deliver true 2 ∷ event.Deliver true 2 ∷ []))).x
+    ensures next { (seen (end_of first_piece_again (event.Deliver Y 2 ∷ event.Deliver Y 2 ∷ []))).x
         ≡ alive 0 1 ∷ alive 0 1 ∷ piece 0 1 2 ∷ [] }
 {}
 
@@ -106,8 +106,8 @@ pub fn answers_take_their_bus()
 pub fn two_checks_make_silent()
     ensures three { (end_of one_gone (ticks 1 3)).world.downs ≡ [] }
     ensures four { (end_of one_gone (ticks 1 4)).world.downs ≡ record { node = 1; down = 0 } ∷ [] }
-    ensures heard { (end_of (end_of laden (ticks 0 3)) (event.Deliver true 0 ∷ event.Tick 0 ∷ [])).world.downs ≡ [] }
-    ensures unheard { (end_of (end_of laden (ticks 0 3)) (event.Lose true 0 ∷ event.Tick 0 ∷ [])).world.downs
+    ensures heard { (end_of (end_of laden (ticks 0 3)) (event.Deliver Y 0 ∷ event.Tick 0 ∷ [])).world.downs ≡ [] }
+    ensures unheard { (end_of (end_of laden (ticks 0 3)) (event.Lose Y 0 ∷ event.Tick 0 ∷ [])).world.downs
         ≡ record { node = 0; down = 1 } ∷ [] }
 {}
 
@@ -146,7 +146,7 @@ pub fn a_takeover_tells_first()
 /// A mark throws the channel away, and packets of the marked node are dropped: no acknowledgement goes.
 pub fn a_mark_closes_the_channel()
     ensures thrown { holds_nothing (end_at taken_over.wires.nodes 1 0) ≡ true }
-    ensures dropped { (seen (end_of taken_over (event.Deliver false 0 ∷ []))).x
+    ensures dropped { (seen (end_of taken_over (event.Deliver X 0 ∷ []))).x
         ≡ alive 1 0 ∷ alive 1 0 ∷ alive 1 0 ∷ alive 1 0 ∷ last 1 0 1 ∷ last 1 16 1 ∷ [] }
     ensures no_more_alive { (seen (end_of taken_over (event.Tick 1 ∷ []))).y
         ≡ alive 1 0 ∷ alive 1 0 ∷ alive 1 0 ∷ alive 1 0 ∷ [] }
@@ -163,7 +163,7 @@ pub fn no_second_stop()
 /// A processor that has stopped does nothing, and drops what comes to it.
 pub fn who_has_stopped_does_nothing()
     ensures ticks { play one_gone (event.Tick 0) ≡ Skips }
-    ensures drops { (end_of one_gone (event.Enter 0 ∷ event.Deliver false 0 ∷ [])).wires.x ≡ [] }
+    ensures drops { (end_of one_gone (event.Enter 0 ∷ event.Deliver X 0 ∷ [])).wires.x ≡ [] }
     ensures runs { (seen (end_of one_gone (event.Enter 0 ∷ []))).x ≡ last 16 0 1 ∷ [] }
 {}
 

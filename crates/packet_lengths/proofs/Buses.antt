@@ -8,8 +8,8 @@ use Rattle.schedule.specs.declared.event.Event.{Event}
 use Rattle.schedule.specs.declared.event.Event.TheVariants.{Run, Enter, Deliver, Lose, Repeat, Tick, Fail, Reload}
 use Rattle.schedule.specs.declared.event.Event.TheVariants.{Drive}
 use Rattle.line_lengths.specs.machine_states.specs.States.{Played, Makes, Skips, Would}
-use Rattle.packet_words.specs.declared.bus_name.BusName.{BusName}
-use Rattle.packet_words.specs.declared.bus_name.BusName.TheVariants as bus
+use Rattle.schedule.specs.declared.bus_name.BusName.{BusName}
+use Rattle.schedule.specs.declared.bus_name.BusName.TheVariants as bus
 use Rattle.packet_words.specs.declared.packet.Packet.{Packet}
 use Rattle.bus_model.specs.Packets.{has_room, sent}
 use Rattle.packet_numbers.specs.packet_wires.specs.Wires.{Midst, Wires, all_put, packets_over}
@@ -46,11 +46,11 @@ remove-few on k few = let less = take-few k on in omega (arith, less, few)
 off-few : (event : Event) (wires : Wires) → AreFew wires → AreFew (taken_off event wires)
 off-few (Run number) wires few = few
 off-few (Enter terminal) wires few = few
-off-few (Deliver false k) wires few = (remove-few wires.x k few.0, few.1)
-off-few (Deliver true k) wires few = (few.0, remove-few wires.y k few.1)
-off-few (Lose false k) wires few = (remove-few wires.x k few.0, few.1)
-off-few (Lose true k) wires few = (few.0, remove-few wires.y k few.1)
-off-few (Repeat y k) wires few = few
+off-few (Deliver bus.X k) wires few = (remove-few wires.x k few.0, few.1)
+off-few (Deliver bus.Y k) wires few = (few.0, remove-few wires.y k few.1)
+off-few (Lose bus.X k) wires few = (remove-few wires.x k few.0, few.1)
+off-few (Lose bus.Y k) wires few = (few.0, remove-few wires.y k few.1)
+off-few (Repeat bus k) wires few = few
 off-few (Tick node) wires few = few
 off-few (Fail processor) wires few = few
 off-few (Reload processor) wires few = few

@@ -9,7 +9,7 @@ ghost use Rattle.agendas.specs.Agendas.{Agenda};
 ghost use Rattle.plain_semantics.specs.SiteLimits.{KeepsSiteLimits};
 ghost use Rattle.packet_numbers.specs.accepted_sites.specs.Premises.{IsAcceptedSite};
 ghost use Rattle.packet_numbers.specs.awaited_requests.specs.Seats.{IsLaidOut};
-ghost use Rattle.packet_words.specs.declared.bus_name.BusName.{BusName};
+ghost use Rattle.schedule.specs.declared.bus_name.BusName.{BusName};
 ghost use Rattle.packet_numbers.specs.packet_wires.specs.Play.{Packeted, count_on};
 ghost use Rattle.packet_numbers.specs.packet_wires.specs.Runs.{IsPlayed};
 ghost use Rattle.line_lengths.specs.schedule_loop.specs.Ends.{CanBePlayed, Plays};

@@ -4,11 +4,12 @@ use Rattle.std.proofs.Common.{map, refl}
 use Rattle.std.specs.List.{filter, remove}
 use Rattle.gd_words.specs.Members.{IsAmong}
 use Rattle.gd_words.proofs.Among.{among-left, among-right, among-either}
-use Rattle.packet_words.specs.declared.bus_name.BusName.{BusName}
-use Rattle.packet_words.specs.declared.bus_name.BusName.TheVariants as bus
+use Rattle.schedule.specs.Buses.{is_bus}
+use Rattle.schedule.specs.declared.bus_name.BusName.{BusName}
+use Rattle.schedule.specs.declared.bus_name.BusName.TheVariants as bus
 use Rattle.packet_words.specs.declared.packet.Packet.{Packet}
 use Rattle.bus_model.specs.Packets as buses
-use Rattle.packet_wires.specs.Wires.{Wires, Outgoing, without_packet, is_bus, packets_over, all_put}
+use Rattle.packet_wires.specs.Wires.{Wires, Outgoing, without_packet, packets_over, all_put}
 use Rattle.packet_nets.specs.Owing.{on_both}
 
 -- a packet is taken off a bus

@@ -6,8 +6,8 @@ use Rattle.std.proofs.lemmas.Bool.{and_from}
 use Rattle.std.specs.Option.{option_to_list}
 use Rattle.gd_words.specs.Members.{IsAmong}
 use Rattle.gd_words.proofs.Among.{among-left, among-right, among-either, among-one}
-use Rattle.packet_words.specs.declared.bus_name.BusName.{BusName}
-use Rattle.packet_words.specs.declared.bus_name.BusName.TheVariants as bus
+use Rattle.schedule.specs.declared.bus_name.BusName.{BusName}
+use Rattle.schedule.specs.declared.bus_name.BusName.TheVariants as bus
 use Rattle.packet_words.specs.declared.packet.Packet.{Packet}
 use Rattle.packet_words.specs.declared.packet.Incarnation.{Incarnation}
 use Rattle.packet_words.specs.declared.packet.PacketKind.{PacketKind}

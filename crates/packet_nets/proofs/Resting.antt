@@ -4,13 +4,14 @@ use Rattle.std.proofs.Common.{length, map, refl, sym, subst}
 use Rattle.std.specs.List.{filter}
 use Rattle.gd_words.specs.Members.{IsAmong}
 use Rattle.gd_words.proofs.Among.{among-left, among-right, among-either}
-use Rattle.packet_words.specs.declared.bus_name.BusName.{BusName}
-use Rattle.packet_words.specs.declared.bus_name.BusName.TheVariants as bus
+use Rattle.schedule.specs.Buses.{is_bus}
+use Rattle.schedule.specs.declared.bus_name.BusName.{BusName}
+use Rattle.schedule.specs.declared.bus_name.BusName.TheVariants as bus
 use Rattle.packet_words.specs.declared.packet.Packet.{Packet}
 use Rattle.channel_laws.specs.Net.{Net, Goes, bus_changes}
 use Rattle.channel_laws.specs.Rounds.{Passes, nothing, by_bus}
 use Rattle.channel_laws.proofs.Nets.{whole-goes}
-use Rattle.packet_wires.specs.Wires.{Wires, Midst, Outgoing, nothing_sent, on_bus, is_bus, packets_over, with_sent}
+use Rattle.packet_wires.specs.Wires.{Wires, Midst, Outgoing, nothing_sent, on_bus, packets_over, with_sent}
 use Rattle.packet_wires.proofs.Rooms.{all-there}
 use Rattle.packet_nets.specs.Tied.{IsTied}
 use Rattle.packet_nets.specs.Owing.{on_both}

@@ -6,7 +6,7 @@ use Rattle.tal_tree.specs.declared.site.Site.{Site}
 use Rattle.schedule.specs.declared.event.Event.{Event}
 use Rattle.schedule.specs.declared.event.Event.TheVariants.{Run, Enter, Deliver, Lose, Repeat, Tick, Fail, Reload}
 use Rattle.schedule.specs.declared.event.Event.TheVariants.{Drive}
-use Rattle.packet_words.specs.declared.bus_name.BusName.{BusName}
+use Rattle.schedule.specs.declared.bus_name.BusName.{BusName}
 use Rattle.packet_words.specs.declared.packet.Packet.{Packet}
 use Rattle.link_control.specs.Ends.{new_end}
 use Rattle.alive_regroup.specs.Watching as watching
@@ -28,7 +28,7 @@ use Rattle.site_machine.specs.message_layout.specs.Reading.{understood}
 use Rattle.site_machine.specs.packet_wires.specs.Nodes.{Node, all_nodes, end_at, never_reloaded, node_at_boot}
 use Rattle.site_machine.specs.packet_wires.specs.Nodes.{nodes_at_boot}
 use Rattle.site_machine.specs.packet_wires.specs.Parcels.{parcels_of}
-use Rattle.site_machine.specs.packet_wires.specs.Wires.{Wires, Midst, bus_named, midst_after_arrival, midst_after_tick}
+use Rattle.site_machine.specs.packet_wires.specs.Wires.{Wires, Midst, midst_after_arrival, midst_after_tick}
 use Rattle.site_machine.specs.packet_wires.specs.Wires.{cut_off}
 use Rattle.site_machine.specs.packet_wires.specs.Play.{Packeted, Underway, underway, after_done, made_by, after_any}
 use Rattle.site_machine.specs.packet_wires.specs.Play.{marked_by}
@@ -207,9 +207,9 @@ module _ (n : ℕ) where
         made-goes (underway s) (run_done s.site number s.world) (run-none s.site s.world number) all
     acted-goes (Enter terminal) =
         made-goes (underway s) (enter_done s.site terminal s.world) (enter-none s.site s.world terminal) all
-    acted-goes (Deliver y k) = deliver-goes (bus_named y) (packet_at s (bus_named y) k)
-    acted-goes (Lose y k) = lose-goes (packet_at s (bus_named y) k)
-    acted-goes (Repeat y k) = repeat-goes (bus_named y) (packet_at s (bus_named y) k)
+    acted-goes (Deliver bus k) = deliver-goes bus (packet_at s bus k)
+    acted-goes (Lose bus k) = lose-goes (packet_at s bus k)
+    acted-goes (Repeat bus k) = repeat-goes bus (packet_at s bus k)
     acted-goes (Tick node) = tick-goes node
     acted-goes (Fail processor) = fail-goes processor (slice_get s.world.stopped processor)
     acted-goes (Reload processor) = reload-goes processor

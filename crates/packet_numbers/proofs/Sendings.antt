@@ -10,6 +10,7 @@ use Rattle.gd_words.proofs.Among.{among-either}
 use Rattle.tal_tree.specs.declared.site.Site.{Site}
 use Rattle.tal_tree.specs.declared.site.Who.{Who}
 use Rattle.tal_tree.specs.declared.site.Who.TheVariants as who
+use Rattle.schedule.specs.declared.bus_name.BusName.TheVariants as bus
 use Rattle.schedule.specs.declared.event.Event.{Event}
 use Rattle.schedule.specs.declared.event.Event.TheVariants.{Run, Enter, Deliver, Fail}
 use Rattle.plain_semantics.specs.Openers.{openers_of}
@@ -194,12 +195,12 @@ module _ (site : Site) (fit : IsFit site) (small : IsSmall site) (out : IsLaidOu
         all-among done.world (done.sendings ++ sent_again site post.world done.world node processor)
         (λ sending among. elim (among-either sending done.sendings
         (sent_again site post.world done.world node processor) among) [
-          | inl new ↦ new-within (Deliver false 0) after (MarkingDown node processor) done.sendings plays change sending
+          | inl new ↦ new-within (Deliver bus.X 0) after (MarkingDown node processor) done.sendings plays change sending
               new
           | inr again ↦ let one = again-is site post.world done.world node processor sending again in
-              goes-within (events ++ Deliver false 0 ∷ []) after (few-more (Deliver false 0))
+              goes-within (events ++ Deliver bus.X 0 ∷ []) after (few-more (Deliver bus.X 0))
               (played_more played plays) sending.message
-              (again-sent (Deliver false 0) after plays sending.message one)
+              (again-sent (Deliver bus.X 0) after plays sending.message one)
               (again-new site done.world sending.message one)
         ])
       where
@@ -209,7 +210,7 @@ module _ (site : Site) (fit : IsFit site) (small : IsSmall site) (out : IsLaidOu
         after : Post
         after = post_after_down site node processor done.sendings done.world post
 
-        plays : PlaysEvent site post (Deliver false 0) after
+        plays : PlaysEvent site post (Deliver bus.X 0) after
         plays = plays_mark node processor change
 
     -- Messages that come

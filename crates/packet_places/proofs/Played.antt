@@ -5,7 +5,7 @@ use Rattle.gd_words.specs.Members.{IsAmong}
 use Rattle.gd_words.proofs.Among.{among-either}
 use Rattle.tal_tree.specs.declared.site.Site.{Site}
 use Rattle.schedule.specs.declared.event.Event.TheVariants.{Run, Enter, Deliver, Lose, Repeat, Tick, Fail, Drive}
-use Rattle.packet_words.specs.declared.bus_name.BusName.{BusName}
+use Rattle.schedule.specs.declared.bus_name.BusName.{BusName}
 use Rattle.packet_words.specs.declared.packet.Packet.{Packet}
 use Rattle.alive_regroup.specs.Watching as watching
 use Rattle.alive_regroup.specs.Watching.{changed_at}
@@ -34,7 +34,7 @@ use Rattle.message_layout.specs.Messages.{NodeMessage, Carrying, Changing, Repor
 use Rattle.message_layout.specs.Reading.{understood}
 use Rattle.packet_wires.specs.Nodes.{end_at}
 use Rattle.packet_wires.specs.Parcels.{Parcel, parcel_of, parcels_of}
-use Rattle.packet_wires.specs.Wires.{Wires, Midst, bus_named, goes_over, midst_after_arrival, learns, midst_after_tick}
+use Rattle.packet_wires.specs.Wires.{Wires, Midst, goes_over, midst_after_arrival, learns, midst_after_tick}
 use Rattle.packet_wires.specs.Wires.{cut_off}
 use Rattle.packet_wires.specs.Play.{Packeted, Underway, underway, after_done, made_by, after_any, after_marked}
 use Rattle.packet_wires.specs.Play.{marked_by}
@@ -209,34 +209,34 @@ deliver-found name s packet = by (comes_in packet s)
         (words-stay packet.receiver (message_at_end packet (end_at s.wires.nodes packet.receiver packet.sender))
         (record s { wires = midst_after_arrival name packet s.wires }))
 
-pub deliver-stays : (s next : Packeted) (y : Bool) (k : ℕ) (packet : Packet)
-    → packet_at s (bus_named y) k ≡ Some packet → play s (Deliver y k) ≡ Makes next
+pub deliver-stays : (s next : Packeted) (bus : BusName) (k : ℕ) (packet : Packet)
+    → packet_at s bus k ≡ Some packet → play s (Deliver bus k) ≡ Makes next
     → StaysElsewhere packet.receiver s next
-deliver-stays s next y k packet there made =
+deliver-stays s next bus k packet there made =
     subst (StaysIf packet.receiver s) (ap (λ o.
-    ended (taken_off (Deliver y k) s.wires) (deliver_acted (bus_named y) (underway s) o)) (sym there) ∙ made)
-    (over-stays packet.receiver s (taken_off (Deliver y k) s.wires)
-    (deliver_acted (bus_named y) (underway s) (Some packet)) (deliver-found (bus_named y) (underway s) packet))
+    ended (taken_off (Deliver bus k) s.wires) (deliver_acted bus (underway s) o)) (sym there) ∙ made)
+    (over-stays packet.receiver s (taken_off (Deliver bus k) s.wires)
+    (deliver_acted bus (underway s) (Some packet)) (deliver-found bus (underway s) packet))
 
-pub lose-stays : (s next : Packeted) (y : Bool) (k node : ℕ) → play s (Lose y k) ≡ Makes next
+pub lose-stays : (s next : Packeted) (bus : BusName) (k node : ℕ) → play s (Lose bus k) ≡ Makes next
     → StaysElsewhere node s next
-lose-stays s next y k node made =
-    subst (StaysIf node s) made (over-stays node s (taken_off (Lose y k) s.wires) (acted s (Lose y k))
-    (by (packet_at s (bus_named y) k)))
+lose-stays s next bus k node made =
+    subst (StaysIf node s) made (over-stays node s (taken_off (Lose bus k) s.wires) (acted s (Lose bus k))
+    (by (packet_at s bus k)))
   where
     by : (found : Option Packet) → KeepsIf node (underway s) (lose_acted (underway s) found)
     by None = tt
     by (Some packet) = same-stays (underway s)
 
-pub repeat-stays : (s next : Packeted) (y : Bool) (k node : ℕ) → play s (Repeat y k) ≡ Makes next
+pub repeat-stays : (s next : Packeted) (bus : BusName) (k node : ℕ) → play s (Repeat bus k) ≡ Makes next
     → StaysElsewhere node s next
-repeat-stays s next y k node made =
-    subst (StaysIf node s) made (over-stays node s (taken_off (Repeat y k) s.wires) (acted s (Repeat y k))
-    (by (packet_at s (bus_named y) k)))
+repeat-stays s next bus k node made =
+    subst (StaysIf node s) made (over-stays node s (taken_off (Repeat bus k) s.wires) (acted s (Repeat bus k))
+    (by (packet_at s bus k)))
   where
-    by : (found : Option Packet) → KeepsIf node (underway s) (repeat_acted (bus_named y) (underway s) found)
+    by : (found : Option Packet) → KeepsIf node (underway s) (repeat_acted bus (underway s) found)
     by None = tt
-    by (Some packet) = wires-stay (underway s) (goes_over (bus_named y) packet (underway s).wires) (λ x n. refl)
+    by (Some packet) = wires-stay (underway s) (goes_over bus packet (underway s).wires) (λ x n. refl)
 
 -- Runs and entries
 

@@ -7,6 +7,8 @@ use Rattle.std.proofs.lemmas.Option.{slice_get_within}
 use Rattle.std.specs.Option.{option_to_list}
 use Rattle.gd_words.specs.Members.{IsAmong}
 use Rattle.tal_tree.specs.declared.site.Site.{Site}
+use Rattle.schedule.specs.declared.bus_name.BusName.TheVariants as bus
+use Rattle.schedule.specs.declared.bus_name.BusName.{BusName}
 use Rattle.schedule.specs.declared.event.Event.{Event}
 use Rattle.schedule.specs.declared.event.Event.TheVariants.{Run, Enter, Deliver, Lose, Repeat, Tick, Fail, Reload}
 use Rattle.schedule.specs.declared.event.Event.TheVariants.{Drive}
@@ -16,7 +18,7 @@ use Rattle.world_semantics.proofs.Lists.{set-there, set-other}
 use Rattle.channel_laws.specs.Net.{Net, Runs}
 use Rattle.channel_laws.specs.Rounds.{Passes, nothing}
 use Rattle.machine_states.specs.States.{Played, Makes, Skips}
-use Rattle.packet_wires.specs.Wires.{Wires, bus_named}
+use Rattle.packet_wires.specs.Wires.{Wires}
 use Rattle.packet_wires.specs.Play.{Packeted, underway, deliver_acted, ended, packet_at, play, taken_off}
 use Rattle.packet_wires.specs.Runs.{IsPlayed, played_none, played_more, skipped}
 use Rattle.packets_laws.specs.packet_nets.proofs.Nodes.{Same, are, differ, same}
@@ -124,9 +126,9 @@ net-on s event next n few is made runs = by event made
     by : (event : Event) → play s event ≡ Makes next → (m : Net) × IsNetOf next m
     by (Run number) made = plain (Run number) tt made
     by (Enter terminal) made = plain (Enter terminal) tt made
-    by (Deliver y k) made = plain (Deliver y k) tt made
-    by (Lose y k) made = plain (Lose y k) tt made
-    by (Repeat y k) made = plain (Repeat y k) tt made
+    by (Deliver bus k) made = plain (Deliver bus k) tt made
+    by (Lose bus k) made = plain (Lose bus k) tt made
+    by (Repeat bus k) made = plain (Repeat bus k) tt made
     by (Tick node) made = plain (Tick node) tt made
     by (Fail processor) made = plain (Fail processor) tt made
     by (Reload processor) made = reload-netted s next processor n few is made
@@ -176,49 +178,49 @@ pub record GoesThrough (a b : ℕ) (s : Packeted) (event : Event) (next : Packet
   pub few : length next.world.stopped ≤ 16
   pub came : List Packet
   pub passes : Passes a b n came net
-  pub comes : (bus : Bool) (p : Packet) → IsAmong p (delivered_of bus event (buses_of s bus)) → IsAmong p came
+  pub comes : (bus : BusName) (p : Packet) → IsAmong p (delivered_of bus event (buses_of s bus)) → IsAmong p came
 
 -- what an event delivers of a bus is the packet that it names
 comes-named : (s : Packeted) (event : Event) (came : List Packet)
     → ((p : Packet) → delivered s event ≡ Some p → IsAmong p came)
-    → (bus : Bool) (p : Packet) → IsAmong p (delivered_of bus event (buses_of s bus)) → IsAmong p came
+    → (bus : BusName) (p : Packet) → IsAmong p (delivered_of bus event (buses_of s bus)) → IsAmong p came
 comes-named s (Run number) came named bus p among = absurd among
 comes-named s (Enter terminal) came named bus p among = absurd among
-comes-named s (Lose y k) came named bus p among = absurd among
-comes-named s (Repeat y k) came named bus p among = absurd among
+comes-named s (Lose one k) came named bus p among = absurd among
+comes-named s (Repeat one k) came named bus p among = absurd among
 comes-named s (Tick node) came named bus p among = absurd among
 comes-named s (Fail processor) came named bus p among = absurd among
 comes-named s (Reload processor) came named bus p among = absurd among
 comes-named s (Drive event) came named bus p among = absurd among
-comes-named s (Deliver y k) came named bus p among = by y bus named among
+comes-named s (Deliver one k) came named name p among = by one name named among
   where
-    one : (o : Option Packet) → ((q : Packet) → o ≡ Some q → IsAmong q came) → IsAmong p (option_to_list o)
+    there : (o : Option Packet) → ((q : Packet) → o ≡ Some q → IsAmong q came) → IsAmong p (option_to_list o)
         → IsAmong p came
-    one None named among = absurd among
-    one (Some q) named (inl is) = named p (ap Some (sym is))
-    one (Some q) named (inr none) = absurd none
+    there None named among = absurd among
+    there (Some q) named (inl is) = named p (ap Some (sym is))
+    there (Some q) named (inr none) = absurd none
 
-    by : (y bus : Bool) → ((q : Packet) → packet_at s (bus_named y) k ≡ Some q → IsAmong q came)
-        → IsAmong p (delivered_of bus (Deliver y k) (buses_of s bus)) → IsAmong p came
-    by false false named among = one (slice_get s.wires.x k) named among
-    by false true named among = absurd among
-    by true false named among = absurd among
-    by true true named among = one (slice_get s.wires.y k) named among
+    by : (one name : BusName) → ((q : Packet) → packet_at s one k ≡ Some q → IsAmong q came)
+        → IsAmong p (delivered_of name (Deliver one k) (buses_of s name)) → IsAmong p came
+    by bus.X bus.X named among = there (slice_get s.wires.x k) named among
+    by bus.X bus.Y named among = absurd among
+    by bus.Y bus.X named among = absurd among
+    by bus.Y bus.Y named among = there (slice_get s.wires.y k) named among
 
 -- what is skipped delivers nothing
 none-delivered : (s : Packeted) (event : Event) → play s event ≡ Skips → (p : Packet) → delivered s event ≡ Some p → ⊥
 none-delivered s (Run number) skips p is = absurd (cc)
 none-delivered s (Enter terminal) skips p is = absurd (cc)
-none-delivered s (Lose y k) skips p is = absurd (cc)
-none-delivered s (Repeat y k) skips p is = absurd (cc)
+none-delivered s (Lose bus k) skips p is = absurd (cc)
+none-delivered s (Repeat bus k) skips p is = absurd (cc)
 none-delivered s (Tick node) skips p is = absurd (cc)
 none-delivered s (Fail processor) skips p is = absurd (cc)
 none-delivered s (Reload processor) skips p is = absurd (cc)
 none-delivered s (Drive event) skips p is = absurd (cc)
-none-delivered s (Deliver y k) skips p is = absurd (by (packet_at s (bus_named y) k) is skips)
+none-delivered s (Deliver bus k) skips p is = absurd (by (packet_at s bus k) is skips)
   where
-    by : (o : Option Packet) → o ≡ Some p → ended (taken_off (Deliver y k) s.wires)
-        (deliver_acted (bus_named y) (underway s) o) ≡ Skips → ⊥
+    by : (o : Option Packet) → o ≡ Some p → ended (taken_off (Deliver bus k) s.wires)
+        (deliver_acted bus (underway s) o) ≡ Skips → ⊥
     by None is skips = absurd (cc)
     by (Some q) is skips = absurd (cc)
 

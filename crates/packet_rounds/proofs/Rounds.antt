@@ -7,6 +7,8 @@ use Rattle.std.proofs.lemmas.Option.{slice_get_within}
 use Rattle.gd_words.specs.Members.{IsAmong}
 use Rattle.gd_words.proofs.Among.{among-left, among-right, among-either}
 use Rattle.tal_tree.specs.declared.site.Site.{Site}
+use Rattle.schedule.specs.declared.bus_name.BusName.TheVariants as bus
+use Rattle.schedule.specs.declared.bus_name.BusName.{BusName}
 use Rattle.schedule.specs.declared.event.Event.{Event}
 use Rattle.schedule.specs.declared.event.Event.TheVariants.{Tick, Fail}
 use Rattle.player.specs.declared.standing.Sizes.{Sizes}
@@ -69,12 +71,12 @@ passes-on p (by_stop x na nb q) = by_stop x na nb (passes-on p q)
 passes-on p (by_mark x y gone q) = by_mark x y gone (passes-on p q)
 
 -- in a round that began with a net: the end of a with b has still to tick, and all that the buses delivered has come
-record StillToTick (a b : ℕ) (start : Net) (came : Bool → List Packet) (s : Packeted) : Type 0 where
+record StillToTick (a b : ℕ) (start : Net) (came : BusName → List Packet) (s : Packeted) : Type 0 where
   net : Net
   is : IsNetOf s net
   all : List Packet
   passes : Passes a b start all net
-  comes : (bus : Bool) (p : Packet) → IsAmong p (came bus) → IsAmong p all
+  comes : (bus : BusName) (p : Packet) → IsAmong p (came bus) → IsAmong p all
 
 -- or it has ticked, and so a round from a to b was made
 record HasTicked (a b : ℕ) (start : Net) (s : Packeted) : Type 0 where
@@ -82,12 +84,12 @@ record HasTicked (a b : ℕ) (start : Net) (s : Packeted) : Type 0 where
   is : IsNetOf s net
   round : IsRound a b start net
 
-record IsUnderWay (a b : ℕ) (start : Net) (came : Bool → List Packet) (at : Place) (s : Packeted) : Type 0 where
+record IsUnderWay (a b : ℕ) (start : Net) (came : BusName → List Packet) (at : Place) (s : Packeted) : Type 0 where
   few : length s.world.stopped ≤ 16
   so_far : StillToTick a b start came s ⊎ HasTicked a b start s
   ticked : a < ticked_in at → HasTicked a b start s
 
-still-on : (a b : ℕ) (start : Net) (came : Bool → List Packet) (s : Packeted) (event : Event) (next : Packeted)
+still-on : (a b : ℕ) (start : Net) (came : BusName → List Packet) (s : Packeted) (event : Event) (next : Packeted)
     (t : StillToTick a b start came s) → GoesThrough a b s event next t.net
     → StillToTick a b start (λ bus. came bus ++ delivered_of bus event (buses_of s bus)) next
 still-on a b start came s event next t q = record {
@@ -101,7 +103,7 @@ still-on a b start came s event next t q = record {
   ];
 }
 
-still-same : (a b : ℕ) (start : Net) (came : Bool → List Packet) (s : Packeted) (event : Event) (next : Packeted)
+still-same : (a b : ℕ) (start : Net) (came : BusName → List Packet) (s : Packeted) (event : Event) (next : Packeted)
     (t : StillToTick a b start came s) → GoesThrough a b s event next t.net → StillToTick a b start came next
 still-same a b start came s event next t q = record {
   net = q.net;
@@ -136,9 +138,9 @@ turn-takes (ticks node low came at) = (tt, tt)
 turn-takes (ends came all) = (tt, tt)
 
 -- its own tick, when all that was on the buses has come
-now-ticks : (a b : ℕ) (start : Net) (first : Packeted) → IsNetOf first start → (came : Bool → List Packet)
+now-ticks : (a b : ℕ) (start : Net) (first : Packeted) → IsNetOf first start → (came : BusName → List Packet)
     (s next : Packeted) → length s.world.stopped ≤ 16
-    → ((bus : Bool) → IsGrown (buses_of first bus) (came bus)) → IsClear s (Tick a) → play s (Tick a) ≡ Makes next
+    → ((bus : BusName) → IsGrown (buses_of first bus) (came bus)) → IsClear s (Tick a) → play s (Tick a) ≡ Makes next
     → is_running next.world.stopped a ≡ true → is_running next.world.stopped b ≡ true → StillToTick a b start came s
     → HasTicked a b start next
 now-ticks a b start first is came s next few grown clear made here there t =
@@ -156,10 +158,10 @@ now-ticks a b start first is came s next few grown clear made here there t =
     }
   where
     flew : (p : Packet) → IsAmong p first.wires.x ⊎ IsAmong p first.wires.y → IsAmong p t.all
-    flew p (inl on) = t.comes false p
-        (subst (IsAmong p) (sym (grown false).1) (among-left p first.wires.x (grown false).0 on))
-    flew p (inr on) = t.comes true p
-        (subst (IsAmong p) (sym (grown true).1) (among-left p first.wires.y (grown true).0 on))
+    flew p (inl on) = t.comes bus.X p
+        (subst (IsAmong p) (sym (grown bus.X).1) (among-left p first.wires.x (grown bus.X).0 on))
+    flew p (inr on) = t.comes bus.Y p
+        (subst (IsAmong p) (sym (grown bus.Y).1) (among-left p first.wires.y (grown bus.Y).0 on))
 
 -- a node that runs ticks
 module _ (node : ℕ) (s : Underway) where
@@ -196,9 +198,9 @@ pub clear-buses : HasBuses buses_of IsClearPlay
 clear-buses s event next g = has-buses s event next g.1
 
 -- its own tick in a round
-own-tick : (a b : ℕ) (start : Net) (first : Packeted) → IsNetOf first start → (came : Bool → List Packet)
+own-tick : (a b : ℕ) (start : Net) (first : Packeted) → IsNetOf first start → (came : BusName → List Packet)
     (s next : Packeted) → length s.world.stopped ≤ 16
-    → ((bus : Bool) → IsGrown (buses_of first bus) (came bus)) → IsClearPlay s (Tick a) next
+    → ((bus : BusName) → IsGrown (buses_of first bus) (came bus)) → IsClearPlay s (Tick a) next
     → is_running next.world.stopped a ≡ true → is_running next.world.stopped b ≡ true
     → StillToTick a b start came s ⊎ HasTicked a b start s → HasTicked a b start next
 own-tick a b start first is came s next few grown g here there (inr t) =
@@ -212,7 +214,7 @@ no-tick : {A : Type 0} (a : ℕ) → a < 0 → A
 no-tick a low = absurd (omega (arith, low))
 
 -- who runs in a round ran as it began
-round-ran : (sizes : Sizes) (first : Packeted) (came : Bool → List Packet) (at : Place) (s : Packeted)
+round-ran : (sizes : Sizes) (first : Packeted) (came : BusName → List Packet) (at : Place) (s : Packeted)
     → InRound sizes buses_of IsClearPlay first came at s → (q : ℕ) → is_running s.world.stopped q ≡ true
     → is_running first.world.stopped q ≡ true
 round-ran sizes first _ _ _ begins q here = here
@@ -232,15 +234,15 @@ rounds-ran sizes first _ _ (one_more {k = k} {s = s} {next = next} rounds round)
 module _ (sizes : Sizes) (a b : ℕ) (first : Packeted) (start : Net) (is : IsNetOf first start)
     (few : length first.world.stopped ≤ 16) where
   -- what is due of both buses has come where nothing is due
-  grown-by : (came : Bool → List Packet) (at : Place) (s : Packeted)
+  grown-by : (came : BusName → List Packet) (at : Place) (s : Packeted)
       → InRound sizes buses_of IsClearPlay first came at s
-      → AllCame (length s.wires.x) (length s.wires.y) at → (bus : Bool) → IsGrown (buses_of first bus) (came bus)
-  grown-by came at s made all false = all-came (buses_of first false) (came false) (buses_of s false) _ all.0
-      (still-due sizes buses_of IsClearPlay clear-buses first came at s made false)
-  grown-by came at s made all true = all-came (buses_of first true) (came true) (buses_of s true) _ all.1
-      (still-due sizes buses_of IsClearPlay clear-buses first came at s made true)
+      → AllCame (length s.wires.x) (length s.wires.y) at → (bus : BusName) → IsGrown (buses_of first bus) (came bus)
+  grown-by came at s made all bus.X = all-came (buses_of first bus.X) (came bus.X) (buses_of s bus.X) _ all.0
+      (still-due sizes buses_of IsClearPlay clear-buses first came at s made bus.X)
+  grown-by came at s made all bus.Y = all-came (buses_of first bus.Y) (came bus.Y) (buses_of s bus.Y) _ all.1
+      (still-due sizes buses_of IsClearPlay clear-buses first came at s made bus.Y)
 
-  either-on : (came : Bool → List Packet) (s : Packeted) (event : Event) (next : Packeted)
+  either-on : (came : BusName → List Packet) (s : Packeted) (event : Event) (next : Packeted)
       → length s.world.stopped ≤ 16 → IsOfRounds event
       → IsClearPlay s event next → is_running next.world.stopped a ≡ true → is_running next.world.stopped b ≡ true
       → StillToTick a b start came s ⊎ HasTicked a b start s
@@ -257,7 +259,7 @@ module _ (sizes : Sizes) (a b : ℕ) (first : Packeted) (start : Net) (is : IsNe
   done-on s event next few takes g here there t =
       ticked-on a b start s event next t (goes-through s event next t.net a b few t.is takes g here there)
 
-  few-on : (came : Bool → List Packet) (s : Packeted) (event : Event) (next : Packeted)
+  few-on : (came : BusName → List Packet) (s : Packeted) (event : Event) (next : Packeted)
       → length s.world.stopped ≤ 16 → IsOfRounds event
       → IsClearPlay s event next → is_running next.world.stopped a ≡ true → is_running next.world.stopped b ≡ true
       → StillToTick a b start came s ⊎ HasTicked a b start s → length next.world.stopped ≤ 16
@@ -267,7 +269,7 @@ module _ (sizes : Sizes) (a b : ℕ) (first : Packeted) (start : Net) (is : IsNe
       (goes-through s event next t.net a b few t.is takes g here there).few
 
   -- the turn of the node a, or another one
-  at-turn : (came : Bool → List Packet) (from : Place) (s : Packeted) (event : Event) (to : Place) (next : Packeted)
+  at-turn : (came : BusName → List Packet) (from : Place) (s : Packeted) (event : Event) (to : Place) (next : Packeted)
       → InRound sizes buses_of IsClearPlay first came from s → IsUnderWay a b start came from s
       → Turns sizes (length s.wires.x) (length s.wires.y) from event to → is_before to ≡ false
       → IsClearPlay s event next → is_running next.world.stopped a ≡ true → is_running next.world.stopped b ≡ true
@@ -285,7 +287,7 @@ module _ (sizes : Sizes) (a b : ℕ) (first : Packeted) (start : Net) (is : IsNe
       by (differ other) =
           done-on s (Tick node) next k.few (tt, tt) g here there (k.ticked (omega (arith, past, at, other)))
 
-  under-way : (came : Bool → List Packet) (at : Place) (s : Packeted)
+  under-way : (came : BusName → List Packet) (at : Place) (s : Packeted)
       → InRound sizes buses_of IsClearPlay first came at s
       → is_running s.world.stopped a ≡ true → is_running s.world.stopped b ≡ true → IsUnderWay a b start came at s
   under-way _ _ _ begins here there = record {

@@ -1,6 +1,7 @@
 -- A site of two processors, for the guards: its buses as they are given, and drain rounds after a piece was lost.
-use Rattle.std.specs.Prelude.{ℕ, zero, suc, Bool, false, List, [], ◌∷◌, ◌++◌, length, replicate, Option}
+use Rattle.std.specs.Prelude.{ℕ, zero, suc, Bool, List, [], ◌∷◌, ◌++◌, length, replicate, Option}
 use Rattle.std.specs.Option.{option_map}
+use Rattle.schedule.specs.declared.bus_name.BusName.TheVariants as bus
 use Rattle.schedule.specs.declared.event.Event.{Event}
 use Rattle.schedule.specs.declared.event.Event.TheVariants.{Enter, Lose, Run, Tick}
 use Rattle.packet_words.specs.declared.packet.Packet.{Packet}
@@ -22,7 +23,7 @@ four_ticks = Tick 0 ∷ three_ticks
 
 -- the first request of the terminal is lost
 abbrev pub request_lost : Packeted
-request_lost = end_of adder_at_boot (Enter 0 ∷ Lose false 0 ∷ [])
+request_lost = end_of adder_at_boot (Enter 0 ∷ Lose bus.X 0 ∷ [])
 
 -- a drain round of the site: the terminal, the process, both buses, and the nodes
 abbrev pub drain_round : Packeted → Packeted

@@ -1,15 +1,15 @@
 -- What a schedule plays over packets.
-use Rattle.std.specs.Prelude.{◌≡◌, ◌⊎◌, Bool, true, false, List}
+use Rattle.std.specs.Prelude.{◌≡◌, ◌⊎◌, List}
+use Rattle.schedule.specs.declared.bus_name.BusName.{BusName}
 use Rattle.schedule.specs.declared.event.Event.{Event}
 pub use Rattle.agendas.specs.Sizes.{sizes_of}
 use Rattle.packet_words.specs.declared.packet.Packet.{Packet}
 use Rattle.machine_states.specs.States.{Makes, Skips}
 use Rattle.packet_wires.specs.Play.{Packeted, IsClear, play}
+use Rattle.packet_wires.specs.Wires.{on_bus}
 
--- events name bus Y by true
-abbrev pub buses_of : Packeted → Bool → List Packet
-buses_of s false = s.wires.x
-buses_of s true = s.wires.y
+abbrev pub buses_of : Packeted → BusName → List Packet
+buses_of s name = on_bus name s.wires
 
 -- an event makes the next state, or it is skipped and leaves the state
 abbrev pub IsPlay : Packeted → Event → Packeted → Type 0

@@ -1,6 +1,7 @@
-ghost use Rattle.std.specs.Prelude.{◌≡◌, ◌≤◌, ℕ, ◌+◌, Bool, true, List, Some};
+ghost use Rattle.std.specs.Prelude.{◌≡◌, ◌≤◌, ℕ, ◌+◌, true, List, Some};
 ghost use Rattle.gd_words.specs.declared.limits.TheConstants.{MOST_PROCESSORS};
 ghost use Rattle.tal_tree.specs.declared.site.Site.{Site};
+ghost use Rattle.schedule.specs.declared.bus_name.BusName.{BusName};
 ghost use Rattle.schedule.specs.declared.event.Counts.{Counts};
 ghost use Rattle.schedule.specs.declared.event.Event.{Event};
 ghost use Rattle.schedule.specs.declared.line.Line.{Line};
@@ -23,7 +24,7 @@ ghost use Rattle.packet_rounds.specs.Played.{IsClearPlay, IsPlay, buses_of, size
 /// comes off a bus begins with what was on it.
 pub fn a_round_over_packets_delivers_all()
     ensures { (sizes : Sizes) (start next : Packeted) → (r : IsWholeRound sizes buses_of IsPlay start next)
-        → (bus : Bool) → IsGrown (buses_of start bus) (r.came bus) }
+        → (bus : BusName) → IsGrown (buses_of start bus) (r.came bus) }
 {}
 
 /// Four whole rounds in a row of one `drain` or `until` line, or more, end each piece that was outstanding as they

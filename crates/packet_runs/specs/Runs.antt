@@ -1,6 +1,8 @@
 -- The machine over packets, as a schedule is played on it.
 use Rattle.std.specs.Prelude.{ℕ, Bool, true, false, List, Option, Some, None}
 use Rattle.tal_tree.specs.declared.site.Site.{Site}
+use Rattle.schedule.specs.declared.bus_name.BusName.{BusName}
+use Rattle.schedule.specs.declared.bus_name.BusName.TheVariants as bus
 use Rattle.schedule.specs.declared.event.Counts.{Counts}
 use Rattle.schedule.specs.declared.line.Line.{Line}
 pub use Rattle.agendas.specs.Sizes.{sizes_of}
@@ -13,7 +15,7 @@ use Rattle.packet_words.specs.declared.packet.PacketKind.{PacketKind}
 use Rattle.packet_words.specs.declared.packet.PacketKind.TheVariants.{Alive}
 use Rattle.site_machine.specs.packet_wires.specs.Idle.{is_idle}
 use Rattle.site_machine.specs.packet_wires.specs.Play.{Packeted, count_on, packet_at, packeted_at_boot, play}
-use Rattle.site_machine.specs.packet_wires.specs.Wires.{Wires, bus_named}
+use Rattle.site_machine.specs.packet_wires.specs.Wires.{Wires}
 use Rattle.schedule_loop.specs.Ends.{Course}
 use Rattle.schedule_loop.specs.Rules.{Rules}
 use Rattle.site_machine.specs.Seen.{closed_state}
@@ -23,10 +25,10 @@ abbrev pub course_on : Site → List Line → Option ProcessorStop → Course Wi
 course_on site lines stop =
     record { sizes = sizes_of site; start = packeted_at_boot site; lines = lines; stop = stop }
 
--- the packet that is meant, by whether it is on bus Y and its position
-abbrev pub packet_meant : Packeted → Option (Bool × ℕ) → Option Packet
+-- the packet that is meant, by its bus and its position there
+abbrev pub packet_meant : Packeted → Option (BusName × ℕ) → Option Packet
 packet_meant s None = None
-packet_meant s (Some place) = packet_at s (bus_named place.0) place.1
+packet_meant s (Some place) = packet_at s place.0 place.1
 
 -- the packet that the next event concerns where a player stands, with so many packets on buses X and Y
 abbrev pub concerned : Packeted → ℕ → ℕ → Player → Option Packet
@@ -47,10 +49,10 @@ sender_of (Some packet) = packet.sender
 -- what is counted where a player stands. Where the next event concerns no packet, none is an alive one
 abbrev pub counts_of : Packeted → Player → Counts
 counts_of s player = record {
-  x = count_on s (bus_named false);
-  y = count_on s (bus_named true);
-  alive = is_alive (concerned s (count_on s (bus_named false)) (count_on s (bus_named true)) player);
-  sender = sender_of (concerned s (count_on s (bus_named false)) (count_on s (bus_named true)) player);
+  x = count_on s bus.X;
+  y = count_on s bus.Y;
+  alive = is_alive (concerned s (count_on s bus.X) (count_on s bus.Y) player);
+  sender = sender_of (concerned s (count_on s bus.X) (count_on s bus.Y) player);
   idle = is_idle s;
   writes = writes_in s.world.shown;
   replies = replies_in s.world.shown;

@@ -58,8 +58,8 @@ impl ScheduleMachine for PlayedPackets {
         self.machine.event(event)
     }
 
-    fn deliver_at_once(&mut self, y: bool) -> bool {
-        self.machine.deliver_at_once(y)
+    fn deliver_at_once(&mut self, bus: BusName) -> bool {
+        self.machine.deliver_at_once(bus)
     }
 
     #[inline(always)]

@@ -1,6 +1,8 @@
 -- Worked runs of the adder over packets: which packets are on the buses after each event.
-use Rattle.std.specs.Prelude.{ℕ, zero, suc, ◌==◌, pos, Bool, true, false, if◌then◌else◌, List, [], ◌∷◌, ◌++◌, Option}
+use Rattle.std.specs.Prelude.{ℕ, zero, suc, ◌==◌, pos, if◌then◌else◌, List, [], ◌∷◌, ◌++◌, Option}
 use Rattle.std.specs.Prelude.{Some, None}
+use Rattle.schedule.specs.declared.bus_name.BusName.{BusName}
+use Rattle.schedule.specs.declared.bus_name.BusName.TheVariants as bus
 use Rattle.schedule.specs.declared.event.Event.{Event}
 use Rattle.schedule.specs.declared.event.Event.TheVariants as event
 use Rattle.packet_words.specs.declared.packet.Packet.{Packet}
@@ -14,10 +16,10 @@ adder_at_boot = packeted_at_boot (adder_for (pos 5 ∷ []))
 
 -- the oldest packet on a bus is delivered
 abbrev pub next_x : Event
-next_x = event.Deliver false 0
+next_x = event.Deliver bus.X 0
 
 abbrev pub next_y : Event
-next_y = event.Deliver true 0
+next_y = event.Deliver bus.Y 0
 
 abbrev pub times : ℕ → List Event → List Event
 times zero events = []
@@ -73,7 +75,7 @@ served = end_of (end_of adder_at_boot up_to_checkpoint) up_to_reply
 
 abbrev pub lost_piece : List Event
 lost_piece =
-    event.Enter 0 ∷ event.Lose false 0 ∷ event.Tick 16 ∷ event.Tick 16 ∷ next_y ∷ event.Tick 16 ∷ next_x ∷ next_y
+    event.Enter 0 ∷ event.Lose bus.X 0 ∷ event.Tick 16 ∷ event.Tick 16 ∷ next_y ∷ event.Tick 16 ∷ next_x ∷ next_y
     ∷ next_x ∷ event.Tick 16 ∷ []
 
 abbrev pub buses_of_lost : List Buses
@@ -126,7 +128,7 @@ after_takeover = times 9 (next_x ∷ []) ++ times 12 (run ∷ []) ++ times 8 (ne
 -- What was sent from it and to it before is still on bus X
 
 abbrev pub loaded_0 : Packeted
-loaded_0 = end_of taken_over (event.Deliver false 6 ∷ event.Reload 0 ∷ [])
+loaded_0 = end_of taken_over (event.Deliver bus.X 6 ∷ event.Reload 0 ∷ [])
 
 -- the third piece of processor 0, four I'm-alive packets to it and the report to it come, and nothing answers them
 abbrev pub without_old : Packeted
@@ -147,13 +149,13 @@ abbrev pub three_at_boot : Packeted
 three_at_boot = packeted_at_boot (record (adder_for (pos 5 ∷ [])) { processors = 3 })
 
 -- the oldest packet of a bus is delivered, or lost where this processor sent it
-abbrev pub aimed : ℕ → Bool → Packet → Event
-aimed muted y packet = if packet.sender == muted then event.Lose y 0 else event.Deliver y 0
+abbrev pub aimed : ℕ → BusName → Packet → Event
+aimed muted bus packet = if packet.sender == muted then event.Lose bus 0 else event.Deliver bus 0
 
 -- the oldest packet of bus X, or that of bus Y where none is on bus X
 abbrev pub oldest : ℕ → List Packet → List Packet → Option Event
-oldest muted (packet ∷ rest) y = Some (aimed muted false packet)
-oldest muted [] (packet ∷ rest) = Some (aimed muted true packet)
+oldest muted (packet ∷ rest) y = Some (aimed muted bus.X packet)
+oldest muted [] (packet ∷ rest) = Some (aimed muted bus.Y packet)
 oldest muted [] [] = None
 
 abbrev pub played_if : Packeted → Option Event → Packeted
@@ -188,4 +190,4 @@ buses_held = record {
 -- the message that 1 is down stands twice, and both come to processor 2: the second one is acknowledged as the first
 -- one, and changes nothing else
 abbrev pub down_twice : List Event
-down_twice = event.Repeat false 2 ∷ event.Deliver false 2 ∷ event.Deliver false 3 ∷ []
+down_twice = event.Repeat bus.X 2 ∷ event.Deliver bus.X 2 ∷ event.Deliver bus.X 3 ∷ []

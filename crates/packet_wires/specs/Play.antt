@@ -10,7 +10,7 @@ use Rattle.schedule.specs.declared.event.Event.TheVariants.{Run, Enter, Deliver,
 use Rattle.schedule.specs.declared.event.Event.TheVariants.{Drive}
 use Rattle.packet_words.specs.declared.packet.Packet.{Packet}
 use Rattle.packet_words.specs.declared.packet.PacketKind.{PacketKind}
-use Rattle.packet_words.specs.declared.bus_name.BusName.{BusName}
+use Rattle.schedule.specs.declared.bus_name.BusName.{BusName}
 use Rattle.link_control.specs.Ends.{End, handed_by_packet, is_current}
 use Rattle.alive_regroup.specs.Watching as watching
 use Rattle.alive_regroup.specs.Watching.{changed_at}
@@ -30,7 +30,7 @@ use Rattle.message_layout.specs.Reading.{understood}
 use Rattle.packet_wires.specs.Nodes.{end_at}
 use Rattle.packet_wires.specs.Lines.{line_pulled}
 use Rattle.packet_wires.specs.Parcels.{parcels_of}
-use Rattle.packet_wires.specs.Wires.{Wires, Outgoing, Midst, nothing_sent, wires_at_boot, on_bus, bus_named}
+use Rattle.packet_wires.specs.Wires.{Wires, Outgoing, Midst, nothing_sent, wires_at_boot, on_bus}
 use Rattle.packet_wires.specs.Wires.{without_packet, packets_over, with_sent, goes_over, all_posted}
 use Rattle.packet_wires.specs.Wires.{midst_after_arrival, learns}
 use Rattle.packet_wires.specs.Wires.{midst_after_tick, cut_off, declares, loaded_again}
@@ -224,9 +224,9 @@ packet_at s name k = slice_get (on_bus name s.wires) k
 abbrev pub acted : Packeted → Event → Played Midst
 acted s (Run number) = made_by (underway s) (run_done s.site number s.world)
 acted s (Enter terminal) = made_by (underway s) (enter_done s.site terminal s.world)
-acted s (Deliver y k) = deliver_acted (bus_named y) (underway s) (packet_at s (bus_named y) k)
-acted s (Lose y k) = lose_acted (underway s) (packet_at s (bus_named y) k)
-acted s (Repeat y k) = repeat_acted (bus_named y) (underway s) (packet_at s (bus_named y) k)
+acted s (Deliver bus k) = deliver_acted bus (underway s) (packet_at s bus k)
+acted s (Lose bus k) = lose_acted (underway s) (packet_at s bus k)
+acted s (Repeat bus k) = repeat_acted bus (underway s) (packet_at s bus k)
 acted s (Tick node) = tick_acted node (underway s)
 acted s (Fail processor) = fail_acted processor (underway s) (slice_get s.world.stopped processor)
 acted s (Reload processor) = reload_acted processor (underway s) (reload_done s.site processor s.world)
@@ -236,9 +236,9 @@ acted s (Drive event) = drive_played event (underway s)
 abbrev pub taken_off : Event → Wires → Wires
 taken_off (Run number) wires = wires
 taken_off (Enter terminal) wires = wires
-taken_off (Deliver y k) wires = without_packet (bus_named y) k wires
-taken_off (Lose y k) wires = without_packet (bus_named y) k wires
-taken_off (Repeat y k) wires = wires
+taken_off (Deliver bus k) wires = without_packet bus k wires
+taken_off (Lose bus k) wires = without_packet bus k wires
+taken_off (Repeat bus k) wires = wires
 taken_off (Tick node) wires = wires
 taken_off (Fail processor) wires = wires
 taken_off (Reload processor) wires = wires

@@ -1,11 +1,12 @@
 -- What lies under the world of copies in the machine over packets: both buses and the nodes; and what a node sends,
 -- takes in and does at its ticks. Two buses, packets that are acknowledged and sent again over the other bus, and
 -- I'm-alive packets over both are Bartlett's; numbers and orders are this project's own.
-use Rattle.std.specs.Prelude.{ℕ, ◌==◌, Bool, true, false, ℤ, List, [], ◌∷◌, ◌++◌, map, slice_get, Option, Some, None}
+use Rattle.std.specs.Prelude.{ℕ, ◌==◌, Bool, ℤ, List, [], ◌∷◌, ◌++◌, map, slice_get, Option, Some, None}
 use Rattle.std.specs.Prelude.{if◌then◌else◌}
 use Rattle.std.specs.List.{filter, remove}
-use Rattle.packet_words.specs.declared.bus_name.BusName.{BusName}
-use Rattle.packet_words.specs.declared.bus_name.BusName.TheVariants as bus
+use Rattle.schedule.specs.Buses.{is_bus}
+use Rattle.schedule.specs.declared.bus_name.BusName.{BusName}
+use Rattle.schedule.specs.declared.bus_name.BusName.TheVariants as bus
 use Rattle.packet_words.specs.declared.packet.Packet.{Packet}
 use Rattle.packet_words.specs.declared.packet.PacketKind.{PacketKind}
 use Rattle.packet_words.specs.declared.packet.PacketKind.TheVariants as kind
@@ -58,20 +59,9 @@ abbrev pub with_bus : BusName → List Packet → Wires → Wires
 with_bus bus.X packets wires = record wires { x = packets }
 with_bus bus.Y packets wires = record wires { y = packets }
 
--- events name bus Y by true
-abbrev pub bus_named : Bool → BusName
-bus_named false = bus.X
-bus_named true = bus.Y
-
 -- the bus without the packet at a position
 abbrev pub without_packet : BusName → ℕ → Wires → Wires
 without_packet name k wires = with_bus name (remove (on_bus name wires) k) wires
-
-abbrev pub is_bus : BusName → BusName → Bool
-is_bus bus.X bus.X = true
-is_bus bus.X bus.Y = false
-is_bus bus.Y bus.X = false
-is_bus bus.Y bus.Y = true
 
 -- of what goes out, the packets that go over this bus, in their order
 abbrev pub packets_over : BusName → List Outgoing → List Packet

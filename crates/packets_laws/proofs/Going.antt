@@ -6,7 +6,7 @@ use Rattle.tal_tree.specs.declared.site.Site.{Site}
 use Rattle.schedule.specs.declared.event.Event.{Event}
 use Rattle.schedule.specs.declared.event.Event.TheVariants.{Run, Enter, Deliver, Lose, Repeat, Tick, Fail, Reload}
 use Rattle.schedule.specs.declared.event.Event.TheVariants.{Drive}
-use Rattle.packet_words.specs.declared.bus_name.BusName.{BusName}
+use Rattle.schedule.specs.declared.bus_name.BusName.{BusName}
 use Rattle.packet_words.specs.declared.packet.Packet.{Packet}
 use Rattle.world_semantics.specs.Messages.{Checkpointing}
 use Rattle.world_semantics.specs.Running.{Done, run_done}
@@ -38,7 +38,7 @@ use Rattle.packet_nets.specs.packet_wires.specs.Play.{taken_off}
 use Rattle.packet_nets.specs.packet_wires.specs.Play.{ended, play}
 use Rattle.packet_nets.specs.packet_wires.specs.Nodes.{end_at}
 use Rattle.packet_nets.specs.packet_wires.specs.Runs.{IsPlayed, played_none, played_more, skipped}
-use Rattle.packet_nets.specs.packet_wires.specs.Wires.{Wires, Midst, bus_named, midst_after_arrival, midst_after_tick}
+use Rattle.packet_nets.specs.packet_wires.specs.Wires.{Wires, Midst, midst_after_arrival, midst_after_tick}
 use Rattle.message_wires_laws.specs.machine_states.proofs.Turning.{drive-cases}
 
 -- the site is the same, and so is who has stopped
@@ -178,16 +178,16 @@ acted-goes s (Run number) =
     made-goes (Run number) (underway s) (run_done s.site number s.world) (run-none s.site s.world number)
 acted-goes s (Enter number) =
     made-goes (Enter number) (underway s) (enter_done s.site number s.world) (enter-none s.site s.world number)
-acted-goes s (Deliver y k) =
-    deliver-goes (Deliver y k) (bus_named y) (underway s) (packet_at s (bus_named y) k)
-acted-goes s (Lose y k) = by (packet_at s (bus_named y) k)
+acted-goes s (Deliver bus k) =
+    deliver-goes (Deliver bus k) bus (underway s) (packet_at s bus k)
+acted-goes s (Lose bus k) = by (packet_at s bus k)
   where
-    by : (packet : Option Packet) → Goes (Lose y k) (underway s) (lose_acted (underway s) packet)
+    by : (packet : Option Packet) → Goes (Lose bus k) (underway s) (lose_acted (underway s) packet)
     by None = skips
     by (Some packet) = stops_none refl refl
-acted-goes s (Repeat y k) = by (packet_at s (bus_named y) k)
+acted-goes s (Repeat bus k) = by (packet_at s bus k)
   where
-    by : (packet : Option Packet) → Goes (Repeat y k) (underway s) (repeat_acted (bus_named y) (underway s) packet)
+    by : (packet : Option Packet) → Goes (Repeat bus k) (underway s) (repeat_acted bus (underway s) packet)
     by None = skips
     by (Some packet) = stops_none refl refl
 acted-goes s (Tick node) = tick-goes (Tick node) node (underway s)

@@ -9,8 +9,8 @@ use Rattle.gd_words.proofs.Among.{among-left, among-right, among-either}
 use Rattle.schedule.specs.declared.event.Event.{Event}
 use Rattle.schedule.specs.declared.event.Event.TheVariants.{Run, Enter, Deliver, Lose, Repeat, Tick, Fail, Reload}
 use Rattle.schedule.specs.declared.event.Event.TheVariants.{Drive}
-use Rattle.packet_words.specs.declared.bus_name.BusName.{BusName}
-use Rattle.packet_words.specs.declared.bus_name.BusName.TheVariants as bus
+use Rattle.schedule.specs.declared.bus_name.BusName.{BusName}
+use Rattle.schedule.specs.declared.bus_name.BusName.TheVariants as bus
 use Rattle.packet_words.specs.declared.packet.Packet.{Packet}
 use Rattle.alive_regroup.specs.Watching as watching
 use Rattle.alive_regroup.specs.Watching.{changed_at}
@@ -43,7 +43,7 @@ use Rattle.packet_nets.specs.packet_wires.specs.Play.{tick_acted}
 use Rattle.packet_nets.specs.packet_wires.specs.Play.{packet_at, acted, taken_off, ended, out_of, play, comes_in}
 use Rattle.packet_nets.specs.packet_wires.specs.Play.{is_current_at}
 use Rattle.packet_nets.specs.packet_wires.specs.Play.{pulled_running, reload_acted, stop_acted}
-use Rattle.packet_nets.specs.packet_wires.specs.Wires.{Wires, Midst, bus_named, on_bus, packets_over, without_packet}
+use Rattle.packet_nets.specs.packet_wires.specs.Wires.{Wires, Midst, on_bus, packets_over, without_packet}
 use Rattle.packet_nets.specs.packet_wires.specs.Wires.{all_posted, midst_after_arrival}
 use Rattle.packet_nets.specs.packet_wires.specs.Wires.{midst_after_tick, cut_off, loaded_again, nothing_sent, with_sent}
 use Rattle.packet_nets.specs.Owing.{on_both}
@@ -243,11 +243,11 @@ acted-leads a b s event n few N none = by event none
     by (Run number) none = made-leads (underway s) (run_done s.site number s.world) (run-none s.site s.world number) P
     by (Enter number) none =
         made-leads (underway s) (enter_done s.site number s.world) (enter-none s.site s.world number) P
-    by (Deliver y k) none =
-        deliver-leads (bus_named y) (underway s) (packet_at s (bus_named y) k) (stands-there s (bus_named y) k) P
-    by (Lose y k) none = lose-leads (underway s) (packet_at s (bus_named y) k) P
-    by (Repeat y k) none =
-        repeat-leads (bus_named y) (underway s) (packet_at s (bus_named y) k) (stands-there s (bus_named y) k) P
+    by (Deliver bus k) none =
+        deliver-leads bus (underway s) (packet_at s bus k) (stands-there s bus k) P
+    by (Lose bus k) none = lose-leads (underway s) (packet_at s bus k) P
+    by (Repeat bus k) none =
+        repeat-leads bus (underway s) (packet_at s bus k) (stands-there s bus k) P
     by (Tick node) none = tick-leads node (underway s) P
     by (Fail processor) none = fail-leads processor (underway s) P
     by (Reload processor) none = absurd none
@@ -281,9 +281,9 @@ event-keeps : (s : Packeted) (event : Event) → TakesToDeliver event → (p : P
     → IsAmong p (on_both (taken_off event s.wires)) ⊎ IsAmong p (option_to_list (delivered s event))
 event-keeps s (Run number) takes p among = inl among
 event-keeps s (Enter number) takes p among = inl among
-event-keeps s (Deliver y k) takes p among = bus-or-taken s (bus_named y) k p among
-event-keeps s (Lose y k) takes p among = absurd takes
-event-keeps s (Repeat y k) takes p among = inl among
+event-keeps s (Deliver bus k) takes p among = bus-or-taken s bus k p among
+event-keeps s (Lose bus k) takes p among = absurd takes
+event-keeps s (Repeat bus k) takes p among = inl among
 event-keeps s (Tick node) takes p among = inl among
 event-keeps s (Fail processor) takes p among = inl among
 event-keeps s (Reload processor) takes p among = inl among

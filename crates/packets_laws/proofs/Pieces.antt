@@ -2,7 +2,7 @@
 use Rattle.std.proofs.Common.{◌≡◌, ◌⊎◌, inl, inr, ℕ, ℤ, Bool, true, false, if◌then◌else◌, List, Option, Some, None}
 use Rattle.std.proofs.Common.{refl, sym, subst, ◌∙◌}
 use Rattle.schedule.specs.declared.event.Event.TheVariants.{Deliver, Drive, Lose, Repeat}
-use Rattle.packet_words.specs.declared.bus_name.BusName.{BusName}
+use Rattle.schedule.specs.declared.bus_name.BusName.{BusName}
 use Rattle.packet_words.specs.declared.packet.Packet.{Packet}
 use Rattle.packet_words.specs.declared.packet.PacketKind.{PacketKind}
 use Rattle.packet_words.specs.declared.packet.PacketKind.TheVariants as kind
@@ -19,7 +19,7 @@ use Rattle.packet_nets.specs.packet_wires.specs.Play.{lose_acted}
 use Rattle.packet_nets.specs.packet_wires.specs.Play.{repeat_acted, packet_at, acted, taken_off, ended, play, comes_in}
 use Rattle.packet_nets.specs.packet_wires.specs.Play.{is_current_at}
 use Rattle.world_semantics.proofs.Roles.{both-true}
-use Rattle.packet_nets.specs.packet_wires.specs.Wires.{Wires, Midst, bus_named, midst_after_arrival}
+use Rattle.packet_nets.specs.packet_wires.specs.Wires.{Wires, Midst, midst_after_arrival}
 use Rattle.packets_laws.specs.Pieces.{HandsOver}
 use Rattle.message_wires_laws.specs.machine_states.proofs.Turning.{drive-cases}
 use Rattle.schedule.specs.declared.event.DriveEvent.{DriveEvent}
@@ -102,29 +102,30 @@ deliver-stays s name k (Some packet) there = by (comes_in packet (underway s)) r
         handing both.0 both.1 (message_at_end packet (end_at s.wires.nodes packet.receiver packet.sender)) refl
     by false rests = inl refl
 
-pub deliver-hands : (s next : Packeted) (y : Bool) (k : ℕ) → play s (Deliver y k) ≡ Makes next
-    → (next.world ≡ s.world) ⊎ HandsOver s (bus_named y) k
-deliver-hands s next y k e =
-    subst (Stays s (HandsOver s (bus_named y) k)) e
-    (over-stays s (HandsOver s (bus_named y) k) (taken_off (Deliver y k) s.wires) (acted s (Deliver y k))
-    (deliver-stays s (bus_named y) k (packet_at s (bus_named y) k) refl))
+pub deliver-hands : (s next : Packeted) (bus : BusName) (k : ℕ) → play s (Deliver bus k) ≡ Makes next
+    → (next.world ≡ s.world) ⊎ HandsOver s bus k
+deliver-hands s next bus k e =
+    subst (Stays s (HandsOver s bus k)) e
+    (over-stays s (HandsOver s bus k) (taken_off (Deliver bus k) s.wires) (acted s (Deliver bus k))
+    (deliver-stays s bus k (packet_at s bus k) refl))
 
 abbrev Keeps : Packeted → Played Wires → Type 0
 Keeps s (Makes next) = next.world ≡ s.world
 Keeps s Skips = Unit {0}
 Keeps s (Would harm) = Unit {0}
 
-pub lose-keeps : (s next : Packeted) (y : Bool) (k : ℕ) → play s (Lose y k) ≡ Makes next → next.world ≡ s.world
-lose-keeps s next y k e = subst (Keeps s) e (by (packet_at s (bus_named y) k))
+pub lose-keeps : (s next : Packeted) (bus : BusName) (k : ℕ) → play s (Lose bus k) ≡ Makes next → next.world ≡ s.world
+lose-keeps s next bus k e = subst (Keeps s) e (by (packet_at s bus k))
   where
-    by : (found : Option Packet) → Keeps s (ended (taken_off (Lose y k) s.wires) (lose_acted (underway s) found))
+    by : (found : Option Packet) → Keeps s (ended (taken_off (Lose bus k) s.wires) (lose_acted (underway s) found))
     by None = tt
     by (Some packet) = refl
 
-pub repeat-keeps : (s next : Packeted) (y : Bool) (k : ℕ) → play s (Repeat y k) ≡ Makes next → next.world ≡ s.world
-repeat-keeps s next y k e = subst (Keeps s) e (by (packet_at s (bus_named y) k))
+pub repeat-keeps : (s next : Packeted) (bus : BusName) (k : ℕ) → play s (Repeat bus k) ≡ Makes next
+    → next.world ≡ s.world
+repeat-keeps s next bus k e = subst (Keeps s) e (by (packet_at s bus k))
   where
-    by : (found : Option Packet) → Keeps s (ended s.wires (repeat_acted (bus_named y) (underway s) found))
+    by : (found : Option Packet) → Keeps s (ended s.wires (repeat_acted bus (underway s) found))
     by None = tt
     by (Some packet) = refl
 

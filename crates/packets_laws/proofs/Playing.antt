@@ -6,8 +6,8 @@ use Rattle.gd_words.proofs.Among.{among-at, among-left, among-right}
 use Rattle.schedule.specs.declared.event.Event.{Event}
 use Rattle.schedule.specs.declared.event.Event.TheVariants.{Run, Enter, Deliver, Lose, Repeat, Tick, Fail, Reload}
 use Rattle.schedule.specs.declared.event.Event.TheVariants.{Drive}
-use Rattle.packet_words.specs.declared.bus_name.BusName.{BusName}
-use Rattle.packet_words.specs.declared.bus_name.BusName.TheVariants as bus
+use Rattle.schedule.specs.declared.bus_name.BusName.{BusName}
+use Rattle.schedule.specs.declared.bus_name.BusName.TheVariants as bus
 use Rattle.packet_words.specs.declared.packet.Packet.{Packet}
 use Rattle.alive_regroup.specs.Watching as watching
 use Rattle.alive_regroup.specs.Watching.{changed_at}
@@ -42,7 +42,7 @@ use Rattle.message_wires_laws.proofs.Stopping.{StopsNone, run-none, enter-none, 
 use Rattle.letters_layout.specs.message_layout.specs.Messages.{NodeMessage, Carrying, Changing, Reporting, Declaring}
 use Rattle.letters_layout.specs.message_layout.specs.Reading.{understood}
 use Rattle.packet_nets.specs.packet_wires.specs.Nodes.{end_at}
-use Rattle.packet_nets.specs.packet_wires.specs.Wires.{Wires, Midst, bus_named, goes_over, midst_after_arrival, learns}
+use Rattle.packet_nets.specs.packet_wires.specs.Wires.{Wires, Midst, goes_over, midst_after_arrival, learns}
 use Rattle.packet_nets.specs.packet_wires.specs.Wires.{midst_after_tick}
 use Rattle.packet_nets.specs.packet_wires.specs.Wires.{loaded_again}
 use Rattle.packet_nets.specs.packet_wires.specs.Play.{Packeted, Underway, underway, after_done, made_by, after_any}
@@ -163,16 +163,17 @@ module _ (events : List Event) (on : List Packet) (s : Underway) (owed sent : Li
           let change = enter-may s.site number s.world done e in
           changes (Enter number) (Entering number) done none (λ x same. cc) change (plays_enter change)
 
-  lose-on : (y : Bool) (k : ℕ) (packet : Option Packet) → GoesOn (events ++ Lose y k ∷ []) on s (lose_acted s packet)
-  lose-on y k None = calm (Lose y k) s.wires carried.ties plays_loss
-  lose-on y k (Some packet) = calm (Lose y k) s.wires carried.ties plays_loss
+  lose-on : (bus : BusName) (k : ℕ) (packet : Option Packet)
+      → GoesOn (events ++ Lose bus k ∷ []) on s (lose_acted s packet)
+  lose-on bus k None = calm (Lose bus k) s.wires carried.ties plays_loss
+  lose-on bus k (Some packet) = calm (Lose bus k) s.wires carried.ties plays_loss
 
-  repeat-on : (y : Bool) (k : ℕ) (packet : Option Packet) → ((p : Packet) → packet ≡ Some p → IsAmong p on)
-      → GoesOn (events ++ Repeat y k ∷ []) on s (repeat_acted (bus_named y) s packet)
-  repeat-on y k None stands = calm (Repeat y k) s.wires carried.ties plays_repeat
-  repeat-on y k (Some p) stands =
-      calm (Repeat y k) (goes_over (bus_named y) p s.wires)
-      (repeated-ties s.wires (bus_named y) p (stands p refl) carried.ties) plays_repeat
+  repeat-on : (bus : BusName) (k : ℕ) (packet : Option Packet) → ((p : Packet) → packet ≡ Some p → IsAmong p on)
+      → GoesOn (events ++ Repeat bus k ∷ []) on s (repeat_acted bus s packet)
+  repeat-on bus k None stands = calm (Repeat bus k) s.wires carried.ties plays_repeat
+  repeat-on bus k (Some p) stands =
+      calm (Repeat bus k) (goes_over bus p s.wires)
+      (repeated-ties s.wires bus p (stands p refl) carried.ties) plays_repeat
 
   fail-on : (processor : ℕ) → GoesOn (events ++ Fail processor ∷ []) on s
       (fail_acted processor s (slice_get s.world.stopped processor))
@@ -256,14 +257,14 @@ module _ (events : List Event) (on : List Packet) (s : Underway) (owed sent : Li
 
   -- A packet is delivered
 
-  module _ (y : Bool) (k : ℕ) (p : Packet) (stands : IsAmong p on)
+  module _ (bus : BusName) (k : ℕ) (p : Packet) (stands : IsAmong p on)
       (runs : is_running s.world.stopped p.receiver ≡ true)
       (current : is_current_at p (end_at s.wires.nodes p.receiver p.sender) ≡ true) where
     abbrev Now : Event
-    Now = Deliver y k
+    Now = Deliver bus k
 
     abbrev next : Midst
-    next = midst_after_arrival (bus_named y) p s.wires
+    next = midst_after_arrival bus p s.wires
 
     abbrev parcel : NodeMessage → Parcel
     parcel content = record { sender = p.sender; receiver = p.receiver; content = content }
@@ -272,7 +273,7 @@ module _ (events : List Event) (on : List Packet) (s : Underway) (owed sent : Li
     here = record s { wires = next }
 
     abbrev Handed : Underway → Type 0
-    Handed after = Carries (events ++ Deliver y k ∷ []) on after
+    Handed after = Carries (events ++ Deliver bus k ∷ []) on after
 
     -- what is handed over does what its letter's message does
     as-letter : (content : NodeMessage) (letter : Letter) → StandsFor s.world (parcel content) letter
@@ -316,8 +317,8 @@ module _ (events : List Event) (on : List Packet) (s : Underway) (owed sent : Li
     )
     take-on letter left rest taken among alive stand T (Some done) e none =
         let change = handed-may s.site _ _ s.world done (honest letter among) e in
-        posted-on s (events ++ Deliver y k ∷ []) done.world next left sent
-        (letters_of s.site done.world done.sendings) rest carried.posted (fit (Deliver y k))
+        posted-on s (events ++ Deliver bus k ∷ []) done.world next left sent
+        (letters_of s.site done.world done.sendings) rest carried.posted (fit (Deliver bus k))
         (change-stays s.world done.world (Handing letter.receiver letter.message) done.sendings change) none
         (change-counts s.world done.world (Handing letter.receiver letter.message) done.sendings change (λ x same. cc))
         (letters-new s.site done.world done.sendings
@@ -328,11 +329,11 @@ module _ (events : List Event) (on : List Packet) (s : Underway) (owed sent : Li
     again-on : (letter : Letter) → IsAmong letter sent → Tied next
         → (done : Option Done) → handed_done s.site letter.receiver letter.message s.world ≡ done
         → StopsNone s.world done → Handed (after_any here done)
-    again-on letter among T None e none = calm (Deliver y k) next T plays_nothing
+    again-on letter among T None e none = calm (Deliver bus k) next T plays_nothing
     again-on letter among T (Some done) e none =
         let change = handed-may s.site _ _ s.world done (honest letter among) e in
-        posted-on s (events ++ Deliver y k ∷ []) done.world next owed sent
-        (letters_of s.site done.world done.sendings) carried.parcels carried.posted (fit (Deliver y k))
+        posted-on s (events ++ Deliver bus k ∷ []) done.world next owed sent
+        (letters_of s.site done.world done.sendings) carried.parcels carried.posted (fit (Deliver bus k))
         (change-stays s.world done.world (Handing letter.receiver letter.message) done.sendings change) none
         (change-counts s.world done.world (Handing letter.receiver letter.message) done.sendings change (λ x same. cc))
         (letters-new s.site done.world done.sendings
@@ -344,17 +345,17 @@ module _ (events : List Event) (on : List Packet) (s : Underway) (owed sent : Li
       where
         by : (done : Option Done) → down_done p.receiver processor s.world ≡ done
             → Handed (marked_by p.receiver processor here done)
-        by None e = calm (Deliver y k) next T plays_nothing
+        by None e = calm (Deliver bus k) next T plays_nothing
         by (Some done) e =
-            marked-on here (events ++ Deliver y k ∷ []) owed sent carried.parcels carried.posted p.receiver processor
-            done (fit (Deliver y k)) runs e held T (played_more carried.played (plays_mark p.receiver processor
+            marked-on here (events ++ Deliver bus k ∷ []) owed sent carried.parcels carried.posted p.receiver processor
+            done (fit (Deliver bus k)) runs e held T (played_more carried.played (plays_mark p.receiver processor
             (mark-may s.site p.receiver processor s.world done e)))
 
     other-on : (told : NodeMessage) → content_of told ≡ None → Tied next → Handed (handed p.receiver told here)
     other-on (Carrying message) none T = absurd cc
     other-on (Changing change) none T = absurd cc
     other-on (Reporting from set) none T =
-        calm (Deliver y k) (learns p.receiver (changed_at from (watching.neighbour_after_report set)) next)
+        calm (Deliver bus k) (learns p.receiver (changed_at from (watching.neighbour_after_report set)) next)
         (watched-ties next p.receiver (changed_at from (watching.neighbour_after_report set))
         (λ watch is. changed-watch from (watching.neighbour_after_report set) refl is) T) plays_nothing
     other-on (Declaring processor) none T = mark-on processor T
@@ -380,7 +381,7 @@ module _ (events : List Event) (on : List Packet) (s : Underway) (owed sent : Li
         by : (h : Option (List ℤ))
             → Arrives s.site s.world.stopped s.world.reloads carried.parcels carried.posted c.net p.sender p.receiver h
             → Handed (handed_words p.receiver h here)
-        by None (hands_none o) = calm (Deliver y k) next (ties carried.parcels o) plays_nothing
+        by None (hands_none o) = calm (Deliver bus k) next (ties carried.parcels o) plays_nothing
         by (Some words) (hands_other told reads fits right none o) =
             read-on words told reads (other-on told none (ties carried.parcels o))
         by (Some words) (hands_letter {rest = rest} content own reads fits among taken o) =
@@ -400,22 +401,22 @@ module _ (events : List Event) (on : List Packet) (s : Underway) (owed sent : Li
             (handed_done s.site one.0.receiver one.0.message s.world) refl
             (handed-none s.site s.world one.0.receiver one.0.message)))
 
-    received-on : Handed (received (bus_named y) p s)
-    received-on = arrive-on _ (came s.wires carried.ties (bus_named y) p (carried.ties.tied.flight p stands) runs
+    received-on : Handed (received bus p s)
+    received-on = arrive-on _ (came s.wires carried.ties bus p (carried.ties.tied.flight p stands) runs
         current)
 
-  deliver-on : (y : Bool) (k : ℕ) (packet : Option Packet) → ((p : Packet) → packet ≡ Some p → IsAmong p on)
-      → GoesOn (events ++ Deliver y k ∷ []) on s (deliver_acted (bus_named y) s packet)
-  deliver-on y k None stands = calm (Deliver y k) s.wires carried.ties plays_nothing
-  deliver-on y k (Some p) stands = by (comes_in p s) refl
+  deliver-on : (bus : BusName) (k : ℕ) (packet : Option Packet) → ((p : Packet) → packet ≡ Some p → IsAmong p on)
+      → GoesOn (events ++ Deliver bus k ∷ []) on s (deliver_acted bus s packet)
+  deliver-on bus k None stands = calm (Deliver bus k) s.wires carried.ties plays_nothing
+  deliver-on bus k (Some p) stands = by (comes_in p s) refl
     where
       by : (test : Bool) → comes_in p s ≡ test
-          → Carries (events ++ Deliver y k ∷ []) on (if test then received (bus_named y) p s else s)
+          → Carries (events ++ Deliver bus k ∷ []) on (if test then received bus p s else s)
       by true comes =
           let both = both-true (is_running s.world.stopped p.receiver)
           (is_current_at p (end_at s.wires.nodes p.receiver p.sender)) comes in
-          received-on y k p (stands p refl) both.0 both.1
-      by false rests = calm (Deliver y k) s.wires carried.ties plays_nothing
+          received-on bus k p (stands p refl) both.0 both.1
+      by false rests = calm (Deliver bus k) s.wires carried.ties plays_nothing
 
   -- Ticks and lines
 
@@ -556,9 +557,9 @@ pub among-taken : (event : Event) (wires : Wires) (p : Packet) → IsAmong p (on
     → IsAmong p (on_both wires)
 among-taken (Run number) wires p among = among
 among-taken (Enter number) wires p among = among
-among-taken (Deliver y k) wires p among = among-without (bus_named y) k wires p among
-among-taken (Lose y k) wires p among = among-without (bus_named y) k wires p among
-among-taken (Repeat y k) wires p among = among
+among-taken (Deliver bus k) wires p among = among-without bus k wires p among
+among-taken (Lose bus k) wires p among = among-without bus k wires p among
+among-taken (Repeat bus k) wires p among = among
 among-taken (Tick node) wires p among = among
 among-taken (Fail processor) wires p among = among
 among-taken (Reload processor) wires p among = among
@@ -603,15 +604,15 @@ plays-on events s owed sent carried honest only whole fit event =
     by : (event : Event) → GoesOn (events ++ event ∷ []) (on_both s.wires) (underway s) (acted s event)
     by (Run number) = run-on events (on_both s.wires) (underway s) owed sent carried honest only whole fit number
     by (Enter number) = enter-on events (on_both s.wires) (underway s) owed sent carried honest only whole fit number
-    by (Deliver y k) =
-        deliver-on events (on_both s.wires) (underway s) owed sent carried honest only whole fit y k
-        (packet_at s (bus_named y) k) (stands-there s (bus_named y) k)
-    by (Lose y k) =
-        lose-on events (on_both s.wires) (underway s) owed sent carried honest only whole fit y k
-        (packet_at s (bus_named y) k)
-    by (Repeat y k) =
-        repeat-on events (on_both s.wires) (underway s) owed sent carried honest only whole fit y k
-        (packet_at s (bus_named y) k) (stands-there s (bus_named y) k)
+    by (Deliver bus k) =
+        deliver-on events (on_both s.wires) (underway s) owed sent carried honest only whole fit bus k
+        (packet_at s bus k) (stands-there s bus k)
+    by (Lose bus k) =
+        lose-on events (on_both s.wires) (underway s) owed sent carried honest only whole fit bus k
+        (packet_at s bus k)
+    by (Repeat bus k) =
+        repeat-on events (on_both s.wires) (underway s) owed sent carried honest only whole fit bus k
+        (packet_at s bus k) (stands-there s bus k)
     by (Tick node) = tick-on events (on_both s.wires) (underway s) owed sent carried honest only whole fit node
     by (Fail processor) =
         fail-on events (on_both s.wires) (underway s) owed sent carried honest only whole fit processor

@@ -5,7 +5,7 @@ use Rattle.gd_words.specs.Members.{IsAmong}
 use Rattle.gd_words.proofs.Among.{among-either, among-left, among-right}
 use Rattle.tal_tree.specs.declared.site.Site.{Site}
 use Rattle.schedule.specs.declared.event.Event.{Event}
-use Rattle.packet_words.specs.declared.bus_name.BusName.{BusName}
+use Rattle.schedule.specs.declared.bus_name.BusName.{BusName}
 use Rattle.packet_words.specs.declared.packet.Packet.{Packet}
 use Rattle.channel_laws.specs.Net.{stopped_net}
 use Rattle.world_semantics.specs.World.{World, is_marked_by_all, is_running, runs_by}

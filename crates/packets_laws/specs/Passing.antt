@@ -9,7 +9,6 @@ use Rattle.packet_words.specs.declared.packet.Packet.{Packet}
 use Rattle.channel_laws.specs.Net.{Net, Goes, ticked_net}
 use Rattle.channel_laws.specs.Rounds.{Passes}
 use Rattle.packet_nets.specs.packet_wires.specs.Play.{Packeted, IsClear, packet_at}
-use Rattle.packet_nets.specs.packet_wires.specs.Wires.{bus_named}
 use Rattle.packet_nets.specs.Owing.{on_both}
 use Rattle.packet_nets.specs.Passing.{IsNet}
 
@@ -17,9 +16,9 @@ use Rattle.packet_nets.specs.Passing.{IsNet}
 abbrev pub delivered : Packeted → Event → Option Packet
 delivered s (Run number) = None
 delivered s (Enter terminal) = None
-delivered s (Deliver y k) = packet_at s (bus_named y) k
-delivered s (Lose y k) = None
-delivered s (Repeat y k) = None
+delivered s (Deliver bus k) = packet_at s bus k
+delivered s (Lose bus k) = None
+delivered s (Repeat bus k) = None
 delivered s (Tick node) = None
 delivered s (Fail processor) = None
 delivered s (Reload processor) = None
@@ -29,9 +28,9 @@ delivered s (Drive event) = None
 abbrev pub TakesToDeliver : Event → Type 0
 TakesToDeliver (Run number) = Unit {0}
 TakesToDeliver (Enter terminal) = Unit {0}
-TakesToDeliver (Deliver y k) = Unit {0}
-TakesToDeliver (Lose y k) = ⊥
-TakesToDeliver (Repeat y k) = Unit {0}
+TakesToDeliver (Deliver bus k) = Unit {0}
+TakesToDeliver (Lose bus k) = ⊥
+TakesToDeliver (Repeat bus k) = Unit {0}
 TakesToDeliver (Tick node) = Unit {0}
 TakesToDeliver (Fail processor) = Unit {0}
 TakesToDeliver (Reload processor) = Unit {0}
@@ -41,9 +40,9 @@ TakesToDeliver (Drive event) = Unit {0}
 abbrev pub ReloadsNone : Event → Type 0
 ReloadsNone (Run number) = Unit {0}
 ReloadsNone (Enter terminal) = Unit {0}
-ReloadsNone (Deliver y k) = Unit {0}
-ReloadsNone (Lose y k) = Unit {0}
-ReloadsNone (Repeat y k) = Unit {0}
+ReloadsNone (Deliver bus k) = Unit {0}
+ReloadsNone (Lose bus k) = Unit {0}
+ReloadsNone (Repeat bus k) = Unit {0}
 ReloadsNone (Tick node) = Unit {0}
 ReloadsNone (Fail processor) = Unit {0}
 ReloadsNone (Reload processor) = ⊥

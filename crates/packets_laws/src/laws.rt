@@ -1,8 +1,8 @@
 //! Laws of what is played over packets.
-ghost use Rattle.std.specs.Prelude.{◌≡◌, ◌≤◌, ◌⊎◌, ◌<◌, ℕ, ℤ, Bool, true, List, length, slice_get, Some};
+ghost use Rattle.std.specs.Prelude.{◌≡◌, ◌≤◌, ◌⊎◌, ◌<◌, ℕ, ℤ, true, List, length, slice_get, Some};
 ghost use Rattle.gd_words.specs.declared.limits.TheConstants.{MOST_PROCESSORS};
 ghost use Rattle.gd_words.specs.Members.{IsAmong};
-ghost use Rattle.packet_words.specs.declared.bus_name.BusName.{BusName};
+ghost use Rattle.schedule.specs.declared.bus_name.BusName.{BusName};
 ghost use Rattle.packet_words.specs.declared.packet.Packet.{Packet};
 ghost use Rattle.tal_tree.specs.declared.site.Site.{Site};
 ghost use Rattle.schedule.specs.declared.event.Event.{Event};
@@ -31,7 +31,6 @@ ghost use Rattle.packet_nets.specs.packet_wires.specs.Parcels.{form_of};
 ghost use Rattle.packet_nets.specs.packet_wires.specs.Play.{Packeted, underway, comes_in, message_at_end, packet_at};
 ghost use Rattle.packet_nets.specs.packet_wires.specs.Play.{packeted_at_boot, play};
 ghost use Rattle.packet_nets.specs.packet_wires.specs.Runs.{IsPlayed};
-ghost use Rattle.packet_nets.specs.packet_wires.specs.Wires.{bus_named};
 ghost use Rattle.packets_laws.specs.Carried.{WasSentInWords};
 ghost use Rattle.packets_laws.specs.Passing.{IsNetOf, IsPassed, IsTickPassed, ReloadsNone};
 ghost use Rattle.packets_laws.specs.Pieces.{HandsOver};
@@ -80,10 +79,12 @@ pub fn later_checkpoints_go_as_what_changed()
 /// A delivery leaves the world as it was, or the packet was the last piece of a message, its receiver runs, and it was
 /// sent since both nodes were loaded last. What is lost or repeated leaves the world as it was.
 pub fn only_a_last_piece_hands_over()
-    ensures deliver { (s next : Packeted) (y : Bool) (k : ℕ) → play s (Deliver y k) ≡ Makes next
-        → (next.world ≡ s.world) ⊎ HandsOver s (bus_named y) k }
-    ensures lose { (s next : Packeted) (y : Bool) (k : ℕ) → play s (Lose y k) ≡ Makes next → next.world ≡ s.world }
-    ensures repeat { (s next : Packeted) (y : Bool) (k : ℕ) → play s (Repeat y k) ≡ Makes next → next.world ≡ s.world }
+    ensures deliver { (s next : Packeted) (bus : BusName) (k : ℕ) → play s (Deliver bus k) ≡ Makes next
+        → (next.world ≡ s.world) ⊎ HandsOver s bus k }
+    ensures lose { (s next : Packeted) (bus : BusName) (k : ℕ) → play s (Lose bus k) ≡ Makes next
+        → next.world ≡ s.world }
+    ensures repeat { (s next : Packeted) (bus : BusName) (k : ℕ) → play s (Repeat bus k) ≡ Makes next
+        → next.world ≡ s.world }
     ensures drive { (s next : Packeted) (event : DriveEvent) → play s (Drive event) ≡ Makes next
         → next.world ≡ s.world }
 {}

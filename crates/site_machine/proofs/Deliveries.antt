@@ -4,8 +4,8 @@ use Rattle.std.specs.Option.{option_map}
 use Rattle.std.proofs.Common.{◌≡◌, ℕ, zero, suc, ℤ, Bool, true, false, if◌then◌else◌, List, [], ◌∷◌, Option, Some, None}
 use Rattle.std.proofs.Common.{◌&&◌, slice_get, refl, ap, ap₂, sym, subst, ◌∙◌}
 use Rattle.node.specs.world_semantics.proofs.Lists.{some-same}
-use Rattle.packet_words.specs.declared.bus_name.BusName.{BusName}
-use Rattle.packet_words.specs.declared.bus_name.BusName.TheVariants as bus
+use Rattle.schedule.specs.declared.bus_name.BusName.{BusName}
+use Rattle.schedule.specs.declared.bus_name.BusName.TheVariants as bus
 use Rattle.packet_words.specs.declared.packet.Packet.{Packet}
 use Rattle.packet_words.specs.declared.packet.PacketKind.{PacketKind}
 use Rattle.packet_words.specs.declared.packet.PacketKind.TheVariants as kind

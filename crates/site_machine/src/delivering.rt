@@ -6,7 +6,7 @@ ghost use Rattle.node.specs.machine_states.specs.declared.effect.Effect.TheVaria
 ghost use Rattle.node.specs.Calls.{alive_address};
 ghost use Rattle.node.specs.packet_wires.specs.Nodes.{end_at};
 ghost use Rattle.node.specs.packet_wires.specs.Play.{message_at_end, deliver_acted, ended, play, underway};
-ghost use Rattle.node.specs.packet_wires.specs.Wires.{midst_after_arrival, bus_named, on_bus, without_packet};
+ghost use Rattle.node.specs.packet_wires.specs.Wires.{midst_after_arrival, on_bus, without_packet};
 ghost use Rattle.node.specs.world_semantics.specs.World.{is_running};
 ghost use Rattle.node.specs.event_parts.specs.Parts.{carried_out, completed_by, wires_after_delivery, is_current_in};
 ghost use Rattle.site_machine.specs.Needs.{HaveNumbersLeft, IsReady};
@@ -16,20 +16,12 @@ use gd_words::{List, NoMemory};
 use node::Effect;
 use packet_words::{BusName, Packet};
 
-/// The bus that events name so.
-pub(crate) fn bus_named(y: bool) -> BusName
-    ensures { result ≡ bus_named y }
-{
-    if y { BusName::Y } else { BusName::X }
-}
-
 impl MachineParts {
     /// The packet at a position of a bus is taken off, and comes at its receiver, where it comes in there.
-    pub(crate) fn deliver(&mut self, y: bool, k: u32) -> Result<Effect, NoMemory>
+    pub(crate) fn deliver(&mut self, bus: BusName, k: u32) -> Result<Effect, NoMemory>
         requires { IsReady self.old }
-        ensures { IfOk result (λ effect. Settles (play self.old (event.Deliver y k)) self.old effect self.new) }
+        ensures { IfOk result (λ effect. Settles (play self.old (event.Deliver bus k)) self.old effect self.new) }
     {
-        let bus = bus_named(y);
         let Some(packet) = self.take_off(bus, k as usize) else {
             return Ok(Effect::Skipped);
         };
@@ -42,15 +34,14 @@ impl MachineParts {
 
     /// The first packet of a bus is delivered, if it is an I'm-alive packet. Answers whether it was.
     #[inline(always)]
-    pub(crate) fn deliver_at_once(&mut self, y: bool) -> bool
-        ensures alive { result ≡ is_some (alive_address (slice_get (on_bus (bus_named y) self.old.wires) 0)) }
-        ensures done { OnTrue result (Settles (play self.old (event.Deliver y 0)) self.old effects.Done self.new) }
+    pub(crate) fn deliver_at_once(&mut self, bus: BusName) -> bool
+        ensures alive { result ≡ is_some (alive_address (slice_get (on_bus bus self.old.wires) 0)) }
+        ensures done { OnTrue result (Settles (play self.old (event.Deliver bus 0)) self.old effects.Done self.new) }
         ensures same { OnFalse result (self.new ≡ self.old) }
     {
-        if y {
-            self.deliver_first(BusName::Y)
-        } else {
-            self.deliver_first(BusName::X)
+        match bus {
+            BusName::X => self.deliver_first(BusName::X),
+            BusName::Y => self.deliver_first(BusName::Y),
         }
     }
 
@@ -146,10 +137,9 @@ impl MachineParts {
     }
 
     /// The packet at a position of a bus is lost.
-    pub(crate) fn lose(&mut self, y: bool, k: u32) -> Effect
-        ensures { Settles (play self.old (event.Lose y k)) self.old result self.new }
+    pub(crate) fn lose(&mut self, bus: BusName, k: u32) -> Effect
+        ensures { Settles (play self.old (event.Lose bus k)) self.old result self.new }
     {
-        let bus = bus_named(y);
         if k as usize >= self.wires.count(bus) {
             return Effect::Skipped;
         }
@@ -158,10 +148,9 @@ impl MachineParts {
     }
 
     /// The packet at a position of a bus is sent once more over its bus.
-    pub(crate) fn repeat(&mut self, y: bool, k: u32) -> Effect
-        ensures { Settles (play self.old (event.Repeat y k)) self.old result self.new }
+    pub(crate) fn repeat(&mut self, bus: BusName, k: u32) -> Effect
+        ensures { Settles (play self.old (event.Repeat bus k)) self.old result self.new }
     {
-        let bus = bus_named(y);
         if k as usize >= self.wires.count(bus) {
             return Effect::Skipped;
         }

@@ -13,7 +13,7 @@ ghost use Rattle.node.specs.packet_wires.specs.Idle.{is_idle};
 ghost use Rattle.node.specs.packet_wires.specs.Nodes.{end_at};
 ghost use Rattle.node.specs.packet_wires.specs.Play.{count_on, kind_at, packet_at, packeted_at_boot, play, sender_at};
 ghost use Rattle.node.specs.packet_wires.specs.Lines.{line_pulled};
-ghost use Rattle.node.specs.packet_wires.specs.Wires.{bus_named, nothing_sent, midst_after_tick};
+ghost use Rattle.node.specs.packet_wires.specs.Wires.{nothing_sent, midst_after_tick};
 ghost use Rattle.open_links.specs.world_copies.specs.process_copies.specs.Starting.{IsStartable};
 ghost use Rattle.node.specs.world_semantics.specs.disc_device.specs.mirror.specs.States.{drive_state_at};
 ghost use Rattle.open_links.specs.world_copies.specs.node_copies.specs.Seen.{drives_on, sectors_on};
@@ -23,7 +23,6 @@ ghost use Rattle.open_links.specs.node_needs.specs.NodeNeeds.{needs_at};
 ghost use Rattle.site_machine.specs.Needs.{IsReady};
 ghost use Rattle.site_machine.specs.Seen.{closed_state};
 
-use crate::delivering::bus_named;
 use crate::whole::MachineParts;
 use alive_regroup::Watch;
 use gd_words::NoMemory;
@@ -90,16 +89,15 @@ impl Machine {
         }
     }
 
-    /// Delivers the first packet of bus X or, where `y` says so, of bus Y, if it is an I'm-alive packet; and answers
-    /// whether it was.
-    pub fn deliver_at_once(&mut self, y: bool) -> bool
-        ensures alive { result ≡ is_some (alive_address (packet_at self.old.state (bus_named y) 0)) }
-        ensures done { OnTrue result (Settles (play self.old.state (events.Deliver y 0)) self.old.state effects.Done
+    /// Delivers the first packet of a bus, if it is an I'm-alive packet; and answers whether it was.
+    pub fn deliver_at_once(&mut self, bus: BusName) -> bool
+        ensures alive { result ≡ is_some (alive_address (packet_at self.old.state bus 0)) }
+        ensures done { OnTrue result (Settles (play self.old.state (events.Deliver bus 0)) self.old.state effects.Done
             self.new.state) }
         ensures same { OnFalse result (self.new ≡ self.old) }
         ensures whole { self.new.is_broken ≡ self.old.is_broken }
     {
-        self.whole.deliver_at_once(y)
+        self.whole.deliver_at_once(bus)
     }
 
     /// How many packets are on a bus.
@@ -111,10 +109,10 @@ impl Machine {
     }
 
     /// The packet at a position of a bus.
-    pub fn packet_at(&self, y: bool, k: u32) -> Option<&Packet>
-        ensures { option_copied result ≡ packet_at self.now.state (bus_named y) k }
+    pub fn packet_at(&self, bus: BusName, k: u32) -> Option<&Packet>
+        ensures { option_copied result ≡ packet_at self.now.state bus k }
     {
-        self.whole.wires.packet_at(bus_named(y), k as usize)
+        self.whole.wires.packet_at(bus, k as usize)
     }
 
     /// The node that sent the packet at a position of a bus.
@@ -298,9 +296,9 @@ impl MachineParts {
         match event {
             Event::Run(number) => self.run(number),
             Event::Enter(terminal) => self.enter(terminal),
-            Event::Deliver { y, k } => self.deliver(y, k),
-            Event::Lose { y, k } => Ok(self.lose(y, k)),
-            Event::Repeat { y, k } => Ok(self.repeat(y, k)),
+            Event::Deliver { bus, k } => self.deliver(bus, k),
+            Event::Lose { bus, k } => Ok(self.lose(bus, k)),
+            Event::Repeat { bus, k } => Ok(self.repeat(bus, k)),
             Event::Tick(node) => self.tick(node),
             Event::Fail(processor) => Ok(self.fail(processor)),
             Event::Reload(processor) => self.reload(processor),

@@ -1,6 +1,6 @@
 use Rattle.std.proofs.Common.{◌≡◌, ℕ, Some, slice_get, refl, arith, ◌∙◌, ap₂}
 use Rattle.std.proofs.lemmas.Option.{slice_get_read}
-use Rattle.packet_words.specs.declared.bus_name.BusName.TheVariants as bus
+use Rattle.schedule.specs.declared.bus_name.BusName.TheVariants as bus
 use Rattle.link_control.specs.Ends.{after_push, sent_by_push}
 use Rattle.event_parts.specs.packet_wires.specs.Wires.{Wires, any_goes_over, at_end, push_at}
 use Rattle.event_parts.specs.Parts.{carried_out}

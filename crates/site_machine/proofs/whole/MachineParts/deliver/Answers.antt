@@ -1,11 +1,11 @@
-use Rattle.std.proofs.Common.{◌≡◌, ◌∙◌, ℕ, Option, Some, slice_get, refl, sym, subst}
-use Rattle.packet_words.specs.declared.bus_name.BusName.{BusName}
+use Rattle.std.proofs.Common.{◌∙◌, ℕ, Option, Some, refl, sym, subst}
+use Rattle.schedule.specs.declared.bus_name.BusName.{BusName}
 use Rattle.packet_words.specs.declared.packet.Packet.{Packet}
 use Rattle.node.specs.machine_states.specs.States.{Settles}
 use Rattle.node.specs.machine_states.specs.declared.effect.Effect.{Effect}
 use Rattle.node.specs.machine_states.specs.declared.effect.Effect.TheVariants as effect
 use Rattle.node.specs.packet_wires.specs.Play.{Packeted, deliver_acted, ended, underway}
-use Rattle.node.specs.packet_wires.specs.Wires.{on_bus, without_packet}
+use Rattle.node.specs.packet_wires.specs.Wires.{without_packet}
 use Rattle.site_machine.proofs.Deliveries.{arrived-off, can-hand, comes-off, delivery-comes, none-delivered, whole-off}
 use Rattle.site_machine.proofs.whole.MachineParts.deliver.Goals as goal
 
@@ -14,33 +14,27 @@ abbrev Delivers : BusName → ℕ → Packeted → Option Packet → Effect → 
 Delivers name k s found answer after =
     Settles (ended (without_packet name k s.wires) (deliver_acted name (underway s) found)) s answer after
 
--- on the bus of this name
-abbrev DeliversOn : ℕ → Packeted → Effect → Packeted → BusName → Type 0
-DeliversOn k s answer after name = Delivers name k s (slice_get (on_bus name s.wires) k) answer after
-
 pub returns-in_default : goal.returns-in_default
 returns-in_default c =
-    subst (DeliversOn c.args.k c.args.self.now effect.Skipped c.take_off.new.self) c.bus_named-bus.ensures
-    (none-delivered c.bus_named-bus.result c.args.k c.args.self.now c.take_off.new.self c.in_default.ensures.packet
-    c.in_default.ensures.after)
+    none-delivered c.args.bus c.args.k c.args.self.now c.take_off.new.self c.in_default.ensures.packet
+    c.in_default.ensures.after
 
 pub hand_words-requires : goal.hand_words-requires
 hand_words-requires c =
-    can-hand c.bus_named-bus.result c.args.k c.args.self.now c.arrive.new.self (Some c.in-Some.packet) c.requires
-    (arrived-off c.bus_named-bus.result c.args.k c.args.self.now c.in-Some.packet c.take_off.new.self
+    can-hand c.args.bus c.args.k c.args.self.now c.arrive.new.self (Some c.in-Some.packet) c.requires
+    (arrived-off c.args.bus c.args.k c.args.self.now c.in-Some.packet c.take_off.new.self
     c.in-Some.ensures.after c.arrive.new.self c.in_ok-words.ensures.after)
 
 pub returns-in_ok-hand_words : goal.returns-in_ok-hand_words
 returns-in_ok-hand_words c =
-    subst (DeliversOn c.args.k c.args.self.now effect.Done c.hand_words.new.self) c.bus_named-bus.ensures
-    (subst (λ (found : Option Packet). Delivers c.bus_named-bus.result c.args.k c.args.self.now found effect.Done
+    subst (λ (found : Option Packet). Delivers c.args.bus c.args.k c.args.self.now found effect.Done
     c.hand_words.new.self) c.in-Some.ensures.packet
-    (delivery-comes c.bus_named-bus.result c.args.k c.args.self.now (Some c.in-Some.packet) c.in-Some.packet.receiver
+    (delivery-comes c.args.bus c.args.k c.args.self.now (Some c.in-Some.packet) c.in-Some.packet.receiver
     c.arrive.new.self c.hand_words.new.self c.in_ok-words.words refl
-    (sym (comes-off c.bus_named-bus.result c.args.k c.args.self.now c.in-Some.packet c.take_off.new.self
+    (sym (comes-off c.args.bus c.args.k c.args.self.now c.in-Some.packet c.take_off.new.self
     c.in-Some.ensures.after) ∙ sym c.comes_in.ensures ∙ c.if-comes_in.true)
-    (whole-off c.bus_named-bus.result c.args.k c.args.self.now c.in-Some.packet c.take_off.new.self
+    (whole-off c.args.bus c.args.k c.args.self.now c.in-Some.packet c.take_off.new.self
     c.in-Some.ensures.after c.in_ok-words.words c.in_ok-words.ensures.completed)
-    (arrived-off c.bus_named-bus.result c.args.k c.args.self.now c.in-Some.packet c.take_off.new.self
+    (arrived-off c.args.bus c.args.k c.args.self.now c.in-Some.packet c.take_off.new.self
     c.in-Some.ensures.after c.arrive.new.self c.in_ok-words.ensures.after)
-    c.in_ok-hand_words.ensures))
+    c.in_ok-hand_words.ensures)
