@@ -27,9 +27,9 @@ abbrev pub own_drawn : Event → Sign → Drawn
 own_drawn (event.Run process) sign = at_acting sign process
 own_drawn (event.Drive one) sign = at_acting sign one.process
 own_drawn (event.Enter terminal) sign = drawn.Nothing
-own_drawn (event.Deliver y k) sign = drawn.Nothing
-own_drawn (event.Lose y k) sign = drawn.Nothing
-own_drawn (event.Repeat y k) sign = drawn.Nothing
+own_drawn (event.Deliver bus k) sign = drawn.Nothing
+own_drawn (event.Lose bus k) sign = drawn.Nothing
+own_drawn (event.Repeat bus k) sign = drawn.Nothing
 own_drawn (event.Tick node) sign = drawn.Nothing
 own_drawn (event.Fail processor) sign = drawn.Nothing
 own_drawn (event.Reload processor) sign = drawn.Nothing

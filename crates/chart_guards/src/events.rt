@@ -1,8 +1,9 @@
-ghost use Rattle.std.specs.Prelude.{◌≡◌, true, false, [], ◌∷◌, None};
+ghost use Rattle.std.specs.Prelude.{◌≡◌, false, [], ◌∷◌, None};
 ghost use Rattle.chart_guards.specs.Charts.{layout, pair, spot};
 ghost use Rattle.chart_drawing.specs.Groups.{all_found, all_shown};
 ghost use Rattle.chart_drawing.specs.Layout.{event_y, lane_x};
 ghost use Rattle.process_semantics.specs.declared.point.Point.TheVariants as point;
+ghost use Rattle.schedule.specs.declared.bus_name.BusName.TheVariants as bus;
 ghost use Rattle.schedule.specs.declared.event.Event.TheVariants as event;
 ghost use Rattle.svg_text.specs.declared.drawing.Shape.TheVariants.{Circle, Line, Words};
 ghost use Rattle.svg_text.specs.declared.looks.Look.TheVariants as look;
@@ -25,7 +26,7 @@ pub fn things_are_there()
 pub fn events_are_drawn_so()
     ensures sends { all_found layout pair [] 5 (event.Run 0) (finding.SendsCheckpoint 1 ∷ [])
         ≡ Circle look.Token (spot 144 66) 6 ∷ Words look.Letter (spot 144 69) (67 ∷ []) ∷ [] }
-    ensures applies { all_found layout pair [] 5 (event.Deliver true 0) (finding.AppliesCheckpoint 0 1 1 ∷ [])
+    ensures applies { all_found layout pair [] 5 (event.Deliver bus.Y 0) (finding.AppliesCheckpoint 0 1 1 ∷ [])
         ≡ Circle look.Token (spot 260 66) 6 ∷ Words look.Letter (spot 260 69) (80 ∷ []) ∷ [] }
     ensures stops { all_found layout pair [] 5 (event.Fail 0) (finding.Stops 0 ∷ [])
         ≡ Line look.Stroke (spot 126 62) (spot 134 70) ∷ Line look.Stroke (spot 126 70) (spot 134 62) ∷ [] }

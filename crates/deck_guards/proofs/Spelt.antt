@@ -3,6 +3,7 @@ use Rattle.std.proofs.Common.{◌≡◌, ℕ, ◌≤◌, Bool, true, false, List
 use Rattle.std.proofs.Common.{◌∙◌, ap, true≢false, arith, leb-true, ⊎_elim, codes, pos, negsuc, inl, inr}
 use Rattle.std.specs.List.{All, AllZip}
 use Rattle.std.proofs.lemmas.List.Elements.{All-cons, All-nil}
+use Rattle.schedule.specs.declared.bus_name.BusName.TheVariants as bus
 use Rattle.schedule.specs.declared.event.Event.TheVariants as event
 use Rattle.schedule.specs.declared.line.Line.{Line}
 use Rattle.schedule.specs.declared.line.Line.TheVariants as line
@@ -117,7 +118,7 @@ asking_within = record {
       All-cons (IsLineOf 2 1 1) (line.Many (event.Run 0) 3) (line.One (event.Enter 0) ∷ later_events)
       (omega arith, omega arith)
       (All-cons (IsLineOf 2 1 1) (line.One (event.Enter 0)) later_events (omega arith)
-      (two_lines 2 1 1 (line.One (event.Lose true 7)) (line.One (event.Tick 16)) tt (inr refl)));
+      (two_lines 2 1 1 (line.One (event.Lose bus.Y 7)) (line.One (event.Tick 16)) tt (inr refl)));
   singles = omega arith;
   rounds = omega arith;
 }
@@ -127,7 +128,7 @@ asking_spelt = record {
   short = leb-true _ _ refl;
   blocks = Terminal (codes "$T") (codes "$D") ((pos 5 ∷ negsuc 6 ∷ []) ∷ [] ∷ [])
       ∷ Disc (record { name = codes "$D"; primary = 1; backup = 0 }) 64 false ∷ [];
-  events = asked.RunTimes (codes "$D") 3 ∷ asked.Enter (codes "$T") ∷ asked.Lose (record { y = true; k = 7 })
+  events = asked.RunTimes (codes "$D") 3 ∷ asked.Enter (codes "$T") ∷ asked.Lose (record { bus = bus.Y; k = 7 })
       ∷ asked.Tick 16 ∷ [];
   text =
       inr (

@@ -1,5 +1,6 @@
 -- What the grammar of decks spells of some lines, and decks that the guards name.
 use Rattle.std.specs.Prelude.{ℕ, ◌+◌, zero, suc, pos, negsuc, true, false, List, [], ◌∷◌, ◌++◌, codes}
+use Rattle.schedule.specs.declared.bus_name.BusName.TheVariants as bus
 use Rattle.schedule.specs.declared.event.DriveChange.{DriveChange}
 use Rattle.schedule.specs.declared.event.DriveChange.TheVariants.{Break, Copy, Revive}
 use Rattle.schedule.specs.declared.event.Event.{Event}
@@ -90,7 +91,7 @@ abbrev pub asking_terminal : TerminalSpec
 asking_terminal = record { name = codes "$T"; target = 0; requests = (pos 5 ∷ negsuc 6 ∷ []) ∷ [] ∷ [] }
 
 abbrev pub later_events : List Line
-later_events = line.One (event.Lose true 7) ∷ line.One (event.Tick 16) ∷ []
+later_events = line.One (event.Lose bus.Y 7) ∷ line.One (event.Tick 16) ∷ []
 
 abbrev pub asking : Deck
 asking = record {

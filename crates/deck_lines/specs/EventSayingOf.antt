@@ -3,6 +3,8 @@ use Rattle.std.specs.Prelude.{ℕ, nat_lt, Bool, true, false, List, [], ◌∷�
 use Rattle.std.specs.Prelude.{option_and_then, if◌then◌else◌}
 use Rattle.std.specs.Str.{bytes_eq}
 use Rattle.gd_words.specs.Spelling.{name_of}
+use Rattle.schedule.specs.declared.bus_name.BusName.{BusName}
+use Rattle.schedule.specs.declared.bus_name.BusName.TheVariants as bus
 use Rattle.schedule.specs.declared.event.DriveChange.{DriveChange}
 use Rattle.schedule.specs.declared.event.DriveChange.TheVariants.{Break, Revive, Copy}
 use Rattle.deck_lines.specs.Lines.{is_blank, one_word, two_words, three_words}
@@ -29,13 +31,13 @@ abbrev pub enter_said : List (List ℕ) → Option EventSaying
 enter_said parts = option_and_then (λ word. option_map said.Enter (name_of word)) (one_word parts)
 
 -- a bus is `x` or `y`
-abbrev pub is_y_of : List ℕ → Option Bool
-is_y_of word = if bytes_eq word (codes "x") then Some false else if bytes_eq word (codes "y") then Some true else None
+abbrev pub bus_of : List ℕ → Option BusName
+bus_of word = if bytes_eq word (codes "x") then Some bus.X else if bytes_eq word (codes "y") then Some bus.Y else None
 
 -- `B K`: the packet at position K of bus B
 abbrev pub packet_of : List (List ℕ) → Option PacketPlace
 packet_of parts = option_and_then (λ words.
-    option_and_then (λ y. option_map (λ k. record { y = y; k = k }) (written_number words.1)) (is_y_of words.0))
+    option_and_then (λ name. option_map (λ k. record { bus = name; k = k }) (written_number words.1)) (bus_of words.0))
     (two_words parts)
 
 -- `deliver B K`, `lose B K` and `repeat B K`

@@ -1,6 +1,6 @@
 ghost use Rattle.std.specs.Prelude.{◌≡◌};
 ghost use Rattle.deck_lines.specs.Lines.{words_of};
-ghost use Rattle.deck_lines.specs.EventSayingOf.{is_y_of, packet_of, is_writes_of, rounds_with, run_of, run_said};
+ghost use Rattle.deck_lines.specs.EventSayingOf.{bus_of, packet_of, is_writes_of, rounds_with, run_of, run_said};
 ghost use Rattle.deck_lines.specs.EventSayingOf.{enter_said, deliver_said, lose_said, repeat_said, tick_said};
 ghost use Rattle.deck_lines.specs.EventSayingOf.{copies_said, copy_said, drive_named, drive_of, drive_said};
 ghost use Rattle.deck_lines.specs.EventSayingOf.{fail_said, reload_said, drain_said, mix_said, mute_said};
@@ -9,7 +9,7 @@ ghost use Rattle.deck_lines.specs.EventSayingOf.{until_said, event_said};
 use crate::lines::{is_blank, next_word, one_word, three_words, two_words};
 use crate::numbers::written_number;
 use gd_words::Name;
-use schedule::DriveChange;
+use schedule::{BusName, DriveChange};
 
 /// The word with which an event line begins.
 #[derive(Clone, Copy, PartialEq, Eq)]
@@ -29,10 +29,10 @@ pub enum EventKeyword {
     Until,
 }
 
-/// The packet at this position on bus Y or, where `y` is false, on bus X.
+/// The packet at this position on this bus.
 #[derive(Clone, Copy, PartialEq, Eq)]
 pub struct PacketPlace {
-    pub y: bool,
+    pub bus: BusName,
     pub k: u32,
 }
 
@@ -134,14 +134,14 @@ fn enter(parts: &[u8]) -> Option<EventSaying>
     Some(EventSaying::Enter(name))
 }
 
-/// Whether a bus is bus Y; none where the word names no bus.
-fn is_y_of(word: &[u8]) -> Option<bool>
-    ensures { result ≡ is_y_of word.now }
+/// The bus that a word names; none where it names no bus.
+fn bus_of(word: &[u8]) -> Option<BusName>
+    ensures { result ≡ bus_of word.now }
 {
     if word == b"x".as_slice() {
-        Some(false)
+        Some(BusName::X)
     } else if word == b"y".as_slice() {
-        Some(true)
+        Some(BusName::Y)
     } else {
         None
     }
@@ -150,10 +150,10 @@ fn is_y_of(word: &[u8]) -> Option<bool>
 fn packet_of(parts: &[u8]) -> Option<PacketPlace>
     ensures { result ≡ packet_of (words_of parts.now) }
 {
-    let (bus, position) = two_words(parts)?;
-    let y = is_y_of(bus)?;
+    let (word, position) = two_words(parts)?;
+    let bus = bus_of(word)?;
     let k = written_number(position)?;
-    Some(PacketPlace { y, k })
+    Some(PacketPlace { bus, k })
 }
 
 fn deliver(parts: &[u8]) -> Option<EventSaying>

@@ -81,9 +81,9 @@ abbrev pub event_line : Outline → EventSaying → Option Line
 event_line outline (said.Run name) = run_line outline name
 event_line outline (said.RunTimes name times) = run_times_line outline name times
 event_line outline (said.Enter name) = enter_line outline name
-event_line outline (said.Deliver place) = Some (line.One (event.Deliver place.y place.k))
-event_line outline (said.Lose place) = Some (line.One (event.Lose place.y place.k))
-event_line outline (said.Repeat place) = Some (line.One (event.Repeat place.y place.k))
+event_line outline (said.Deliver place) = Some (line.One (event.Deliver place.bus place.k))
+event_line outline (said.Lose place) = Some (line.One (event.Lose place.bus place.k))
+event_line outline (said.Repeat place) = Some (line.One (event.Repeat place.bus place.k))
 event_line outline (said.Tick node) = tick_line outline.processors node
 event_line outline (said.Fail processor) = fail_line outline.processors processor
 event_line outline (said.Reload processor) = reload_line outline.processors processor

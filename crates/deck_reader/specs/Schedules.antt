@@ -46,9 +46,9 @@ IsNodeOf processors node = (node < processors) ⊎ (node ≡ TERMINAL_NODE)
 abbrev pub IsEventOf : ℕ → ℕ → ℕ → Event → Type 0
 IsEventOf processors processes terminals (event.Run place) = place < processes
 IsEventOf processors processes terminals (event.Enter place) = place < terminals
-IsEventOf processors processes terminals (event.Deliver y k) = Unit {0}
-IsEventOf processors processes terminals (event.Lose y k) = Unit {0}
-IsEventOf processors processes terminals (event.Repeat y k) = Unit {0}
+IsEventOf processors processes terminals (event.Deliver bus k) = Unit {0}
+IsEventOf processors processes terminals (event.Lose bus k) = Unit {0}
+IsEventOf processors processes terminals (event.Repeat bus k) = Unit {0}
 IsEventOf processors processes terminals (event.Tick node) = IsNodeOf processors node
 IsEventOf processors processes terminals (event.Fail node) = node < processors
 IsEventOf processors processes terminals (event.Reload node) = node < processors

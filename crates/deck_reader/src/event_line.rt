@@ -110,24 +110,24 @@ fn enter_line(outline: &Outline, name: &Name) -> Option<Line>
 }
 
 fn deliver_line(place: PacketPlace) -> Option<Line>
-    ensures { result ≡ Some (line.One (event.Deliver place.y place.k)) }
+    ensures { result ≡ Some (line.One (event.Deliver place.bus place.k)) }
 {
-    let PacketPlace { y, k } = place;
-    Some(Line::One(Event::Deliver { y, k }))
+    let PacketPlace { bus, k } = place;
+    Some(Line::One(Event::Deliver { bus, k }))
 }
 
 fn lose_line(place: PacketPlace) -> Option<Line>
-    ensures { result ≡ Some (line.One (event.Lose place.y place.k)) }
+    ensures { result ≡ Some (line.One (event.Lose place.bus place.k)) }
 {
-    let PacketPlace { y, k } = place;
-    Some(Line::One(Event::Lose { y, k }))
+    let PacketPlace { bus, k } = place;
+    Some(Line::One(Event::Lose { bus, k }))
 }
 
 fn repeat_line(place: PacketPlace) -> Option<Line>
-    ensures { result ≡ Some (line.One (event.Repeat place.y place.k)) }
+    ensures { result ≡ Some (line.One (event.Repeat place.bus place.k)) }
 {
-    let PacketPlace { y, k } = place;
-    Some(Line::One(Event::Repeat { y, k }))
+    let PacketPlace { bus, k } = place;
+    Some(Line::One(Event::Repeat { bus, k }))
 }
 
 fn tick_line(processors: u8, node: u32) -> Option<Line>

@@ -38,9 +38,9 @@ holding_at w process = option_map (holding_with process) (share_at w process)
 abbrev pub holding_of : World → Event → Option Holding
 holding_of w (Run process) = holding_at w process
 holding_of w (Enter terminal) = None
-holding_of w (Deliver y k) = None
-holding_of w (Lose y k) = None
-holding_of w (Repeat y k) = None
+holding_of w (Deliver bus k) = None
+holding_of w (Lose bus k) = None
+holding_of w (Repeat bus k) = None
 holding_of w (Tick node) = None
 holding_of w (Fail processor) = None
 holding_of w (Reload processor) = None

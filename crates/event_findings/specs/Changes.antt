@@ -110,9 +110,9 @@ entered_found terminal = finding.Enters terminal.entered
 abbrev pub own_found : Site → Event → View → View → Option Finding
 own_found site (Run process) before after = step_found site process before.copies after.copies
 own_found site (Enter terminal) before after = option_map entered_found (slice_get after.terminals terminal)
-own_found site (Deliver y k) before after = None
-own_found site (Lose y k) before after = None
-own_found site (Repeat y k) before after = None
+own_found site (Deliver bus k) before after = None
+own_found site (Lose bus k) before after = None
+own_found site (Repeat bus k) before after = None
 own_found site (Tick node) before after = None
 own_found site (Fail processor) before after = None
 own_found site (Reload processor) before after = None
@@ -122,9 +122,9 @@ own_found site (Drive one) before after = None
 abbrev pub still_found : Event → View → Option Finding
 still_found (Run process) view = still_of (acting_of process view.copies)
 still_found (Enter terminal) view = None
-still_found (Deliver y k) view = None
-still_found (Lose y k) view = None
-still_found (Repeat y k) view = None
+still_found (Deliver bus k) view = None
+still_found (Lose bus k) view = None
+still_found (Repeat bus k) view = None
 still_found (Tick node) view = None
 still_found (Fail processor) view = None
 still_found (Reload processor) view = None

@@ -14,9 +14,9 @@ drive_found (Drive one) next =
     Some (finding.Drive (drive_state_at (unwrap_or (slice_get next.drives one.process) []) one.drive))
 drive_found (Run process) next = None
 drive_found (Enter terminal) next = None
-drive_found (Deliver y k) next = None
-drive_found (Lose y k) next = None
-drive_found (Repeat y k) next = None
+drive_found (Deliver bus k) next = None
+drive_found (Lose bus k) next = None
+drive_found (Repeat bus k) next = None
 drive_found (Tick node) next = None
 drive_found (Fail processor) next = None
 drive_found (Reload processor) next = None

@@ -11,7 +11,6 @@ use Rattle.schedule.specs.declared.event.Event.TheVariants.{Run, Enter, Deliver,
 use Rattle.schedule.specs.declared.event.Event.TheVariants.{Drive}
 use Rattle.machine_views.specs.site_machine.specs.packet_wires.specs.Nodes.{end_at}
 use Rattle.machine_views.specs.site_machine.specs.packet_wires.specs.Play.{Packeted, packet_at}
-use Rattle.machine_views.specs.site_machine.specs.packet_wires.specs.Wires.{bus_named}
 use Rattle.trace_lines.specs.declared.finding.Fate.{Fate}
 use Rattle.trace_lines.specs.declared.finding.Fate.TheVariants as fate
 use Rattle.trace_lines.specs.declared.finding.Finding.{Finding}
@@ -61,11 +60,11 @@ handed_with s event packet =
     then option_map (handed_at packet.receiver) (message_of s packet) else None
 
 abbrev pub handed_over : Packeted → Event → Option HandedOver
-handed_over s (Deliver y k) = option_and_then (handed_with s (Deliver y k)) (packet_at s (bus_named y) k)
+handed_over s (Deliver bus k) = option_and_then (handed_with s (Deliver bus k)) (packet_at s bus k)
 handed_over s (Run process) = None
 handed_over s (Enter terminal) = None
-handed_over s (Lose y k) = None
-handed_over s (Repeat y k) = None
+handed_over s (Lose bus k) = None
+handed_over s (Repeat bus k) = None
 handed_over s (Tick node) = None
 handed_over s (Fail processor) = None
 handed_over s (Reload processor) = None

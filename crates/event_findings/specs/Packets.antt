@@ -10,7 +10,6 @@ use Rattle.schedule.specs.declared.event.Event.TheVariants.{Run, Enter, Deliver,
 use Rattle.schedule.specs.declared.event.Event.TheVariants.{Drive}
 use Rattle.machine_views.specs.site_machine.specs.packet_wires.specs.Nodes.{end_at}
 use Rattle.machine_views.specs.site_machine.specs.packet_wires.specs.Play.{Packeted, is_current_at, packet_at}
-use Rattle.machine_views.specs.site_machine.specs.packet_wires.specs.Wires.{bus_named}
 use Rattle.trace_lines.specs.declared.finding.Fate.{Fate}
 use Rattle.trace_lines.specs.declared.finding.Fate.TheVariants as fate
 use Rattle.trace_lines.specs.declared.finding.Finding.{Finding}
@@ -32,9 +31,9 @@ sight_of packet = record { sender = packet.sender; receiver = packet.receiver; s
 
 -- the packet that an event names, which stands on a bus before it
 abbrev pub named_packet : Packeted → Event → Option Packet
-named_packet s (Deliver y k) = packet_at s (bus_named y) k
-named_packet s (Lose y k) = packet_at s (bus_named y) k
-named_packet s (Repeat y k) = packet_at s (bus_named y) k
+named_packet s (Deliver bus k) = packet_at s bus k
+named_packet s (Lose bus k) = packet_at s bus k
+named_packet s (Repeat bus k) = packet_at s bus k
 named_packet s (Run process) = None
 named_packet s (Enter terminal) = None
 named_packet s (Tick node) = None
@@ -73,9 +72,9 @@ delivered_fate s packet =
     if is_running s.world.stopped packet.receiver then current_fate s packet else fate.Dropped
 
 abbrev pub fate_of : Packeted → Event → Packet → Fate
-fate_of s (Lose y k) packet = fate.Lost
-fate_of s (Repeat y k) packet = fate.Repeated
-fate_of s (Deliver y k) packet = delivered_fate s packet
+fate_of s (Lose bus k) packet = fate.Lost
+fate_of s (Repeat bus k) packet = fate.Repeated
+fate_of s (Deliver bus k) packet = delivered_fate s packet
 fate_of s (Run process) packet = fate.Came
 fate_of s (Enter terminal) packet = fate.Came
 fate_of s (Tick node) packet = fate.Came
@@ -125,9 +124,9 @@ is_last (Some packet) = is_last_sort (sort_of packet.kind)
 -- whether an event may change the world: a packet does so only if it is the last piece of a message, and is delivered.
 -- How drives stand is no part of the world
 abbrev pub may_change : Packeted → Event → Bool
-may_change s (Deliver y k) = is_last (packet_at s (bus_named y) k)
-may_change s (Lose y k) = false
-may_change s (Repeat y k) = false
+may_change s (Deliver bus k) = is_last (packet_at s bus k)
+may_change s (Lose bus k) = false
+may_change s (Repeat bus k) = false
 may_change s (Run process) = true
 may_change s (Enter terminal) = true
 may_change s (Tick node) = true

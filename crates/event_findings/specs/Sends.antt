@@ -13,7 +13,6 @@ use Rattle.schedule.specs.declared.event.Event.TheVariants.{Run, Enter, Deliver,
 use Rattle.schedule.specs.declared.event.Event.TheVariants.{Drive}
 use Rattle.machine_views.specs.site_machine.specs.packet_wires.specs.Nodes.{Node, all_nodes, end_at}
 use Rattle.machine_views.specs.site_machine.specs.packet_wires.specs.Play.{Packeted, packet_at}
-use Rattle.machine_views.specs.site_machine.specs.packet_wires.specs.Wires.{bus_named}
 use Rattle.tal_tree.specs.declared.site.Site.{Site}
 use Rattle.trace_lines.specs.declared.finding.Finding.{Finding}
 use Rattle.trace_lines.specs.declared.finding.Finding.TheVariants as finding
@@ -33,9 +32,9 @@ processor_of copy = option_map (λ one. one.processor) copy
 abbrev pub sender_of : Packeted → Event → View → Option ℕ
 sender_of s (Run process) view = processor_of (acting_of process view.copies)
 sender_of s (Enter terminal) view = Some terminal_node
-sender_of s (Deliver y k) view = option_map (λ packet. packet.receiver) (packet_at s (bus_named y) k)
-sender_of s (Lose y k) view = None
-sender_of s (Repeat y k) view = None
+sender_of s (Deliver bus k) view = option_map (λ packet. packet.receiver) (packet_at s bus k)
+sender_of s (Lose bus k) view = None
+sender_of s (Repeat bus k) view = None
 sender_of s (Tick node) view = Some node
 sender_of s (Fail processor) view = None
 sender_of s (Reload processor) view = None
@@ -49,12 +48,12 @@ count_at (Some e) = length e.sending.queue
 -- whether a request or a reply that an event sends is sent again. A process asks and replies as it runs, and a terminal
 -- asks as it enters; at a mark, and if a request comes that was replied to, what was sent before is sent once more
 abbrev pub sends_again : Event → Bool
-sends_again (Deliver y k) = true
+sends_again (Deliver bus k) = true
 sends_again (Tick node) = true
 sends_again (Run process) = false
 sends_again (Enter terminal) = false
-sends_again (Lose y k) = false
-sends_again (Repeat y k) = false
+sends_again (Lose bus k) = false
+sends_again (Repeat bus k) = false
 sends_again (Fail processor) = false
 sends_again (Reload processor) = false
 sends_again (Drive one) = false

@@ -38,9 +38,9 @@ abbrev pub sets_found : Site → Event → View → View → List Finding
 sets_found site (Run process) before after =
     sets_by process (slice_get site.processes process) before.copies after.copies
 sets_found site (Enter terminal) before after = []
-sets_found site (Deliver y k) before after = []
-sets_found site (Lose y k) before after = []
-sets_found site (Repeat y k) before after = []
+sets_found site (Deliver bus k) before after = []
+sets_found site (Lose bus k) before after = []
+sets_found site (Repeat bus k) before after = []
 sets_found site (Tick node) before after = []
 sets_found site (Fail processor) before after = []
 sets_found site (Reload processor) before after = []

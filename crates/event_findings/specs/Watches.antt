@@ -35,9 +35,9 @@ abbrev pub ticking_of : Packeted → Event → Option Ticking
 ticking_of s (Tick node) = ticking_at s node
 ticking_of s (Run process) = None
 ticking_of s (Enter terminal) = None
-ticking_of s (Deliver y k) = None
-ticking_of s (Lose y k) = None
-ticking_of s (Repeat y k) = None
+ticking_of s (Deliver bus k) = None
+ticking_of s (Lose bus k) = None
+ticking_of s (Repeat bus k) = None
 ticking_of s (Fail processor) = None
 ticking_of s (Reload processor) = None
 ticking_of s (Drive one) = None

@@ -20,9 +20,9 @@ pub(crate) fn holding_of(machine: &Machine, event: Event) -> Option<Holding>
     match event {
         Event::Run(process) => holding_at(machine, process),
         Event::Enter(_) => None,
-        Event::Deliver { y: _, k: _ } => None,
-        Event::Lose { y: _, k: _ } => None,
-        Event::Repeat { y: _, k: _ } => None,
+        Event::Deliver { bus: _, k: _ } => None,
+        Event::Lose { bus: _, k: _ } => None,
+        Event::Repeat { bus: _, k: _ } => None,
         Event::Tick(_) => None,
         Event::Fail(_) => None,
         Event::Reload(_) => None,

@@ -19,14 +19,14 @@ pub(crate) fn handed_over(machine: &Machine, event: Event) -> Option<HandedOver>
     ensures { result ≡ handed_over machine.now.state event }
 {
     match event {
-        Event::Deliver { y, k } => {
-            let packet = machine.packet_at(y, k)?;
+        Event::Deliver { bus, k } => {
+            let packet = machine.packet_at(bus, k)?;
             handed_with(machine, event, packet)
         }
         Event::Run(_) => None,
         Event::Enter(_) => None,
-        Event::Lose { y: _, k: _ } => None,
-        Event::Repeat { y: _, k: _ } => None,
+        Event::Lose { bus: _, k: _ } => None,
+        Event::Repeat { bus: _, k: _ } => None,
         Event::Tick(_) => None,
         Event::Fail(_) => None,
         Event::Reload(_) => None,

@@ -32,9 +32,9 @@ fn named_packet(machine: &Machine, event: Event) -> Option<&Packet>
     ensures { option_copied result ≡ named_packet machine.now.state event }
 {
     match event {
-        Event::Deliver { y, k } => machine.packet_at(y, k),
-        Event::Lose { y, k } => machine.packet_at(y, k),
-        Event::Repeat { y, k } => machine.packet_at(y, k),
+        Event::Deliver { bus, k } => machine.packet_at(bus, k),
+        Event::Lose { bus, k } => machine.packet_at(bus, k),
+        Event::Repeat { bus, k } => machine.packet_at(bus, k),
         Event::Run(_) => None,
         Event::Enter(_) => None,
         Event::Tick(_) => None,
@@ -128,9 +128,9 @@ pub(crate) fn fate_of(machine: &Machine, event: Event, packet: &Packet) -> Fate
     ensures { result ≡ fate_of machine.now.state event packet.now }
 {
     match event {
-        Event::Lose { y: _, k: _ } => Fate::Lost,
-        Event::Repeat { y: _, k: _ } => Fate::Repeated,
-        Event::Deliver { y: _, k: _ } => delivered_fate(machine, packet),
+        Event::Lose { bus: _, k: _ } => Fate::Lost,
+        Event::Repeat { bus: _, k: _ } => Fate::Repeated,
+        Event::Deliver { bus: _, k: _ } => delivered_fate(machine, packet),
         Event::Run(_) => Fate::Came,
         Event::Enter(_) => Fate::Came,
         Event::Tick(_) => Fate::Came,
@@ -218,9 +218,9 @@ pub(crate) fn may_change(machine: &Machine, event: Event) -> bool
     ensures { result ≡ spec.may_change machine.now.state event }
 {
     match event {
-        Event::Deliver { y, k } => is_last(machine.packet_at(y, k)),
-        Event::Lose { y: _, k: _ } => false,
-        Event::Repeat { y: _, k: _ } => false,
+        Event::Deliver { bus, k } => is_last(machine.packet_at(bus, k)),
+        Event::Lose { bus: _, k: _ } => false,
+        Event::Repeat { bus: _, k: _ } => false,
         Event::Run(_) => true,
         Event::Enter(_) => true,
         Event::Tick(_) => true,

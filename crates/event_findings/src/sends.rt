@@ -1,7 +1,6 @@
 ghost use Rattle.std.specs.Prelude.{◌≡◌, ◌++◌, map, IfOk, OnOk};
 ghost use Rattle.std.specs.Option.{option_copied, option_map};
 ghost use Rattle.machine_views.specs.site_machine.specs.packet_wires.specs.Play.{packet_at};
-ghost use Rattle.machine_views.specs.site_machine.specs.packet_wires.specs.Wires.{bus_named};
 ghost use Rattle.event_findings.specs.Sends as spec;
 ghost use Rattle.event_findings.specs.Sends.{before_first, count_at, last_behind, queued_at, queued_for, sender_of};
 ghost use Rattle.event_findings.specs.Sends.{sends, sends_behind, sends_of, sends_since, sends_unless};
@@ -14,7 +13,7 @@ use gd_words::limits::TERMINAL_NODE;
 use gd_words::{List, NoMemory};
 use link_control::{Channel, Sender};
 use machine_views::{Machine, View, acting_of};
-use schedule::Event;
+use schedule::{BusName, Event};
 use std::alloc::Global;
 use trace_lines::{Finding, MessageName};
 
@@ -82,9 +81,9 @@ fn sender_of(machine: &Machine, event: Event, view: &View) -> Option<u8>
     match event {
         Event::Run(process) => processor_of(process, view),
         Event::Enter(_) => Some(TERMINAL_NODE),
-        Event::Deliver { y, k } => receiver_of(machine, y, k),
-        Event::Lose { y: _, k: _ } => None,
-        Event::Repeat { y: _, k: _ } => None,
+        Event::Deliver { bus, k } => receiver_of(machine, bus, k),
+        Event::Lose { bus: _, k: _ } => None,
+        Event::Repeat { bus: _, k: _ } => None,
         Event::Tick(node) => Some(node),
         Event::Fail(_) => None,
         Event::Reload(_) => None,
@@ -99,10 +98,10 @@ fn processor_of(process: u8, view: &View) -> Option<u8>
     Some(copy.processor)
 }
 
-fn receiver_of(machine: &Machine, y: bool, k: u32) -> Option<u8>
-    ensures { result ≡ option_map (λ packet. packet.receiver) (packet_at machine.now.state (bus_named y) k) }
+fn receiver_of(machine: &Machine, bus: BusName, k: u32) -> Option<u8>
+    ensures { result ≡ option_map (λ packet. packet.receiver) (packet_at machine.now.state bus k) }
 {
-    let packet = machine.packet_at(y, k)?;
+    let packet = machine.packet_at(bus, k)?;
     Some(packet.receiver)
 }
 
@@ -244,12 +243,12 @@ fn sends_again(event: Event) -> bool
     ensures { result ≡ sends_again event }
 {
     match event {
-        Event::Deliver { y: _, k: _ } => true,
+        Event::Deliver { bus: _, k: _ } => true,
         Event::Tick(_) => true,
         Event::Run(_) => false,
         Event::Enter(_) => false,
-        Event::Lose { y: _, k: _ } => false,
-        Event::Repeat { y: _, k: _ } => false,
+        Event::Lose { bus: _, k: _ } => false,
+        Event::Repeat { bus: _, k: _ } => false,
         Event::Fail(_) => false,
         Event::Reload(_) => false,
         Event::Drive(_) => false,

@@ -101,9 +101,9 @@ ends_of_run process before after ends = record ends {
 abbrev pub stepped : Event → Option ℕ
 stepped (event.Run process) = Some process
 stepped (event.Enter terminal) = None
-stepped (event.Deliver y k) = None
-stepped (event.Lose y k) = None
-stepped (event.Repeat y k) = None
+stepped (event.Deliver bus k) = None
+stepped (event.Lose bus k) = None
+stepped (event.Repeat bus k) = None
 stepped (event.Tick node) = None
 stepped (event.Fail processor) = None
 stepped (event.Reload processor) = None

@@ -14,7 +14,7 @@ use machine_views::Process;
 use noted_rules::PlayedPackets;
 use player::Player;
 use program_ends::LastStep;
-use schedule::{Counts, Event};
+use schedule::{BusName, Counts, Event};
 use schedule_loop::ScheduleMachine;
 use std::alloc::Global;
 use tal_tree::Site;
@@ -117,8 +117,8 @@ impl<'a> ScheduleMachine for NotedPackets<'a> {
         }
     }
 
-    fn deliver_at_once(&mut self, y: bool) -> bool {
-        self.packets.machine.deliver_at_once(y)
+    fn deliver_at_once(&mut self, bus: BusName) -> bool {
+        self.packets.machine.deliver_at_once(bus)
     }
 
     fn counts(&self, player: &Player, idle: bool) -> Counts {
@@ -145,9 +145,9 @@ fn stepped(event: Event) -> Option<u8>
     match event {
         Event::Run(process) => Some(process),
         Event::Enter(_) => None,
-        Event::Deliver { y: _, k: _ } => None,
-        Event::Lose { y: _, k: _ } => None,
-        Event::Repeat { y: _, k: _ } => None,
+        Event::Deliver { bus: _, k: _ } => None,
+        Event::Lose { bus: _, k: _ } => None,
+        Event::Repeat { bus: _, k: _ } => None,
         Event::Tick(_) => None,
         Event::Fail(_) => None,
         Event::Reload(_) => None,

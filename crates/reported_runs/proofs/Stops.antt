@@ -9,7 +9,7 @@ use Rattle.schedule.specs.declared.event.Event.TheVariants.{Run, Enter, Deliver,
 use Rattle.schedule.specs.declared.event.Event.TheVariants.{Drive}
 use Rattle.schedule.specs.declared.line.Line.{Line}
 use Rattle.player.specs.declared.stop.ProcessorStop.{ProcessorStop}
-use Rattle.packet_words.specs.declared.bus_name.BusName.{BusName}
+use Rattle.schedule.specs.declared.bus_name.BusName.{BusName}
 use Rattle.packet_words.specs.declared.packet.Packet.{Packet}
 use Rattle.world_semantics.specs.Running.{Done, run_done}
 use Rattle.world_semantics.specs.World.{is_running}
@@ -21,7 +21,7 @@ use Rattle.packet_wires.specs.Play.{Packeted, Underway, acted, underway, deliver
 use Rattle.packet_wires.specs.Play.{lose_acted, made_by, packet_at, play, pulled, pulled_running, pulls, pulls_its}
 use Rattle.packet_wires.specs.Play.{reload_acted, repeat_acted, stop_acted, taken_off, tick_acted}
 use Rattle.packet_wires.specs.Runs.{IsPlayed, played_none, played_more, skipped}
-use Rattle.packet_wires.specs.Wires.{Midst, Wires, bus_named, midst_after_tick}
+use Rattle.packet_wires.specs.Wires.{Midst, Wires, midst_after_tick}
 use Rattle.packets_laws.proofs.Going as going
 use Rattle.packets_laws.proofs.Going.{Goes, play-goes}
 use Rattle.command_dues.specs.packet_runs.proofs.Played.{played}
@@ -132,9 +132,9 @@ tick-there node s = by (is_running s.world.stopped node)
 acted-there : (s : Packeted) (event : Event) → StopsThere (underway s) (acted s event)
 acted-there s (Run number) = made-there (underway s) (run_done s.site number s.world)
 acted-there s (Enter number) = made-there (underway s) (enter_done s.site number s.world)
-acted-there s (Deliver y k) = deliver-there (bus_named y) (underway s) (packet_at s (bus_named y) k)
-acted-there s (Lose y k) = lose-there (underway s) (packet_at s (bus_named y) k)
-acted-there s (Repeat y k) = repeat-there (bus_named y) (underway s) (packet_at s (bus_named y) k)
+acted-there s (Deliver bus k) = deliver-there bus (underway s) (packet_at s bus k)
+acted-there s (Lose bus k) = lose-there (underway s) (packet_at s bus k)
+acted-there s (Repeat bus k) = repeat-there bus (underway s) (packet_at s bus k)
 acted-there s (Tick node) = tick-there node (underway s)
 acted-there s (Fail processor) =
     fail-there processor (underway s) (slice_get s.world.stopped processor) refl

@@ -1,5 +1,5 @@
 use deck_reader::read_deck;
-use schedule::{Event, Line};
+use schedule::{BusName, Event, Line};
 use std::test::Fail;
 
 /// Two processes, of which the terminal before them asks the second one, and each line of a schedule.
@@ -48,10 +48,16 @@ const LINES: [Line; 16] = [
         times: 1,
     },
     Line::One(Event::Enter(0)),
-    Line::One(Event::Deliver { y: false, k: 0 }),
-    Line::One(Event::Lose { y: true, k: 7 }),
+    Line::One(Event::Deliver {
+        bus: BusName::X,
+        k: 0,
+    }),
+    Line::One(Event::Lose {
+        bus: BusName::Y,
+        k: 7,
+    }),
     Line::One(Event::Repeat {
-        y: false,
+        bus: BusName::X,
         k: 999_999_999,
     }),
     Line::One(Event::Tick(2)),

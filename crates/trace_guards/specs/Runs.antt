@@ -5,6 +5,7 @@ use Rattle.event_findings.specs.Told.{told}
 use Rattle.event_findings.specs.machine_views.specs.Views.{view_of}
 use Rattle.event_findings.specs.machine_views.specs.declared.views.CopyView.{CopyView}
 use Rattle.mirror.specs.declared.state.DriveState.{DriveState}
+use Rattle.schedule.specs.declared.bus_name.BusName.TheVariants as bus
 use Rattle.schedule.specs.declared.event.DriveChange.{DriveChange}
 use Rattle.schedule.specs.declared.event.Event.{Event}
 use Rattle.schedule.specs.declared.event.Event.TheVariants as event
@@ -108,7 +109,7 @@ driven drive change = event.Drive (record { process = 0; drive = drive; change =
 
 -- the request came, and its packet stands on bus X once more
 abbrev pub doubled : Packeted
-doubled = end_of entered (event.Repeat false 0 ∷ next_x ∷ [])
+doubled = end_of entered (event.Repeat bus.X 0 ∷ next_x ∷ [])
 
 -- the same after its first tick
 abbrev pub after_one_tick : Packeted

@@ -1,10 +1,11 @@
 //! What is told of events of worked runs.
-ghost use Rattle.std.specs.Prelude.{◌≡◌, false, pos, [], ◌∷◌, None, Some};
+ghost use Rattle.std.specs.Prelude.{◌≡◌, pos, [], ◌∷◌, None, Some};
 ghost use Rattle.event_findings.specs.HandedOver.{done_by};
 ghost use Rattle.event_findings.specs.Messages.{message_named};
 ghost use Rattle.event_findings.specs.Told.{shown_by};
 ghost use Rattle.process_semantics.specs.declared.point.Point.TheVariants as point;
 ghost use Rattle.mirror.specs.declared.state.DriveState.TheVariants.{Failed, Reviving, Working};
+ghost use Rattle.schedule.specs.declared.bus_name.BusName.TheVariants as bus;
 ghost use Rattle.schedule.specs.declared.event.DriveChange.TheVariants.{Break, Copy, Revive};
 ghost use Rattle.schedule.specs.declared.event.Event.TheVariants as event;
 ghost use Rattle.event_findings.specs.site_machine.specs.packet_wires.specs.Examples.{adder_at_boot};
@@ -57,9 +58,9 @@ pub fn packets_are_told()
     ensures comes { told_in entered next_x
         ≡ piece (sort.LastPiece 1) 16 0 fate.Came request_named ∷ finding.Waits 0 0 1 ∷ [] }
     ensures again { told_in doubled next_x ≡ piece (sort.LastPiece 1) 16 0 fate.CameAgain request_named ∷ [] }
-    ensures lost { told_in entered (event.Lose false 0)
+    ensures lost { told_in entered (event.Lose bus.X 0)
         ≡ piece (sort.LastPiece 1) 16 0 fate.Lost request_named ∷ [] }
-    ensures repeated { told_in entered (event.Repeat false 0)
+    ensures repeated { told_in entered (event.Repeat bus.X 0)
         ≡ piece (sort.LastPiece 1) 16 0 fate.Repeated request_named ∷ [] }
     ensures whole { told_in before_last_piece next_x
         ≡ piece (sort.LastPiece 3) 0 1 fate.Came checkpoint_named ∷ finding.AppliesCheckpoint 0 1 1
@@ -67,7 +68,7 @@ pub fn packets_are_told()
         ∷ finding.Keeps (act.Step 0) ∷ [] }
     ensures refused { told_in taken_over next_x
         ≡ piece (sort.LastPiece 3) 0 1 fate.Refused checkpoint_named ∷ [] }
-    ensures dropped { told_in taken_over (event.Deliver false 1) ≡ packet sort.Alive 1 0 fate.Dropped ∷ [] }
+    ensures dropped { told_in taken_over (event.Deliver bus.X 1) ≡ packet sort.Alive 1 0 fate.Dropped ∷ [] }
 {}
 
 /// The copy that acts hears that its checkpoint was taken. One that watches ignores a checkpoint that isn't the next
@@ -106,7 +107,7 @@ pub fn a_takeover_is_told()
     ensures takes_over { told_in before_takeover (event.Tick 1)
         ≡ finding.FindsSilent 1 0 ∷ finding.Reports 1 first_silent ∷ finding.PullsLine 1 0 ∷ finding.Marks 1 0
         ∷ finding.TakesOver 0 1 1 (Some 1) ∷ sends 1 16 1 (name.Down 0) ∷ [] }
-    ensures asks_again { told_in taken_over (event.Deliver false 6)
+    ensures asks_again { told_in taken_over (event.Deliver bus.X 6)
         ≡ piece (sort.LastPiece 1) 1 16 fate.Came (name.Down 0) ∷ finding.Marks 16 0
         ∷ sends_again 16 1 1 request_named ∷ [] }
     ensures second { told_in before_third_piece (event.Fail 1) ≡ finding.WouldStopSecond 1 ∷ [] }

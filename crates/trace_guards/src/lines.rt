@@ -1,8 +1,9 @@
 //! Lines of a trace as they are written.
 ghost use Rattle.std.specs.Fmt.{decimal, signed_decimal};
-ghost use Rattle.std.specs.Prelude.{◌≡◌, true, pos, codes, [], ◌∷◌, ◌++◌, None, Some, ℕ, ℤ};
+ghost use Rattle.std.specs.Prelude.{◌≡◌, pos, codes, [], ◌∷◌, ◌++◌, None, Some, ℕ, ℤ};
 ghost use Rattle.mirror.specs.declared.state.DriveState.TheVariants.{Failed, Reviving, Working};
 ghost use Rattle.process_semantics.specs.declared.point.Point.TheVariants as point;
+ghost use Rattle.schedule.specs.declared.bus_name.BusName.TheVariants as bus;
 ghost use Rattle.schedule.specs.declared.event.DriveChange.TheVariants.{Break, Copy, Revive};
 ghost use Rattle.schedule.specs.declared.event.Event.TheVariants as event;
 ghost use Rattle.alive_regroup.specs.Sets.{nobody};
@@ -27,7 +28,7 @@ pub fn lines_are_written_so()
         ++ 10 ∷ [] }
     ensures tick { event_line adder_site places 15 (event.Tick 16) [] []
         ≡ decimal 15 ++ codes " " ++ (codes "tick " ++ decimal 16 ++ []) ++ [] ++ [] ++ 10 ∷ [] }
-    ensures deliver { event_line adder_site places 9 (event.Deliver true 3)
+    ensures deliver { event_line adder_site places 9 (event.Deliver bus.Y 3)
         (packet (sort.LastPiece 1) 0 16 fate.Came ∷ []) (reply 0 (pos 5) ∷ [])
         ≡ decimal 9 ++ codes " " ++ (codes "deliver y " ++ decimal 3 ++ [])
         ++ (codes " | " ++ (((codes "last piece " ++ decimal 1 ++ [])

@@ -1,6 +1,8 @@
 -- The line of an event: its number, the event as a line of a schedule asks for it, what it did, and what it showed. Our
 -- own.
-use Rattle.std.specs.Prelude.{ℕ, Bool, true, false, List, [], ◌∷◌, ◌++◌, codes, flat_map}
+use Rattle.std.specs.Prelude.{ℕ, List, [], ◌∷◌, ◌++◌, codes, flat_map}
+use Rattle.schedule.specs.declared.bus_name.BusName.{BusName}
+use Rattle.schedule.specs.declared.bus_name.BusName.TheVariants as bus
 use Rattle.schedule.specs.declared.event.DriveChange.{DriveChange}
 use Rattle.schedule.specs.declared.event.DriveChange.TheVariants.{Break, Revive, Copy}
 use Rattle.schedule.specs.declared.event.DriveEvent.{DriveEvent}
@@ -17,12 +19,12 @@ use Rattle.trace_lines.specs.declared.places.Places.{Places}
 abbrev pub named_text : List ℕ → List ℕ → List ℕ
 named_text deed name = deed ++ name
 
-abbrev pub bus_text : Bool → List ℕ
-bus_text true = codes "y "
-bus_text false = codes "x "
+abbrev pub bus_text : BusName → List ℕ
+bus_text bus.X = codes "x "
+bus_text bus.Y = codes "y "
 
-abbrev pub packet_place_text : List ℕ → Bool → ℕ → List ℕ
-packet_place_text deed y k = deed ++ numbered_text (bus_text y) k []
+abbrev pub packet_place_text : List ℕ → BusName → ℕ → List ℕ
+packet_place_text deed bus k = deed ++ numbered_text (bus_text bus) k []
 
 abbrev pub deed_text : DriveChange → List ℕ
 deed_text Break = codes "break "
@@ -37,9 +39,9 @@ drive_event_text name one = deed_text one.change ++ name ++ numbered_text (codes
 abbrev pub event_text : Site → Event → List ℕ
 event_text site (event.Run process) = named_text (codes "run ") (process_name site process)
 event_text site (event.Enter terminal) = named_text (codes "enter ") (terminal_name site terminal)
-event_text site (event.Deliver y k) = packet_place_text (codes "deliver ") y k
-event_text site (event.Lose y k) = packet_place_text (codes "lose ") y k
-event_text site (event.Repeat y k) = packet_place_text (codes "repeat ") y k
+event_text site (event.Deliver bus k) = packet_place_text (codes "deliver ") bus k
+event_text site (event.Lose bus k) = packet_place_text (codes "lose ") bus k
+event_text site (event.Repeat bus k) = packet_place_text (codes "repeat ") bus k
 event_text site (event.Tick node) = numbered_text (codes "tick ") node []
 event_text site (event.Fail processor) = numbered_text (codes "fail ") processor []
 event_text site (event.Reload processor) = numbered_text (codes "reload ") processor []

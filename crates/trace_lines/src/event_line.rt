@@ -8,7 +8,7 @@ use crate::names::{process_name, put_numbered, terminal_name};
 use crate::places::Places;
 use crate::shown_words::put_all_shown;
 use gd_words::{List, NoMemory};
-use schedule::{DriveChange, DriveEvent, Event};
+use schedule::{BusName, DriveChange, DriveEvent, Event};
 use tal_tree::{Shown, Site};
 use text_pieces::put;
 
@@ -45,9 +45,9 @@ pub fn put_event_name(text: &mut List<u8>, site: &Site, event: Event) -> Result<
     match event {
         Event::Run(process) => put_named(text, b"run ", process_name(site, process)),
         Event::Enter(terminal) => put_named(text, b"enter ", terminal_name(site, terminal)),
-        Event::Deliver { y, k } => put_packet_place(text, b"deliver ", y, k),
-        Event::Lose { y, k } => put_packet_place(text, b"lose ", y, k),
-        Event::Repeat { y, k } => put_packet_place(text, b"repeat ", y, k),
+        Event::Deliver { bus, k } => put_packet_place(text, b"deliver ", bus, k),
+        Event::Lose { bus, k } => put_packet_place(text, b"lose ", bus, k),
+        Event::Repeat { bus, k } => put_packet_place(text, b"repeat ", bus, k),
         Event::Tick(node) => put_numbered(text, b"tick ", u64::from(node), b""),
         Event::Fail(processor) => put_numbered(text, b"fail ", u64::from(processor), b""),
         Event::Reload(processor) => put_numbered(text, b"reload ", u64::from(processor), b""),
@@ -62,17 +62,20 @@ fn put_named(text: &mut List<u8>, deed: &[u8], name: &[u8]) -> Result<(), NoMemo
     put(text, name)
 }
 
-fn put_packet_place(text: &mut List<u8>, deed: &[u8], y: bool, k: u32) -> Result<(), NoMemory>
-    ensures { OnOk result (text.new ≡ text.old ++ packet_place_text deed.now y k) }
+fn put_packet_place(text: &mut List<u8>, deed: &[u8], bus: BusName, k: u32) -> Result<(), NoMemory>
+    ensures { OnOk result (text.new ≡ text.old ++ packet_place_text deed.now bus k) }
 {
     put(text, deed)?;
-    put_numbered(text, bus_text(y), u64::from(k), b"")
+    put_numbered(text, bus_text(bus), u64::from(k), b"")
 }
 
-fn bus_text(y: bool) -> &'static [u8]
-    ensures { result.now ≡ bus_text y }
+fn bus_text(bus: BusName) -> &'static [u8]
+    ensures { result.now ≡ bus_text bus }
 {
-    if y { b"y " } else { b"x " }
+    match bus {
+        BusName::X => b"x ",
+        BusName::Y => b"y ",
+    }
 }
 
 fn put_drive_event(text: &mut List<u8>, name: &[u8], one: DriveEvent) -> Result<(), NoMemory>
