@@ -2,14 +2,14 @@
 use Rattle.std.proofs.Common.{◌≡◌, Bool, false, if◌then◌else◌, Some, None, ap, sym, ◌∙◌}
 use Rattle.std.specs.Option.{option_map, option_and_then}
 use Rattle.change_layout.specs.tal_tree.specs.declared.site.Site.{Site}
-use Rattle.world_semantics.specs.checkpoint_image.proofs.Readers.{number-reads}
 use Rattle.world_semantics.specs.checkpoint_image.proofs.Messages.{read-again}
 use Rattle.world_semantics.specs.Messages.{Message, Asking, Replying, Checkpointing, Taking}
 use Rattle.change_layout.proofs.Messages as changes
 use Rattle.message_layout.specs.Messages.{NodeMessage, Carrying, Changing, Reporting, Declaring, is_known}
 use Rattle.message_layout.specs.Layout.{words_of, Fits, IsCarriedWithin, IsWithin}
 use Rattle.message_layout.specs.Reading.{node_message_in, if_known, understood}
-use Rattle.message_layout.proofs.Readers.{request-reads, answer-reads, taken-reads, report-reads, whole-again}
+use Rattle.message_layout.proofs.Readers.{request-reads, answer-reads, taken-reads, report-reads, processor-reads}
+use Rattle.message_layout.proofs.Readers.{whole-again}
 
 carried-again : (message : Message) → IsCarriedWithin message
     → node_message_in (words_of (Carrying message)) ≡ Some (Carrying message)
@@ -30,7 +30,7 @@ written-again (Changing change) is = ap (option_map (λ change. Changing change)
 written-again (Reporting node silent) is =
     ap (option_map (λ (node, silent). Reporting node silent)) (whole-again report-reads (node, silent) (is.0, is.1))
 written-again (Declaring processor) is =
-    ap (option_map (λ processor. Declaring processor)) (whole-again (number-reads 15) processor is)
+    ap (option_map (λ processor. Declaring processor)) (whole-again processor-reads processor is)
 
 pub apart : (one other : NodeMessage) → IsWithin one → IsWithin other → words_of one ≡ words_of other → one ≡ other
 apart one other is_one is_other same =

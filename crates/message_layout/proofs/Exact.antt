@@ -5,7 +5,6 @@ use Rattle.std.specs.Option.{option_map, option_and_then}
 use Rattle.change_layout.specs.tal_tree.specs.declared.site.Site.{Site}
 use Rattle.world_semantics.specs.process_semantics.specs.Words.{whole}
 use Rattle.world_semantics.specs.checkpoint_image.specs.Reading.{number_in, message_in}
-use Rattle.world_semantics.specs.checkpoint_image.proofs.Readers.{number-reads}
 use Rattle.world_semantics.specs.checkpoint_image.proofs.Messages.{read-exact}
 use Rattle.world_semantics.specs.Messages.{Asking, Replying, Checkpointing, Taking}
 use Rattle.change_layout.proofs.Messages as changes
@@ -14,7 +13,8 @@ use Rattle.message_layout.specs.Messages.{NodeMessage, Carrying, Changing, Repor
 use Rattle.message_layout.specs.Layout.{words_of, Fits, IsWithin}
 use Rattle.message_layout.specs.Reading.{request_in, answer_in, taken_in, report_in, message_of_kind, node_message_in}
 use Rattle.message_layout.specs.Reading.{if_known, understood}
-use Rattle.message_layout.proofs.Readers.{request-reads, answer-reads, taken-reads, report-reads, whole-exact}
+use Rattle.message_layout.proofs.Readers.{request-reads, answer-reads, taken-reads, report-reads, processor-reads}
+use Rattle.message_layout.proofs.Readers.{whole-exact}
 
 -- these words are those of a message within the layout
 abbrev IsOf : List ℤ → NodeMessage → Type 0
@@ -56,7 +56,7 @@ of-kind (suc (suc (suc (suc (suc zero))))) words message is =
     (ap (λ (ws : List ℤ). pos 5 ∷ ws) was.0, was.1)) is
 of-kind (suc (suc (suc (suc (suc (suc zero)))))) words message is =
     told (whole (number_in 15 words)) (λ processor. Declaring processor) (pos 6 ∷ words) message
-    (λ processor found. let was = whole-exact (number-reads 15) words processor found in
+    (λ processor found. let was = whole-exact processor-reads words processor found in
     (ap (λ (ws : List ℤ). pos 6 ∷ ws) was.0, was.1)) is
 of-kind (suc (suc (suc (suc (suc (suc (suc zero))))))) words message is =
     told (changes_in.message_in (pos 7 ∷ words)) (λ change. Changing change) (pos 7 ∷ words) message

@@ -1,8 +1,8 @@
 -- Each part of a message is read as it is written, and only so.
 use Rattle.std.proofs.Common.{◌≤◌, ◌<◌, ◌^◌, ◌≡◌, ℕ, ℤ, pos, List, [], ◌∷◌, ◌++◌, length, Some, None, refl, ap, sym}
-use Rattle.std.proofs.Common.{subst, ◌∙◌, append-nil}
+use Rattle.std.proofs.Common.{subst, ◌∙◌, append-nil, arith}
 use Rattle.world_semantics.specs.process_semantics.specs.Words.{Front, whole, words_in, long, with_count}
-use Rattle.world_semantics.specs.checkpoint_image.specs.Reading.{reply_in, longs_in}
+use Rattle.world_semantics.specs.checkpoint_image.specs.Reading.{number_in, reply_in, longs_in}
 use Rattle.world_semantics.specs.checkpoint_image.proofs.Readers.{WasWritten, IsReader, number-reads, words-reads}
 use Rattle.world_semantics.specs.checkpoint_image.proofs.Readers.{sized-reads, both-reads}
 use Rattle.world_semantics.specs.checkpoint_image.proofs.Patterns.{pair-reads}
@@ -62,10 +62,22 @@ taken-reads =
     (λ process (era, number). record { process = process; era = era; number = number }) (λ taken. taken.process)
     (λ taken. (taken.era, taken.number)) (λ taken. refl) (λ process longs. refl) (λ process longs. refl)
 
+processor-was : (words : List ℤ) (read : Front ℕ) → WasWritten (λ n. pos n ∷ []) (λ n. n ≤ 15) words read
+    → WasWritten (λ n. pos n ∷ []) (λ n. n < 16) words read
+processor-was words None was = was
+processor-was words (Some (n, left)) was = (was.0, omega (arith, was.1))
+
+-- the number of a processor
+pub processor-reads : IsReader (λ n. pos n ∷ []) (λ n. n < 16) (number_in 15)
+processor-reads = record {
+  again = λ n left is. (number-reads 15).again n left (omega (arith, is));
+  exact = λ words. processor-was words (number_in 15 words) ((number-reads 15).exact words);
+}
+
 pub report-reads : IsReader (λ (node, silent). report_words node silent)
-    (λ (node, silent). (node ≤ 15) × (length silent.members ≡ 16)) report_in
+    (λ (node, silent). (node < 16) × (length silent.members ≡ 16)) report_in
 report-reads =
-    both-reads (number-reads 15) set-reads (λ node silent. (node, silent)) (λ report. report.0) (λ report. report.1)
+    both-reads processor-reads set-reads (λ node silent. (node, silent)) (λ report. report.0) (λ report. report.1)
     (λ report. refl) (λ node silent. refl) (λ node silent. refl)
 
 -- Words with nothing behind them

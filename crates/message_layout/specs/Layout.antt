@@ -79,8 +79,8 @@ IsCarriedWithin (Taking taken) = IsTakenWithin taken
 abbrev pub IsWithin : NodeMessage → Type 0
 IsWithin (Carrying message) = IsCarriedWithin message
 IsWithin (Changing change) = changes.IsWithinLayout change
-IsWithin (Reporting node silent) = (node ≤ 15) × (length silent.members ≡ MOST_PROCESSORS)
-IsWithin (Declaring processor) = processor ≤ 15
+IsWithin (Reporting node silent) = (node < MOST_PROCESSORS) × (length silent.members ≡ MOST_PROCESSORS)
+IsWithin (Declaring processor) = processor < MOST_PROCESSORS
 
 -- a message fits a site: it keeps to the layout, and the site has all that it names
 pub record Fits (site : Site) (message : NodeMessage) : Type 0 where

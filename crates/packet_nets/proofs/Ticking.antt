@@ -164,7 +164,7 @@ module _ {site : Site} {stopped : List Bool} {reloads : List ℕ} {on : List Pac
               (watched-ties midst x after_tick (λ watch is. ticked-watch is) T))
 
   -- a stopped processor is declared down to all others
-  pub down-ties : (midst : Midst) (processor : ℕ) → processor ≤ 15 → slice_get stopped processor ≡ Some true
+  pub down-ties : (midst : Midst) (processor : ℕ) → processor < 16 → slice_get stopped processor ≡ Some true
       → Ties site stopped reloads on midst owed sent
       → Ties site stopped reloads on (declares site.processors x processor midst) owed sent
   down-ties midst processor few gone T =
@@ -176,7 +176,7 @@ module _ {site : Site} {stopped : List Bool} {reloads : List ℕ} {on : List Pac
 
 -- no node pulls its own line, and each line is a processor's
 pub held-other : (node : ℕ) (watch : Watching) (from more processor : ℕ) → from + more ≤ 16
-    → first_held node watch from more ≡ Some processor → (processor ≢ node) × (processor ≤ 15)
+    → first_held node watch from more ≡ Some processor → (processor ≢ node) × (processor < 16)
 held-other node watch from zero processor few is = absurd cc
 held-other node watch from (suc more) processor few is =
     by (from == node) (is_held from watch) refl is
@@ -185,8 +185,8 @@ held-other node watch from (suc more) processor few is =
     by : (here held : Bool) → (from == node) ≡ here
         → (if here then first_held node watch (from + 1) more else if held then Some from else first_held node watch
         (from + 1) more) ≡ Some processor
-        → (first_held node watch (from + 1) more ≡ Some processor → (processor ≢ node) × (processor ≤ 15))
-        → (processor ≢ node) × (processor ≤ 15)
+        → (first_held node watch (from + 1) more ≡ Some processor → (processor ≢ node) × (processor < 16))
+        → (processor ≢ node) × (processor < 16)
     by true held e is rest = rest is
     by false true e is rest =
         let same : from ≡ processor = some-same is in
@@ -284,10 +284,10 @@ begins-net site = (
 
 -- the line that a node pulls is that of another processor
 pub pulled-other : (node : ℕ) (nodes : List Node) (processor : ℕ)
-    → option_and_then (line_pulled node) (slice_get nodes node) ≡ Some processor → (processor ≢ node) × (processor ≤ 15)
+    → option_and_then (line_pulled node) (slice_get nodes node) ≡ Some processor → (processor ≢ node) × (processor < 16)
 pulled-other node nodes processor is = by (slice_get nodes node) is
   where
     by : (one : Option Node) → option_and_then (line_pulled node) one ≡ Some processor
-        → (processor ≢ node) × (processor ≤ 15)
+        → (processor ≢ node) × (processor < 16)
     by None is = absurd cc
     by (Some knows) is = held-other node knows.watch 0 16 processor (omega arith) is

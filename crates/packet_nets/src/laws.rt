@@ -1,7 +1,8 @@
 //! What wires owe, change by change.
-ghost use Rattle.std.specs.Prelude.{◌≡◌, ◌≤◌, ℕ, ◌+◌, Bool, true, false, List, [], ◌++◌, replicate, slice_get};
+ghost use Rattle.std.specs.Prelude.{◌≡◌, ◌<◌, ℕ, ◌+◌, Bool, true, false, List, [], ◌++◌, replicate, slice_get};
 ghost use Rattle.std.specs.Prelude.{Some, slice_set};
 ghost use Rattle.gd_words.specs.Members.{IsAmong};
+ghost use Rattle.gd_words.specs.declared.limits.TheConstants.{MOST_PROCESSORS};
 ghost use Rattle.tal_tree.specs.declared.site.Site.{Site};
 ghost use Rattle.packet_words.specs.declared.packet.Packet.{Packet};
 ghost use Rattle.world_semantics.specs.World.{is_running};
@@ -38,7 +39,7 @@ pub fn ticks_owe_nothing_more()
     ensures declare { (site : Site) (stopped : List Bool) (reloads : List ℕ) (on : List Packet) (midst : Midst)
         (owed : List Parcel)
         (sent : List Parcel) (node processor : ℕ)
-        → is_running stopped node ≡ true → processor ≤ 15 → slice_get stopped processor ≡ Some true
+        → is_running stopped node ≡ true → processor < MOST_PROCESSORS → slice_get stopped processor ≡ Some true
         → Ties site stopped reloads on midst owed sent
         → Ties site stopped reloads on (declares site.processors node processor midst) owed sent }
 {}

@@ -1,5 +1,5 @@
 -- Every event does to the post what it makes of the state.
-use Rattle.std.proofs.Common.{◌≡◌, ◌≢◌, ◌≤◌, ℕ, Bool, true, false, if◌then◌else◌, ℤ, List, [], ◌∷◌, ◌++◌, Option, Some}
+use Rattle.std.proofs.Common.{◌≡◌, ◌≢◌, ◌<◌, ℕ, Bool, true, false, if◌then◌else◌, ℤ, List, [], ◌∷◌, ◌++◌, Option, Some}
 use Rattle.std.proofs.Common.{None, slice_get, inl, inr, refl, sym, ap, subst, ◌∙◌}
 use Rattle.gd_words.specs.Members.{IsAmong}
 use Rattle.gd_words.proofs.Among.{among-at, among-left, among-right}
@@ -432,7 +432,7 @@ module _ (events : List Event) (on : List Packet) (s : Underway) (owed sent : Li
 
     -- after the mark, the declarations are sent
     told-on : (processor : ℕ) (one : Underway) → one.site ≡ s.site → is_running one.world.stopped node ≡ true
-        → slice_get one.world.stopped processor ≡ Some true → processor ≤ 15
+        → slice_get one.world.stopped processor ≡ Some true → processor < 16
         → Ticks one → Ticks (declared node processor one)
     told-on processor one same alive gone few (now, ever, c) = (
       now,
@@ -449,7 +449,7 @@ module _ (events : List Event) (on : List Packet) (s : Underway) (owed sent : Li
 
     -- the node marks the processor in a world in which that has stopped
     held-on : (w : World) (processor : ℕ) → is_running w.stopped node ≡ true
-        → slice_get w.stopped processor ≡ Some true → processor ≤ 15
+        → slice_get w.stopped processor ≡ Some true → processor < 16
         → HoldsLetters w carried.parcels carried.posted owed sent
         → Ties s.site w.stopped w.reloads on (midst_after_tick s.site.processors node s.wires) carried.parcels
         carried.posted
@@ -494,7 +494,7 @@ module _ (events : List Event) (on : List Packet) (s : Underway) (owed sent : Li
     none-on : Ticks (record s { wires = midst_after_tick s.site.processors node s.wires })
     none-on = calm (Tick node) (midst_after_tick s.site.processors node s.wires) tick_ties (plays_tick runs no_mark)
 
-    line-on : (line : Option ℕ) → ((processor : ℕ) → line ≡ Some processor → (processor ≢ node) × (processor ≤ 15))
+    line-on : (line : Option ℕ) → ((processor : ℕ) → line ≡ Some processor → (processor ≢ node) × (processor < 16))
         → GoesOn (events ++ Tick node ∷ []) on s
         (pulls node (record s { wires = midst_after_tick s.site.processors node s.wires }) line)
     line-on None other = none-on
