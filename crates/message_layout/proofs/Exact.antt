@@ -4,7 +4,7 @@ use Rattle.std.proofs.Common.{Option, Some, None, refl, ap, subst}
 use Rattle.std.specs.Option.{option_map, option_and_then}
 use Rattle.change_layout.specs.tal_tree.specs.declared.site.Site.{Site}
 use Rattle.world_semantics.specs.process_semantics.specs.Words.{whole}
-use Rattle.world_semantics.specs.checkpoint_image.specs.Reading.{number_in, message_in}
+use Rattle.world_semantics.specs.checkpoint_image.specs.Reading.{message_in}
 use Rattle.world_semantics.specs.checkpoint_image.proofs.Messages.{read-exact}
 use Rattle.world_semantics.specs.Messages.{Asking, Replying, Checkpointing, Taking}
 use Rattle.change_layout.proofs.Messages as changes
@@ -12,7 +12,7 @@ use Rattle.change_layout.specs.Reading as changes_in
 use Rattle.message_layout.specs.Messages.{NodeMessage, Carrying, Changing, Reporting, Declaring, is_known}
 use Rattle.message_layout.specs.Layout.{words_of, Fits, IsWithin}
 use Rattle.message_layout.specs.Reading.{request_in, answer_in, taken_in, report_in, message_of_kind, node_message_in}
-use Rattle.message_layout.specs.Reading.{if_known, understood}
+use Rattle.message_layout.specs.Reading.{if_known, processor_in, understood}
 use Rattle.message_layout.proofs.Readers.{request-reads, answer-reads, taken-reads, report-reads, processor-reads}
 use Rattle.message_layout.proofs.Readers.{whole-exact}
 
@@ -55,7 +55,7 @@ of-kind (suc (suc (suc (suc (suc zero))))) words message is =
     (λ report found. let was = whole-exact report-reads words report found in
     (ap (λ (ws : List ℤ). pos 5 ∷ ws) was.0, was.1)) is
 of-kind (suc (suc (suc (suc (suc (suc zero)))))) words message is =
-    told (whole (number_in 15 words)) (λ processor. Declaring processor) (pos 6 ∷ words) message
+    told (whole (processor_in words)) (λ processor. Declaring processor) (pos 6 ∷ words) message
     (λ processor found. let was = whole-exact processor-reads words processor found in
     (ap (λ (ws : List ℤ). pos 6 ∷ ws) was.0, was.1)) is
 of-kind (suc (suc (suc (suc (suc (suc (suc zero))))))) words message is =

@@ -2,12 +2,12 @@
 use Rattle.std.proofs.Common.{◌≤◌, ◌<◌, ◌^◌, ◌≡◌, ℕ, ℤ, pos, List, [], ◌∷◌, ◌++◌, length, Some, None, refl, ap, sym}
 use Rattle.std.proofs.Common.{subst, ◌∙◌, append-nil, arith}
 use Rattle.world_semantics.specs.process_semantics.specs.Words.{Front, whole, words_in, long, with_count}
-use Rattle.world_semantics.specs.checkpoint_image.specs.Reading.{number_in, reply_in, longs_in}
+use Rattle.world_semantics.specs.checkpoint_image.specs.Reading.{reply_in, longs_in}
 use Rattle.world_semantics.specs.checkpoint_image.proofs.Readers.{WasWritten, IsReader, number-reads, words-reads}
 use Rattle.world_semantics.specs.checkpoint_image.proofs.Readers.{sized-reads, both-reads}
 use Rattle.world_semantics.specs.checkpoint_image.proofs.Patterns.{pair-reads}
 use Rattle.message_layout.specs.Layout.{request_words, reply_words, taken_words, report_words}
-use Rattle.message_layout.specs.Reading.{address_in, body_in, request_in, answer_in, taken_in, report_in}
+use Rattle.message_layout.specs.Reading.{address_in, body_in, request_in, answer_in, taken_in, processor_in, report_in}
 use Rattle.message_layout.proofs.Sets.{set-reads}
 
 abbrev IsShort : List ℤ → Type 0
@@ -68,10 +68,10 @@ processor-was words None was = was
 processor-was words (Some (n, left)) was = (was.0, omega (arith, was.1))
 
 -- the number of a processor
-pub processor-reads : IsReader (λ n. pos n ∷ []) (λ n. n < 16) (number_in 15)
+pub processor-reads : IsReader (λ n. pos n ∷ []) (λ n. n < 16) processor_in
 processor-reads = record {
   again = λ n left is. (number-reads 15).again n left (omega (arith, is));
-  exact = λ words. processor-was words (number_in 15 words) ((number-reads 15).exact words);
+  exact = λ words. processor-was words (processor_in words) ((number-reads 15).exact words);
 }
 
 pub report-reads : IsReader (λ (node, silent). report_words node silent)

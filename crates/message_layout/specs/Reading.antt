@@ -2,9 +2,10 @@
 -- something that the site hasn't.
 use Rattle.std.specs.Option.{option_map, option_and_then}
 use Rattle.std.specs.Int.{w16, cast_unsigned}
-use Rattle.std.specs.Prelude.{ℕ, zero, suc, ◌/◌, ◌%◌, ◌==◌, ℤ, pos, negsuc, Bool, if◌then◌else◌, List, [], ◌∷◌, Option}
-use Rattle.std.specs.Prelude.{Some, None}
+use Rattle.std.specs.Prelude.{ℕ, zero, suc, ◌-◌, ◌/◌, ◌%◌, ◌==◌, ℤ, pos, negsuc, Bool, if◌then◌else◌, List, [], ◌∷◌}
+use Rattle.std.specs.Prelude.{Option, Some, None}
 use Rattle.change_layout.specs.tal_tree.specs.declared.site.Site.{Site}
+use Rattle.change_layout.specs.gd_words.specs.declared.limits.TheConstants.{MOST_PROCESSORS}
 use Rattle.change_layout.specs.gd_words.specs.declared.message.Request.{Request}
 use Rattle.change_layout.specs.gd_words.specs.declared.message.Reply.{Reply}
 use Rattle.world_semantics.specs.process_semantics.specs.Words.{Front, whole}
@@ -51,8 +52,12 @@ abbrev pub set_in : List ℤ → Front ProcessorSet
 set_in [] = None
 set_in (word ∷ words) = if is_word word then Some (set_told word, words) else None
 
+-- the number of a processor
+abbrev pub processor_in : List ℤ → Front ℕ
+processor_in = number_in (MOST_PROCESSORS - 1)
+
 abbrev pub report_in : List ℤ → Front (ℕ × ProcessorSet)
-report_in = both_in (λ node silent. (node, silent)) (number_in 15) set_in
+report_in = both_in (λ node silent. (node, silent)) processor_in set_in
 
 -- the message of a kind in the words after the kind
 abbrev pub message_of_kind : ℕ → List ℤ → Option NodeMessage
@@ -65,7 +70,7 @@ message_of_kind (suc (suc (suc (suc zero)))) words =
 message_of_kind (suc (suc (suc (suc (suc zero))))) words =
     option_map (λ (node, silent). Reporting node silent) (whole (report_in words))
 message_of_kind (suc (suc (suc (suc (suc (suc zero)))))) words =
-    option_map (λ processor. Declaring processor) (whole (number_in 15 words))
+    option_map (λ processor. Declaring processor) (whole (processor_in words))
 message_of_kind (suc (suc (suc (suc (suc (suc (suc zero))))))) words =
     option_map (λ change. Changing change) (changes.message_in (pos 7 ∷ words))
 message_of_kind _ words = None

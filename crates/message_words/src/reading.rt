@@ -1,12 +1,12 @@
 ghost use Rattle.std.specs.Prelude.{◌≡◌, ◌∷◌, pos, IfOk};
 ghost use Rattle.std.specs.Option.{option_map};
 ghost use Rattle.message_layout.specs.process_semantics.specs.Words.{whole};
-ghost use Rattle.message_layout.specs.checkpoint_image.specs.Reading.{message_in, number_in};
+ghost use Rattle.message_layout.specs.checkpoint_image.specs.Reading.{message_in};
 ghost use Rattle.message_layout.specs.world_semantics.specs.Messages.{Asking, Checkpointing, Replying, Taking};
 ghost use Rattle.message_layout.specs.change_layout.specs.Reading as changes;
 ghost use Rattle.message_layout.specs.Messages.{Carrying, Changing, Declaring, Reporting};
 ghost use Rattle.message_layout.specs.Reading.{answer_in, message_of_kind, node_message_in, report_in, request_in};
-ghost use Rattle.message_layout.specs.Reading.{taken_in};
+ghost use Rattle.message_layout.specs.Reading.{processor_in, taken_in};
 ghost use Rattle.message_words.specs.Seen.{message_of};
 
 use crate::message::NodeMessage;
@@ -58,7 +58,7 @@ fn reporting_in(words: &[i16]) -> Option<NodeMessage>
 
 fn declaring_in(words: &[i16]) -> Option<NodeMessage>
     ensures { option_map message_of result ≡ option_map (λ processor. Declaring processor)
-        (whole (number_in 15 words.now)) }
+        (whole (processor_in words.now)) }
 {
     let mut unread = Unread::new(words);
     let processor = unread.processor()?;

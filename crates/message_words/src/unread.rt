@@ -2,11 +2,13 @@ ghost use Rattle.std.specs.Prelude.{◌≡◌, ◌≤◌, Some, length};
 ghost use Rattle.gd_words.specs.declared.limits.TheConstants.{MOST_MESSAGE_WORDS};
 ghost use Rattle.message_layout.specs.process_semantics.specs.Words.{words_in, whole};
 ghost use Rattle.message_layout.specs.checkpoint_image.specs.Reading.{Gives, longs_in, number_in, pair_in, reply_in};
-ghost use Rattle.message_layout.specs.Reading.{address_in, answer_in, body_in, report_in, request_in, set_in, taken_in};
+ghost use Rattle.message_layout.specs.Reading.{address_in, answer_in, body_in, processor_in, report_in, request_in};
+ghost use Rattle.message_layout.specs.Reading.{set_in, taken_in};
 
 use crate::masks::set_of;
 use alive_regroup::ProcessorSet;
 use checkpoint_image::TakenMessage;
+use gd_words::limits::{MOST_MESSAGE_WORDS, MOST_PROCESSORS};
 use gd_words::{Reply, Request, Words};
 use std::marker::Model;
 
@@ -66,9 +68,9 @@ impl<'a> Unread<'a> {
 
     /// The number of a processor.
     pub(crate) fn processor(&mut self) -> Option<u8>
-        ensures { Gives (λ number. (number, self.new)) result (number_in 15 self.old) }
+        ensures { Gives (λ number. (number, self.new)) result (processor_in self.old) }
     {
-        let number = self.number(15)?;
+        let number = self.number(MOST_PROCESSORS as u16 - 1)?;
         Some(number as u8)
     }
 
@@ -116,7 +118,7 @@ impl<'a> Unread<'a> {
     fn counted(&mut self) -> Option<Words>
         ensures { Gives (λ words. (words, self.new)) result (reply_in self.old) }
     {
-        let count = self.number(16)?;
+        let count = self.number(MOST_MESSAGE_WORDS as u16)?;
         let words = self.front(count)?;
         Some(words_of(words))
     }
